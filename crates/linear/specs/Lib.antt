@@ -1,0 +1,15 @@
+-- Vector spaces over any field.
+pub mod Space
+pub mod Span
+pub mod Basis
+pub mod Order
+pub mod Select
+pub mod Entry
+pub mod Rank
+pub mod Theorems
+pub mod Bit
+pub mod Word
+pub mod Planes
+pub mod Trit
+pub mod Examples
+pub mod laws

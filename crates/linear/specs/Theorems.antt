@@ -1,0 +1,125 @@
+-- The theorems, for any field and any width, to be read from top to bottom. The definitions are in Space, Span, Basis, Order, Entry and Rank; the proofs in laws/.
+--   membership, insertion-*, basis, one-basis, dimension     bases: reduction decides membership, insertion is right, a space has one reduced basis and one dimension
+--   rising-all, rising-in-order, rising-number               rising lists of numbers: all of them, in dictionary order, not too many
+--   entry-solves, solution-listed, spaces-once, entries-in-order, extension-first, extension-greedy, entries-few   the catalogue: none missing, none twice
+--   no-fewer, computed-exactly, least-is-rank                what the catalogue says of the fewest products
+-- Assumes nothing.
+use mathlib.Core.Path.{_≡_}
+use mathlib.Core.Logic.{_⊎_, _↔_}
+use mathlib.Core.List.{List, [], _∷_, List·Memᴰ}
+use Prim.Native.Nat.{ℕ, suc, _+_, _-_, _*_, _^_, _<_, _≤_}
+use native.Mathlib.Omega.{arith}
+use lib.ListN.{length}
+use Rattle.linear.specs.Space.{Space}
+use Rattle.linear.specs.Span.{Span, SameSpan, Independent}
+use Rattle.linear.specs.Basis.{reduce, insert, basisOf, Reduced, dim}
+use Rattle.linear.specs.Order.{Before, Rising, risingLists, Ordered, factorial}
+use Rattle.linear.specs.Select.{Once}
+use Rattle.linear.specs.Entry.{Solution, space, entries}
+use Rattle.linear.specs.Rank.{Chosen, Computes, Rank}
+use Rattle.linear.specs.laws.Reduce.{member}
+use Rattle.linear.specs.laws.Insert.{insert-old, insert-reduced, insert-span, insert-length-new, basisOf-reduced, basisOf-span}
+use Rattle.linear.specs.laws.Dimension as dimensions
+use Rattle.linear.specs.laws.Independent as independence
+use Rattle.linear.specs.laws.Order.{rising-sound, rising-complete, rising-ordered}
+use Rattle.linear.specs.laws.Count.{rising-count, entries-count}
+use Rattle.linear.specs.laws.Entry.{entries-sound, entries-once, entries-ordered}
+use Rattle.linear.specs.laws.Extension.{extension, entries-complete, entries-first, entries-greedy}
+use Rattle.linear.specs.laws.Rank.{solution-from, chosen-from, no-entry, rank-is}
+
+-- ---- bases
+module _ (S : Space) where
+  open Space S using (Vec, nul)
+
+  -- A vector is in the span of a reduced basis exactly if reduction leaves nothing of it.
+  pub membership : (B : List Vec) → Reduced S B → (v : Vec) → Span S B v ↔ (reduce S B v ≡ nul)
+  membership = member S
+
+  -- Insertion keeps a basis reduced, and spans exactly what the rows and the vector span:
+  pub insertion-reduced : (B : List Vec) (v : Vec) → Reduced S B → Reduced S (insert S B v)
+  insertion-reduced = insert-reduced S
+
+  pub insertion-span : (B : List Vec) (v : Vec) → SameSpan S (insert S B v) (v ∷ B)
+  insertion-span B v = (λ u s. insert-span S B v u .0 s, λ u s. insert-span S B v u .1 s)
+
+  -- one dimension more where the vector is new, and else the basis stays as it is.
+  pub insertion-new : (B : List Vec) (v : Vec) → Reduced S B → ¬ Span S B v → length (insert S B v) ≡ suc (length B)
+  insertion-new B v ρ n = insert-length-new S B v (λ e. n (member S B ρ v .1 e))
+
+  pub insertion-old : (B : List Vec) (v : Vec) → Reduced S B → Span S B v → insert S B v ≡ B
+  insertion-old B v ρ s = insert-old S B v (member S B ρ v .0 s)
+
+  -- The basis of a list is reduced and spans what the list spans;
+  pub basis : (xs : List Vec) → Reduced S (basisOf S xs) × SameSpan S (basisOf S xs) xs
+  basis xs = (basisOf-reduced S xs, (λ u s. basisOf-span S xs u .0 s, λ u s. basisOf-span S xs u .1 s))
+
+  -- and a space has one reduced basis.
+  pub one-basis : (B C : List Vec) → Reduced S B → Reduced S C → SameSpan S B C → B ≡ C
+  one-basis B C ρ σ e = dimensions.unique S B C ρ σ (e .0) (e .1)
+
+  -- Dimension is well defined: independent vectors with the same span as ys number dim ys; the rows of a reduced basis are such.
+  pub dimension : (xs ys : List Vec) → Independent S xs → SameSpan S xs ys → length xs ≡ dim S ys
+  dimension = independence.dimension S
+
+  pub rows-independent : (B : List Vec) → Reduced S B → Independent S B
+  rows-independent = independence.reduced-independent S
+
+-- ---- rising lists
+-- `risingLists n 0 m` has exactly the rising lists of m numbers below n, in dictionary order, and m! times their number is at most n ^ m.
+pub rising-all : (n m : ℕ) (es : List ℕ) → List·Memᴰ es (risingLists n 0 m) ↔ ((length es ≡ m) × Rising 0 n es)
+rising-all n m es = (rising-sound n 0 m n (omega arith) es, λ r. rising-complete n 0 m n (omega arith) es (r .0) (r .1))
+
+pub rising-in-order : (n m : ℕ) → Ordered Before (risingLists n 0 m)
+rising-in-order n m = rising-ordered n 0 m
+
+pub rising-number : (n m : ℕ) → factorial m * length (risingLists n 0 m) ≤ n ^ m
+rising-number n m = rising-count n 0 m
+
+module _ (S : Space) (gens targets : List (S .Vec)) where
+  open Space S using (Vec)
+
+  -- ---- the catalogue
+  -- The space of an entry is a solution space;
+  pub entry-solves : (k : ℕ) (es : List ℕ) → List·Memᴰ es (entries S gens targets k) → Solution S gens targets k (space S gens targets es)
+  entry-solves = entries-sound S gens targets
+
+  -- each solution space is that of an entry: none is missing;
+  pub solution-listed : (k : ℕ) (W : List Vec) → Solution S gens targets k W → (es : List ℕ) × List·Memᴰ es (entries S gens targets k) × (space S gens targets es ≡ W)
+  solution-listed = entries-complete S gens targets
+
+  -- and of one only: none comes twice.
+  pub spaces-once : (k : ℕ) → Once (space S gens targets) (entries S gens targets k)
+  spaces-once = entries-once S gens targets
+
+  -- Entries stand in dictionary order of their extensions,
+  pub entries-in-order : (k : ℕ) → Ordered Before (entries S gens targets k)
+  entries-in-order = entries-ordered S gens targets
+
+  -- and an extension is the first of all sets of k − ℓ generator numbers that with the targets span its space: it is the greedy one.
+  pub extension-first : (k : ℕ) (es fs : List ℕ) → List·Memᴰ es (entries S gens targets k) → length fs ≡ k - dim S targets → Rising 0 (length gens) fs
+      → space S gens targets fs ≡ space S gens targets es → (es ≡ fs) ⊎ Before es fs
+  extension-first = entries-first S gens targets
+
+  pub extension-greedy : (k : ℕ) (es : List ℕ) → List·Memᴰ es (entries S gens targets k) → extension S gens targets (space S gens targets es) ≡ es
+  extension-greedy = entries-greedy S gens targets
+
+  -- With at most 4,095 generators and k at most ℓ + 6 the number of entries fits 64 bits.
+  pub entries-few : (k : ℕ) → length gens ≤ 4095 → k ≤ dim S targets + 6 → length (entries S gens targets k) < 2 ^ 64
+  entries-few = entries-count S gens targets
+
+  -- ---- the fewest products
+  -- Where the generators span at least k dimensions and there is no entry for k, no k or fewer generators compute the targets.
+  pub no-fewer : (k : ℕ) → k ≤ dim S gens → entries S gens targets k ≡ [] → (xs : List Vec) → Chosen S gens xs → length xs ≤ k → Computes S targets xs → ⊥
+  no-fewer = no-entry S gens targets
+
+  -- So there is an entry for k exactly if some k or fewer generators compute the targets.
+  pub computed-exactly : (k : ℕ) → k ≤ dim S gens
+      → ((xs : List Vec) × Chosen S gens xs × (length xs ≤ k) × Computes S targets xs) ↔ ((es : List ℕ) × List·Memᴰ es (entries S gens targets k))
+  computed-exactly k a = (
+    λ (xs, h, l, t). let E = solution-from S gens targets k a xs h l t in let r = entries-complete S gens targets k (E .0) (E .1) in (r .0, r .1),
+    λ (es, m). let r = chosen-from S gens targets k (space S gens targets es) (entries-sound S gens targets k es m) in (r .0, r .2, (let e = r .1 in omega arith), r .3),
+  )
+
+  -- The least k, from ℓ on, that has an entry is the rank: that many generators compute the targets, and no choice of fewer does.
+  pub least-is-rank : (r : ℕ) (es : List ℕ) → List·Memᴰ es (entries S gens targets r) → ((k : ℕ) → dim S targets ≤ k → k < r → entries S gens targets k ≡ []) → Rank S gens targets r
+  least-is-rank = rank-is S gens targets
