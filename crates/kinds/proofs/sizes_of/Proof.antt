@@ -1,0 +1,75 @@
+-- `kinds::sizes_of` meets its contract. Assumes nothing.
+use borrow.Author.Needs.{needs}
+use Rattle.kinds.proofs.sizes_of.Statement.{statement}
+use Rattle.kinds.proofs.sizes_of.Tie as tie
+use Rattle.kinds.proofs.sizes_of.Reads as reads
+use Rattle.kinds.proofs.sizes_of.Lts as lts
+use Rattle.kinds.proofs.list_sizes.Reads as list-sizes-reads
+use Rattle.kinds.proofs.mat_sizes.Reads as mat-sizes-reads
+use Rattle.kinds.proofs.poly_sizes.Reads as poly-sizes-reads
+use Rattle.kinds.proofs.square_sizes.Reads as square-sizes-reads
+
+enum-told : tie.Need-enum-told
+enum-told c = search needs
+
+poly-sizes-requires : tie.Need-poly-sizes-requires
+poly-sizes-requires c κs = search needs
+
+enum-told-2 : tie.Need-enum-told-2
+enum-told-2 c = search needs
+
+square-sizes-requires : tie.Need-square-sizes-requires
+square-sizes-requires c κs = search needs
+
+enum-told-3 : tie.Need-enum-told-3
+enum-told-3 c = search needs
+
+square-sizes-requires-2 : tie.Need-square-sizes-requires-2
+square-sizes-requires-2 c κs = search needs
+
+enum-told-4 : tie.Need-enum-told-4
+enum-told-4 c = search needs
+
+mat-sizes-requires : tie.Need-mat-sizes-requires
+mat-sizes-requires c κs = search needs
+
+enum-told-5 : tie.Need-enum-told-5
+enum-told-5 c = search needs
+
+list-sizes-requires : tie.Need-list-sizes-requires
+list-sizes-requires c κs = search needs
+
+returns : tie.Need-returns
+returns c = rw (c .before .enum-told .given .1) (c .poly-sizes .ensures)
+
+returns-2 : tie.Need-returns-2
+returns-2 c = rw (c .before .enum-told2 .given .1) (c .square-sizes .ensures)
+
+returns-3 : tie.Need-returns-3
+returns-3 c = rw (c .before .enum-told3 .given .1) (c .square-sizes2 .ensures)
+
+returns-4 : tie.Need-returns-4
+returns-4 c = rw (c .before .enum-told4 .given .1) (c .mat-sizes .ensures)
+
+returns-5 : tie.Need-returns-5
+returns-5 c = rw (c .before .enum-told5 .given .1) (c .list-sizes .ensures)
+
+pub sizes-of-spec : {M : Type 1} → statement M
+sizes-of-spec =
+    tie.close
+    (tie.spec
+    enum-told
+    poly-sizes-requires
+    enum-told-2
+    square-sizes-requires
+    enum-told-3
+    square-sizes-requires-2
+    enum-told-4
+    mat-sizes-requires
+    enum-told-5
+    list-sizes-requires
+    returns
+    returns-2
+    returns-3
+    returns-4
+    returns-5)

@@ -1,0 +1,29 @@
+-- `kinds::square_sizes` meets its contract. Assumes nothing.
+use mathlib.Core.Path.{_≡_, sym, _∙_}
+use mathlib.Core.Bool.{true, false, true≢false, false≢true}
+use native.Mathlib.Omega.{arith}
+use borrow.Author.Needs.{needs}
+use Rattle.kinds.specs.SizeLaws.{square-is, square-not}
+use Rattle.kinds.proofs.square_sizes.Statement.{statement}
+use Rattle.kinds.proofs.square_sizes.Tie as tie
+use Rattle.kinds.proofs.square_sizes.Reads as reads
+use Rattle.kinds.proofs.square_sizes.Lts as lts
+use Rattle.kinds.proofs.fits.Reads as fits-reads
+
+returns : tie.Need-returns
+returns c = square-not (c .before .args .p) (c .before .args .q) (c .before .args .r) (λ a b d. c .if1 .taken a)
+
+returns-2 : tie.Need-returns-2
+returns-2 c = square-not (c .before .before .args .p) (c .before .before .args .q) (c .before .before .args .r) (λ a b d. c .if2 .taken b)
+
+fits-requires : tie.Need-fits-requires
+fits-requires c κs = search needs
+
+returns-3 : tie.Need-returns-3
+returns-3 c = square-is (c .before .before .before .before .args .p) (c .before .before .before .before .args .q) (c .before .before .before .before .args .r) (omega arith) (omega arith) (sym (c .before .fits2 .ensures) ∙ c .if3 .taken)
+
+returns-4 : tie.Need-returns-4
+returns-4 c = square-not (c .before .before .before .before .args .p) (c .before .before .before .before .args .q) (c .before .before .before .before .args .r) (λ a b d. true≢false (sym d ∙ sym (c .before .fits2 .ensures) ∙ c .if3 .left))
+
+pub square-sizes-spec : {M : Type 1} → statement M
+square-sizes-spec = tie.close (tie.spec returns returns-2 fits-requires returns-3 returns-4)

@@ -1,0 +1,60 @@
+-- The kinds of bilinear map, each with its number and its name.
+--   known           == the one table: kind, number, name
+--   numberOf k      == the number by which a caller names the kind
+--   nameOf k        == the bytes that name it in a file
+--   kindNumbered x  == the kind with the number x
+--   kindNamed s     == the kind that the bytes s name
+-- Document 01: poly, short, circ, mat, list. Assumes nothing.
+use mathlib.Core.Bool.{Bool, true, false, _&&_, cond}
+use mathlib.Core.List.{List, [], _∷_}
+use mathlib.Core.Option.{Option, none, some}
+use Prim.Native.Nat.{ℕ}
+use lib.Dec.{eqb}
+use Rattle.kinds.specs.declared.Kind.{Kind}
+use Rattle.kinds.specs.declared.Kind.the-variants as kind
+use Rattle.kinds.specs.declared.Known.{Known}
+use Rattle.kinds.specs.declared.Known.the-variants as found
+
+pub record Entry : Type 0 where
+  pub number : ℕ
+  pub name : List ℕ
+
+-- a byte string is a list of numbers below 256: `p` is 112, and so on
+abbrev pub known : Kind → Entry
+known kind.Poly = record { number = 0; name = 112 ∷ 111 ∷ 108 ∷ 121 ∷ [] }
+known kind.Short = record { number = 1; name = 115 ∷ 104 ∷ 111 ∷ 114 ∷ 116 ∷ [] }
+known kind.Circ = record { number = 2; name = 99 ∷ 105 ∷ 114 ∷ 99 ∷ [] }
+known kind.Mat = record { number = 3; name = 109 ∷ 97 ∷ 116 ∷ [] }
+known kind.List = record { number = 4; name = 108 ∷ 105 ∷ 115 ∷ 116 ∷ [] }
+
+abbrev pub numberOf : Kind → ℕ
+numberOf k = known k .number
+
+abbrev pub nameOf : Kind → List ℕ
+nameOf k = known k .name
+
+abbrev pub kinds : List Kind
+kinds = kind.Poly ∷ kind.Short ∷ kind.Circ ∷ kind.Mat ∷ kind.List ∷ []
+
+-- the first of some kinds that passes a test
+abbrev pub firstKind : (Kind → Bool) → List Kind → Option Kind
+firstKind p [] = none
+firstKind p (k ∷ l) = cond (p k) (some k) (firstKind p l)
+
+abbrev pub kindNumbered : ℕ → Option Kind
+kindNumbered x = firstKind (λ k. eqb (numberOf k) x) kinds
+
+-- two byte strings are the same
+abbrev pub same : List ℕ → List ℕ → Bool
+same [] [] = true
+same [] (y ∷ t) = false
+same (x ∷ s) [] = false
+same (x ∷ s) (y ∷ t) = eqb x y && same s t
+
+abbrev pub kindNamed : List ℕ → Option Kind
+kindNamed s = firstKind (λ k. same (nameOf k) s) kinds
+
+-- the answer of the code
+abbrev pub seenKind : Known → Option Kind
+seenKind (found.Is k) = some k
+seenKind found.No = none

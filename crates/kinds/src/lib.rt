@@ -1,0 +1,141 @@
+// The kinds of bilinear map, and their sizes: refusals 2 and 3.
+ghost use mathlib.Core.Path.{_≡_};
+ghost use Rattle.kinds.specs.Kinds.{numberOf, kindNumbered, seenKind};
+ghost use Rattle.kinds.specs.Sizes.{within, polySizes, squareSizes, matSizes, listSizes, sizes, seenSizes};
+
+// Document 01's kinds.
+pub enum Kind {
+    Poly,
+    Short,
+    Circ,
+    Mat,
+    List,
+}
+
+pub enum Known {
+    Is(Kind),
+    No,
+}
+
+// The number by which a caller names the kind.
+pub fn number_of(kind: Kind) -> u64
+    ensures { λ r. ⌜ r ≡ numberOf kind ⌝ }
+{
+    match kind {
+        Kind::Poly => 0,
+        Kind::Short => 1,
+        Kind::Circ => 2,
+        Kind::Mat => 3,
+        Kind::List => 4,
+    }
+}
+
+// The kind with that number; `No` is refusal 2.
+pub fn kind_numbered(number: u64) -> Known
+    ensures { λ r. ⌜ kindNumbered number ≡ seenKind r ⌝ }
+{
+    match number {
+        0 => Known::Is(Kind::Poly),
+        1 => Known::Is(Kind::Short),
+        2 => Known::Is(Kind::Circ),
+        3 => Known::Is(Kind::Mat),
+        4 => Known::Is(Kind::List),
+        _ => Known::No,
+    }
+}
+
+// n, m and the number of outputs; `No` is refusal 3.
+pub enum Sized {
+    Are(u64, u64, u64),
+    No,
+}
+
+// Whether x and y are at least 1 and their product is at most 64.
+fn fits(x: u64, y: u64) -> bool
+    ensures { λ z. ⌜ z ≡ within x y ⌝ }
+{
+    if x == 0 {
+        return false;
+    }
+    if y == 0 {
+        return false;
+    }
+    y <= 64 / x
+}
+
+fn poly_sizes(p: u64, q: u64, r: u64) -> Sized
+    ensures { λ x. ⌜ polySizes p q r ≡ seenSizes x ⌝ }
+{
+    if r != 0 {
+        return Sized::No;
+    }
+    if fits(p, q) {
+        Sized::Are(p, q, p + q - 1)
+    } else {
+        Sized::No
+    }
+}
+
+fn square_sizes(p: u64, q: u64, r: u64) -> Sized
+    ensures { λ x. ⌜ squareSizes p q r ≡ seenSizes x ⌝ }
+{
+    if r != 0 {
+        return Sized::No;
+    }
+    if p != q {
+        return Sized::No;
+    }
+    if fits(p, q) {
+        Sized::Are(p, q, p)
+    } else {
+        Sized::No
+    }
+}
+
+// The two products are looked at before they are multiplied, so that nothing overflows.
+fn mat_sizes(p: u64, q: u64, r: u64) -> Sized
+    ensures { λ x. ⌜ matSizes p q r ≡ seenSizes x ⌝ }
+{
+    if !fits(p, q) {
+        return Sized::No;
+    }
+    if !fits(q, r) {
+        return Sized::No;
+    }
+    let n = p * q;
+    let m = q * r;
+    if fits(n, m) {
+        Sized::Are(n, m, p * r)
+    } else {
+        Sized::No
+    }
+}
+
+fn list_sizes(p: u64, q: u64, r: u64) -> Sized
+    ensures { λ x. ⌜ listSizes p q r ≡ seenSizes x ⌝ }
+{
+    if q == 0 {
+        return Sized::No;
+    }
+    if !fits(p, 1) {
+        return Sized::No;
+    }
+    if fits(r, 1) {
+        Sized::Are(p, 1, r)
+    } else {
+        Sized::No
+    }
+}
+
+// The sizes of a map of the kind.
+pub fn sizes_of(kind: Kind, p: u64, q: u64, r: u64) -> Sized
+    ensures { λ x. ⌜ sizes kind p q r ≡ seenSizes x ⌝ }
+{
+    match kind {
+        Kind::Poly => poly_sizes(p, q, r),
+        Kind::Short => square_sizes(p, q, r),
+        Kind::Circ => square_sizes(p, q, r),
+        Kind::Mat => mat_sizes(p, q, r),
+        Kind::List => list_sizes(p, q, r),
+    }
+}
