@@ -41,7 +41,7 @@ abbrev pub firstKind : (Kind → Bool) → List Kind → Option Kind
 firstKind p [] = none
 firstKind p (k ∷ l) = cond (p k) (some k) (firstKind p l)
 
-abbrev pub kindNumbered : ℕ → Option Kind
+unfoldable pub kindNumbered : ℕ → Option Kind
 kindNumbered x = firstKind (λ k. eqb (numberOf k) x) kinds
 
 -- two byte strings are the same

@@ -173,6 +173,9 @@ top-is b j l h = go (decLt (top b) j) (decLt j (top b))
     go (no p) (no q) = omega arith
 
 -- a number below 2 ^ w has no digit from w on
-pub bit-beyond : (w v i : ℕ) → v < 2 ^ w → w ≤ i → bit v i ≡ false
+pub bit-below : (v w t : ℕ) → v < 2 ^ w → w ≤ t → bit v t ≡ false
 unfolding bit
-bit-beyond w v i h l = let p : 2 ^ w ≤ 2 ^ i = pow-mono l in let q : v < 2 ^ i = omega arith in ap (λ (x : ℕ). bitOf (x % 2)) (div-eq-of-lt q)
+bit-below v w t h l =
+    let p : 2 ^ w ≤ 2 ^ t = pow-mono l in
+    let q : v < 2 ^ t = omega arith in
+    ap (λ (x : ℕ). bitOf (x % 2)) (div-eq-of-lt q)

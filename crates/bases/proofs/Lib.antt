@@ -1,0 +1,3 @@
+-- What the proofs on bases share.
+mod Sifting
+mod Growing

@@ -1,0 +1,2 @@
+-- Reduced bases in an array.
+pub mod Basis

@@ -1,0 +1,2 @@
+-- What the proof of `product` uses.
+mod Making

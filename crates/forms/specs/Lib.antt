@@ -1,0 +1,5 @@
+-- Forms as words: their coordinates, weight and products.
+pub mod Bits
+pub mod Weight
+pub mod Product
+pub mod Clear

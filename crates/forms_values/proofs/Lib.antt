@@ -1,0 +1,2 @@
+-- The values of the definitions.
+mod Values
