@@ -3,4 +3,5 @@ pub mod Kinds
 pub mod Sizes
 pub mod SizeLaws
 pub mod Refusal
+pub mod RefusalLaws
 pub mod Masks

@@ -1,0 +1,56 @@
+-- `formula::any_zero` meets its contract. Assumes nothing.
+use mathlib.Core.Path.{_≡_, refl}
+use Prim.Native.Nat.{_-_, _≤_}
+use lib.ListN.{length, drop}
+use Rattle.kinds.specs.Masks.{zeroIn}
+use Rattle.formula.specs.laws.Loops.{zero-here, zero-later, zero-end}
+use native.Mathlib.Omega.{arith}
+use Rattle.formula.proofs.any_zero.Statement.{statement}
+use Rattle.formula.proofs.any_zero.Tie as tie
+use Rattle.formula.proofs.any_zero.Reads as reads
+use Rattle.formula.proofs.any_zero.Lts as lts
+
+abbrev Inv-loop : tie.InvT-loop
+Inv-loop masks i₀ i = (i ≤ length masks) × (zeroIn (drop i masks) ≡ zeroIn masks)
+
+abbrev μ-loop : tie.MeasureT-loop
+μ-loop masks i₀ i = length masks - i
+
+loop-holds : tie.Need-loop-holds Inv-loop μ-loop
+loop-holds c = (omega arith, refl)
+
+mul-if1 : tie.Need-mul-if1 Inv-loop μ-loop
+mul-if1 c = omega arith
+
+shared-slice-read-if1 : tie.Need-shared-slice-read-if1 Inv-loop μ-loop
+shared-slice-read-if1 c = omega arith
+
+returns : tie.Need-returns Inv-loop μ-loop
+returns c = zero-here (c .before .before .before .before .args .masks .now) (c .before .before .before .loop .i) (zeroIn (c .before .before .before .before .args .masks .now)) (omega arith) (c .before .before .before .loop .inv .1) (c .if1 .taken)
+
+add-i : tie.Need-add-i Inv-loop μ-loop
+add-i c = omega arith
+
+loop-less : tie.Need-loop-less Inv-loop μ-loop
+loop-less c = omega arith
+
+loop-again : tie.Need-loop-again Inv-loop μ-loop
+loop-again c = (omega arith, zero-later (c .before .before .before .before .args .masks .now) (c .before .before .before .loop .i) (zeroIn (c .before .before .before .before .args .masks .now)) (omega arith) (c .before .before .before .loop .inv .1) (c .if1 .left))
+
+returns-2 : tie.Need-returns-2 Inv-loop μ-loop
+returns-2 c = zero-end (c .before .before .args .masks .now) (c .before .loop .i) (zeroIn (c .before .before .args .masks .now)) (omega arith) (c .before .loop .inv .1)
+
+pub any-zero-spec : {M : Type 1} → statement M
+any-zero-spec =
+    tie.close
+    (tie.spec
+    Inv-loop
+    μ-loop
+    loop-holds
+    mul-if1
+    shared-slice-read-if1
+    returns
+    add-i
+    loop-less
+    loop-again
+    returns-2)

@@ -1,0 +1,4 @@
+-- The laws behind Check.
+pub mod Loops
+pub mod Meaning
+pub mod Judging

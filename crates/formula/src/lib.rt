@@ -1,0 +1,236 @@
+// Check: is a formula right for every input, and how many adders does it need?
+ghost use mathlib.Core.Path.{_≡_};
+ghost use Prim.Native.Nat.{_^_, _≤_};
+ghost use mathlib.Core.Bool.{not};
+ghost use lib.Dec.{ltb};
+ghost use lib.ListN.{length, take};
+ghost use Rattle.kinds.specs.Kinds.{kindNumbered, seenKind};
+ghost use Rattle.kinds.specs.Masks.{wide, zeroIn};
+ghost use Rattle.formula.specs.Formula.{known, productForms, rowForm, firstWrong, addersOf, judged, check};
+ghost use Rattle.formula.specs.Replies.{seenVerdict, seenReply, Judging, Fitting, Matching};
+ghost use Rattle.formula.specs.laws.Loops.{Filled};
+use kinds::Kind;
+use kinds::Known;
+use kinds::Sized;
+
+// The kind with that number, if it has formulae: list has none.
+fn map_kind(number: u64) -> Known
+    ensures { λ r. ⌜ known (kindNumbered number) ≡ seenKind r ⌝ }
+{
+    let Known::Is(kind) = kinds::kind_numbered(number) else {
+        return Known::No;
+    };
+    match kind {
+        Kind::List => Known::No,
+        Kind::Poly => Known::Is(Kind::Poly),
+        Kind::Short => Known::Is(Kind::Short),
+        Kind::Circ => Known::Is(Kind::Circ),
+        Kind::Mat => Known::Is(Kind::Mat),
+    }
+}
+
+// Whether a mask has a bit outside its n bits.
+fn outside(mask: u64, n: u64) -> bool
+    ensures { λ r. ⌜ r ≡ not (ltb mask (2 ^ n)) ⌝ }
+{
+    if n < 64 { (mask >> n) != 0 } else { false }
+}
+
+// Whether some mask has a bit outside its n bits.
+fn any_wide(masks: &[u64], n: u64) -> bool
+    ensures { λ r. ⌜ r ≡ wide n (now (masks .entry)) ⌝ }
+{
+    let mut i = 0;
+    while i < masks.len() {
+        if outside(masks[i], n) {
+            return true;
+        }
+        i += 1;
+    }
+    false
+}
+
+// Whether some mask is zero.
+fn any_zero(masks: &[u64]) -> bool
+    ensures { λ r. ⌜ r ≡ zeroIn (now (masks .entry)) ⌝ }
+{
+    let mut i = 0;
+    while i < masks.len() {
+        if masks[i] == 0 {
+            return true;
+        }
+        i += 1;
+    }
+    false
+}
+
+// The adders of some masks: of w ones w - 1, of none 0.
+fn adders_of(masks: &[u64]) -> u64
+    requires { ⌜ length (now masks) ≤ 64 ⌝ }
+    ensures { λ r. ⌜ (r ≡ addersOf (now (masks .entry))) × (r ≤ 4096) ⌝ }
+{
+    let mut sum: u64 = 0;
+    let mut i = 0;
+    while i < masks.len() {
+        let w = forms::ones(masks[i]) as u64;
+        if w != 0 {
+            sum += w - 1;
+        }
+        i += 1;
+    }
+    sum
+}
+
+// The forms of the products, from the buffer's start.
+fn product_forms(n: usize, m: usize, a: &[u64], b: &[u64], out: &mut [u64; 64])
+    requires { ⌜ (length (now a) ≡ length (now b)) × (length (now a) ≤ 64) × (length (now out) ≡ 64) ⌝ }
+    ensures { λ _. ⌜ Filled (productForms n m (now (a .entry)) (now (b .entry))) (length (now (a .entry))) (now (out .exit)) ⌝ }
+{
+    let mut i = 0;
+    while i < a.len() {
+        out[i] = forms::product(n, m, a[i], b[i]);
+        i += 1;
+    }
+}
+
+// The sum of the forms that the row names.
+fn row_form(forms: &[u64], row: u64) -> u64
+    requires { ⌜ length (now forms) ≤ 64 ⌝ }
+    ensures { λ r. ⌜ r ≡ rowForm (now (forms .entry)) row 0 ⌝ }
+{
+    let mut sum: u64 = 0;
+    let mut i = 0;
+    while i < forms.len() {
+        if (row >> i) & 1 == 1 {
+            sum = sum ^ forms[i];
+        }
+        i += 1;
+    }
+    sum
+}
+
+// The first output whose row does not give the target.
+pub enum Verdict {
+    Right,
+    Wrong(u64),
+}
+
+// Looks at each row of a map with n and m variables, whose products have the forms handed in.
+fn first_wrong(
+    kind: Kind,
+    p: u64,
+    q: u64,
+    r: u64,
+    n: u64,
+    m: u64,
+    forms: &[u64],
+    rows: &[u64],
+) -> Verdict
+    requires { ⌜ Judging kind p q r n m (now forms) (now rows) ⌝ }
+    ensures { λ x. ⌜ firstWrong kind p q r n m (now (forms .entry)) (now (rows .entry)) 0 ≡ seenVerdict x ⌝ }
+{
+    let mut t = 0;
+    while t < rows.len() {
+        if row_form(forms, rows[t]) != maps::target(kind, p, q, r, n, m, t as u64) {
+            return Verdict::Wrong(t as u64);
+        }
+        t += 1;
+    }
+    Verdict::Right
+}
+
+// The verdict on a formula whose masks and rows fit.
+fn verdict_on(
+    kind: Kind,
+    p: u64,
+    q: u64,
+    r: u64,
+    n: u64,
+    m: u64,
+    a: &[u64],
+    b: &[u64],
+    rows: &[u64],
+) -> Verdict
+    requires { ⌜ Fitting kind p q r n m (now a) (now b) (now rows) ⌝ }
+    ensures { λ x. ⌜ firstWrong kind p q r n m (productForms n m (now (a .entry)) (now (b .entry))) (now (rows .entry)) 0 ≡ seenVerdict x ⌝ }
+{
+    let mut products = [0u64; 64];
+    product_forms(n as usize, m as usize, a, b, &mut products);
+    let k = a.len();
+    first_wrong(kind, p, q, r, n, m, &products[..k], rows)
+}
+
+// What Check replies: a refusal's number, or the verdict and the adders.
+pub enum Reply {
+    Refused(u64),
+    Judged(Verdict, u64),
+}
+
+// Refusals 6 to 8, then the verdict, of a formula with k products whose lists have the right lengths.
+fn judge(
+    kind: Kind,
+    p: u64,
+    q: u64,
+    r: u64,
+    n: u64,
+    m: u64,
+    a: &[u64],
+    b: &[u64],
+    rows: &[u64],
+) -> Reply
+    requires { ⌜ Matching kind p q r n m (now a) (now b) (now rows) ⌝ }
+    ensures { λ x. ⌜ judged kind p q r n m (length (now (rows .entry))) (length (now (a .entry))) (now (a .entry)) (now (b .entry)) (now (rows .entry)) ≡ seenReply x ⌝ }
+{
+    let k = a.len();
+    if any_wide(a, n) {
+        return Reply::Refused(6);
+    }
+    if any_wide(b, m) {
+        return Reply::Refused(6);
+    }
+    if any_wide(rows, k as u64) {
+        return Reply::Refused(6);
+    }
+    if any_zero(a) {
+        return Reply::Refused(7);
+    }
+    if any_zero(b) {
+        return Reply::Refused(7);
+    }
+    if 64 < k {
+        return Reply::Refused(8);
+    }
+    let adders = adders_of(a) + adders_of(b) + adders_of(rows);
+    Reply::Judged(verdict_on(kind, p, q, r, n, m, a, b, rows), adders)
+}
+
+// Check of a formula on numbers and slices: the kind by its number, its sizes, k products by their masks, and a row for each output.
+pub fn check(
+    number: u64,
+    p: u64,
+    q: u64,
+    r: u64,
+    k: u64,
+    a: &[u64],
+    b: &[u64],
+    rows: &[u64],
+) -> Reply
+    ensures { λ x. ⌜ check number p q r k (now (a .entry)) (now (b .entry)) (now (rows .entry)) ≡ seenReply x ⌝ }
+{
+    let Known::Is(kind) = map_kind(number) else {
+        return Reply::Refused(2);
+    };
+    let Sized::Are(n, m, u) = kinds::sizes_of(kind, p, q, r) else {
+        return Reply::Refused(3);
+    };
+    if a.len() as u64 != k {
+        return Reply::Refused(5);
+    }
+    if b.len() as u64 != k {
+        return Reply::Refused(5);
+    }
+    if rows.len() as u64 != u {
+        return Reply::Refused(5);
+    }
+    judge(kind, p, q, r, n, m, a, b, rows)
+}

@@ -1,0 +1,117 @@
+-- `maps::is_pair` meets its contract, kind by kind. Assumes nothing.
+use mathlib.Core.Path.{sym, ap, _∙_}
+use borrow.Author.Needs.{needs}
+use Rattle.kinds.specs.declared.Kind.{Kind}
+use Rattle.maps.specs.Target.{pair}
+use Rattle.maps.proofs.Pairing.{row-off, inner-off, rest-left}
+use Rattle.maps.proofs.is_pair.Statement.{statement}
+use Rattle.maps.proofs.is_pair.Tie as tie
+
+enum-told : tie.Need-enum-told
+enum-told c = search needs
+
+add-result : tie.Need-add-result
+add-result c = search needs
+
+enum-told-2 : tie.Need-enum-told-2
+enum-told-2 c = search needs
+
+add-result-2 : tie.Need-add-result-2
+add-result-2 c = search needs
+
+enum-told-3 : tie.Need-enum-told-3
+enum-told-3 c = search needs
+
+add-result-3 : tie.Need-add-result-3
+add-result-3 c = search needs
+
+rem-result : tie.Need-rem-result
+rem-result c = c .before .before .pre .circle (c .enum-told3 .given .1)
+
+enum-told-4 : tie.Need-enum-told-4
+enum-told-4 c = search needs
+
+div-if1 : tie.Need-div-if1
+div-if1 c = c .before .before .pre .inner (c .enum-told4 .given .1)
+
+div-if1-2 : tie.Need-div-if1-2
+div-if1-2 c = c .before .before .pre .columns (c .enum-told4 .given .1)
+
+returns : tie.Need-returns
+returns c =
+    let a = c .before .before .before .args in
+    sym
+    (ap (λ (k : Kind). pair k (a .p) (a .q) (a .r) (a .t) (a .i) (a .j)) (c .before .enum-told4 .given .1)
+    ∙ row-off (a .p) (a .q) (a .r) (a .t) (a .i) (a .j) (c .if1 .taken))
+
+rem-if2 : tie.Need-rem-if2
+rem-if2 c = c .before .before .before .pre .inner (c .before .enum-told4 .given .1)
+
+div-if2 : tie.Need-div-if2
+div-if2 c = c .before .before .before .pre .columns (c .before .enum-told4 .given .1)
+
+returns-2 : tie.Need-returns-2
+returns-2 c =
+    let a = c .before .before .before .before .args in
+    sym
+    (ap (λ (k : Kind). pair k (a .p) (a .q) (a .r) (a .t) (a .i) (a .j)) (c .before .before .enum-told4 .given .1)
+    ∙ inner-off (a .p) (a .q) (a .r) (a .t) (a .i) (a .j) (c .if2 .taken))
+
+rem-result-2 : tie.Need-rem-result-2
+rem-result-2 c = c .before .before .before .before .pre .columns (c .before .before .enum-told4 .given .1)
+
+rem-result-3 : tie.Need-rem-result-3
+rem-result-3 c = c .before .before .before .before .pre .columns (c .before .before .enum-told4 .given .1)
+
+enum-told-5 : tie.Need-enum-told-5
+enum-told-5 c = search needs
+
+returns-3 : tie.Need-returns-3
+unfolding pair
+returns-3 c = let a = c .before .before .args in sym (ap (λ (k : Kind). pair k (a .p) (a .q) (a .r) (a .t) (a .i) (a .j)) (c .enum-told .given .1))
+
+returns-4 : tie.Need-returns-4
+unfolding pair
+returns-4 c = let a = c .before .before .args in sym (ap (λ (k : Kind). pair k (a .p) (a .q) (a .r) (a .t) (a .i) (a .j)) (c .enum-told2 .given .1))
+
+returns-5 : tie.Need-returns-5
+unfolding pair
+returns-5 c = let a = c .before .before .args in sym (ap (λ (k : Kind). pair k (a .p) (a .q) (a .r) (a .t) (a .i) (a .j)) (c .enum-told3 .given .1))
+
+returns-6 : tie.Need-returns-6
+returns-6 c =
+    let a = c .before .before .before .before .args in
+    sym
+    (ap (λ (k : Kind). pair k (a .p) (a .q) (a .r) (a .t) (a .i) (a .j)) (c .before .before .enum-told4 .given .1)
+    ∙ rest-left (a .p) (a .q) (a .r) (a .t) (a .i) (a .j) (c .before .if1 .left) (c .if2 .left))
+
+returns-7 : tie.Need-returns-7
+unfolding pair
+returns-7 c = let a = c .before .before .args in sym (ap (λ (k : Kind). pair k (a .p) (a .q) (a .r) (a .t) (a .i) (a .j)) (c .enum-told5 .given .1))
+
+pub is-pair-spec : {M : Type 1} → statement M
+is-pair-spec =
+    tie.close
+    (tie.spec
+    enum-told
+    add-result
+    enum-told-2
+    add-result-2
+    enum-told-3
+    add-result-3
+    rem-result
+    enum-told-4
+    div-if1
+    div-if1-2
+    returns
+    rem-if2
+    div-if2
+    returns-2
+    rem-result-2
+    rem-result-3
+    enum-told-5
+    returns-3
+    returns-4
+    returns-5
+    returns-6
+    returns-7)

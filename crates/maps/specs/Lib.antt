@@ -1,0 +1,8 @@
+-- Bilinear maps: their meaning on bits, their target forms, their generators.
+pub mod Textbook
+pub mod Target
+pub mod Meaning
+pub mod Squares
+pub mod Accepted
+pub mod Generators
+pub mod laws

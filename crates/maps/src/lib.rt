@@ -1,0 +1,104 @@
+// Bilinear maps: their target forms and generators.
+ghost use mathlib.Core.Path.{_≡_};
+ghost use Rattle.maps.specs.Target.{pair, targetForm};
+ghost use Rattle.maps.specs.Accepted.{Accepted, Terms};
+ghost use Rattle.maps.specs.Generators.{generatorForm, numbered, countOf, seenCount, Numbered, SmallMasks};
+use kinds::Kind;
+
+pub mod squares;
+
+// Whether a_i b_j is a term of output t.
+fn is_pair(kind: Kind, p: u64, q: u64, r: u64, t: u64, i: u64, j: u64) -> bool
+    requires { ⌜ Terms kind p q r i j ⌝ }
+    ensures { λ x. ⌜ x ≡ pair kind p q r t i j ⌝ }
+{
+    match kind {
+        Kind::Poly => i + j == t,
+        Kind::Short => i + j == t,
+        Kind::Circ => (i + j) % p == t,
+        Kind::Mat => {
+            if i / q != t / r {
+                return false;
+            }
+            if i % q != j / r {
+                return false;
+            }
+            j % r == t % r
+        }
+        Kind::List => false,
+    }
+}
+
+// The form of output t, coordinate by coordinate.
+fn sum_of_pairs(kind: Kind, p: u64, q: u64, r: u64, n: u64, m: u64, t: u64) -> u64
+    requires { ⌜ Accepted kind p q r n m t ⌝ }
+    ensures { λ x. ⌜ x ≡ targetForm kind p q r n m t ⌝ }
+{
+    let end = n * m;
+    let mut form = 0u64;
+    let mut s = 0u64;
+    while s < end {
+        if is_pair(kind, p, q, r, t, s / m, s % m) {
+            form = (1u64 << s) ^ form;
+        }
+        s += 1;
+    }
+    form
+}
+
+// The form of output t of a map with n and m variables. Those of square poly sizes stand in a table.
+pub fn target(kind: Kind, p: u64, q: u64, r: u64, n: u64, m: u64, t: u64) -> u64
+    requires { ⌜ Accepted kind p q r n m t ⌝ }
+    ensures { λ x. ⌜ x ≡ targetForm kind p q r n m t ⌝ }
+{
+    if let Kind::Poly = kind {
+        if p == q {
+            return squares::square(p, t);
+        }
+    }
+    sum_of_pairs(kind, p, q, r, n, m, t)
+}
+
+// The number of generators; `Many`, above 4095, is refusal 4.
+pub enum Count {
+    Is(u64),
+    Many,
+}
+
+// How many generators there are in n and m variables. From 13 variables on either side there are too many, so that nothing overflows.
+pub fn generator_count(n: u64, m: u64) -> Count
+    ensures { λ x. ⌜ countOf n m ≡ seenCount x ⌝ }
+{
+    if n == 0 {
+        return Count::Is(0);
+    }
+    if m == 0 {
+        return Count::Is(0);
+    }
+    if n > 12 {
+        return Count::Many;
+    }
+    if m > 12 {
+        return Count::Many;
+    }
+    let c = ((1u64 << n) - 1) * ((1u64 << m) - 1);
+    if c <= 4095 { Count::Is(c) } else { Count::Many }
+}
+
+// The form of the generator number j: its masks are the digits of j to the base 2^m - 1, each counted from 1.
+pub fn generator_form(n: u64, m: u64, j: u64) -> u64
+    requires { ⌜ Numbered n m j ⌝ }
+    ensures { λ x. ⌜ x ≡ generatorForm n m j ⌝ }
+{
+    let base = (1u64 << m) - 1;
+    forms::product(n as usize, m as usize, j / base + 1, j % base + 1)
+}
+
+// The number of the generator with the masks a and b: each a comes with 2^m - 1 masks b.
+pub fn number_of_masks(m: u64, a: u64, b: u64) -> u64
+    requires { ⌜ SmallMasks m a b ⌝ }
+    ensures { λ x. ⌜ x ≡ numbered m a b ⌝ }
+{
+    let seconds = (1u64 << m) - 1;
+    (a - 1) * seconds + (b - 1)
+}
