@@ -21,7 +21,7 @@ use Rattle.linear.specs.laws.Bit.{xorB}
 use Rattle.kinds.specs.Kinds.{kindNumbered}
 use Rattle.kinds.specs.Sizes.{sizes}
 use Rattle.kinds.specs.Refusal.{Answer, accepted, need, refuse}
-use Rattle.kinds.specs.Masks.{wide, zeroIn}
+use Rattle.words.specs.Masks.{wide, zeroIn}
 use Rattle.kinds.specs.declared.Kind.{Kind}
 use Rattle.kinds.specs.declared.Kind.the-variants as kind
 use Rattle.forms.specs.Product.{productForm}

@@ -1,11 +1,9 @@
 // Check: is a formula right for every input, and how many adders does it need?
 ghost use mathlib.Core.Path.{_≡_};
-ghost use Prim.Native.Nat.{_^_, _≤_};
-ghost use mathlib.Core.Bool.{not};
-ghost use lib.Dec.{ltb};
+ghost use Prim.Native.Nat.{_≤_};
 ghost use lib.ListN.{length, take};
 ghost use Rattle.kinds.specs.Kinds.{kindNumbered, seenKind};
-ghost use Rattle.kinds.specs.Masks.{wide, zeroIn};
+ghost use Rattle.words.specs.Masks.{wide, zeroIn};
 ghost use Rattle.formula.specs.Formula.{known, productForms, rowForm, firstWrong, addersOf, judged, check};
 ghost use Rattle.formula.specs.Replies.{seenVerdict, seenReply, Judging, Fitting, Matching};
 ghost use Rattle.formula.specs.laws.Loops.{Filled};
@@ -29,20 +27,13 @@ fn map_kind(number: u64) -> Known
     }
 }
 
-// Whether a mask has a bit outside its n bits.
-fn outside(mask: u64, n: u64) -> bool
-    ensures { λ r. ⌜ r ≡ not (ltb mask (2 ^ n)) ⌝ }
-{
-    if n < 64 { (mask >> n) != 0 } else { false }
-}
-
 // Whether some mask has a bit outside its n bits.
 fn any_wide(masks: &[u64], n: u64) -> bool
     ensures { λ r. ⌜ r ≡ wide n (now (masks .entry)) ⌝ }
 {
     let mut i = 0;
     while i < masks.len() {
-        if outside(masks[i], n) {
+        if words::wider(false, masks[i], n as usize) {
             return true;
         }
         i += 1;

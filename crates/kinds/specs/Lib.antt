@@ -4,4 +4,3 @@ pub mod Sizes
 pub mod SizeLaws
 pub mod Refusal
 pub mod RefusalLaws
-pub mod Masks

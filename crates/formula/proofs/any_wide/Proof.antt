@@ -3,14 +3,13 @@ use mathlib.Core.Path.{_≡_, refl, sym, _∙_}
 use Prim.Native.Nat.{_-_, _≤_}
 use lib.ListN.{length, drop}
 use borrow.Author.Needs.{needs}
-use Rattle.kinds.specs.Masks.{wide}
+use Rattle.words.specs.Masks.{wide}
 use Rattle.formula.specs.laws.Loops.{wide-here, wide-later, wide-end}
 use native.Mathlib.Omega.{arith}
 use Rattle.formula.proofs.any_wide.Statement.{statement}
 use Rattle.formula.proofs.any_wide.Tie as tie
 use Rattle.formula.proofs.any_wide.Reads as reads
 use Rattle.formula.proofs.any_wide.Lts as lts
-use Rattle.formula.proofs.outside.Reads as outside-reads
 
 abbrev Inv-loop : tie.InvT-loop
 Inv-loop masks n i₀ i = (i ≤ length masks) × (wide n (drop i masks) ≡ wide n masks)
@@ -21,17 +20,17 @@ abbrev μ-loop : tie.MeasureT-loop
 loop-holds : tie.Need-loop-holds Inv-loop μ-loop
 loop-holds c = (omega arith, refl)
 
-mul-outside : tie.Need-mul-outside Inv-loop μ-loop
-mul-outside c = omega arith
+mul-wider : tie.Need-mul-wider Inv-loop μ-loop
+mul-wider c = omega arith
 
-shared-slice-read-outside : tie.Need-shared-slice-read-outside Inv-loop μ-loop
-shared-slice-read-outside c = omega arith
+shared-slice-read-wider : tie.Need-shared-slice-read-wider Inv-loop μ-loop
+shared-slice-read-wider c = omega arith
 
-outside-requires : tie.Need-outside-requires Inv-loop μ-loop
-outside-requires c κs = search needs
+wider-requires : tie.Need-wider-requires Inv-loop μ-loop
+wider-requires c κs = search needs
 
 returns : tie.Need-returns Inv-loop μ-loop
-returns c = wide-here (c .before .before .before .before .before .before .args .n) (c .before .before .before .before .before .before .args .masks .now) (c .before .before .before .before .loop .i) (wide (c .before .before .before .before .before .before .args .n) (c .before .before .before .before .before .before .args .masks .now)) (omega arith) (c .before .before .before .before .loop .inv .1) (sym (c .before .outside .ensures) ∙ c .if1 .taken)
+returns c = wide-here (c .before .before .before .before .before .before .args .n) (c .before .before .before .before .before .before .args .masks .now) (c .before .before .before .before .loop .i) (wide (c .before .before .before .before .before .before .args .n) (c .before .before .before .before .before .before .args .masks .now)) (omega arith) (c .before .before .before .before .loop .inv .1) (sym (c .before .wider .ensures) ∙ c .if1 .taken)
 
 add-i : tie.Need-add-i Inv-loop μ-loop
 add-i c = omega arith
@@ -40,7 +39,7 @@ loop-less : tie.Need-loop-less Inv-loop μ-loop
 loop-less c = omega arith
 
 loop-again : tie.Need-loop-again Inv-loop μ-loop
-loop-again c = (omega arith, wide-later (c .before .before .before .before .before .before .args .n) (c .before .before .before .before .before .before .args .masks .now) (c .before .before .before .before .loop .i) (wide (c .before .before .before .before .before .before .args .n) (c .before .before .before .before .before .before .args .masks .now)) (omega arith) (c .before .before .before .before .loop .inv .1) (sym (c .before .outside .ensures) ∙ c .if1 .left))
+loop-again c = (omega arith, wide-later (c .before .before .before .before .before .before .args .n) (c .before .before .before .before .before .before .args .masks .now) (c .before .before .before .before .loop .i) (wide (c .before .before .before .before .before .before .args .n) (c .before .before .before .before .before .before .args .masks .now)) (omega arith) (c .before .before .before .before .loop .inv .1) (sym (c .before .wider .ensures) ∙ c .if1 .left))
 
 returns-2 : tie.Need-returns-2 Inv-loop μ-loop
 returns-2 c = wide-end (c .before .before .before .args .n) (c .before .before .before .args .masks .now) (c .before .loop .i) (wide (c .before .before .before .args .n) (c .before .before .before .args .masks .now)) (omega arith) (c .before .loop .inv .1)
@@ -52,9 +51,9 @@ any-wide-spec =
     Inv-loop
     μ-loop
     loop-holds
-    mul-outside
-    shared-slice-read-outside
-    outside-requires
+    mul-wider
+    shared-slice-read-wider
+    wider-requires
     returns
     add-i
     loop-less

@@ -2,7 +2,7 @@
 use mathlib.Core.Path.{_≡_, refl}
 use Prim.Native.Nat.{_-_, _≤_}
 use lib.ListN.{length, drop}
-use Rattle.kinds.specs.Masks.{zeroIn}
+use Rattle.words.specs.Masks.{zeroIn}
 use Rattle.formula.specs.laws.Loops.{zero-here, zero-later, zero-end}
 use native.Mathlib.Omega.{arith}
 use Rattle.formula.proofs.any_zero.Statement.{statement}

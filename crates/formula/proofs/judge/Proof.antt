@@ -7,7 +7,7 @@ use native.Mathlib.Omega.{arith}
 use lib.ListN.{length}
 use lib.Dec.{ltb}
 use borrow.Author.Tests.{lt-ltb, le-ltb}
-use Rattle.kinds.specs.Masks.{wide, zeroIn}
+use Rattle.words.specs.Masks.{wide, zeroIn}
 use Rattle.kinds.specs.Refusal.{accepted}
 use Rattle.kinds.specs.SizeLaws.{sizes-bounds}
 use Rattle.formula.specs.laws.Judging.{judged-as}

@@ -10,7 +10,7 @@ use borrow.Author.Tests.{eq-eqb, ne-eqb}
 use Rattle.kinds.specs.Kinds.{kindNumbered}
 use Rattle.kinds.specs.Sizes.{sizes}
 use Rattle.kinds.specs.Refusal.{refused, accepted, need, refuse}
-use Rattle.kinds.specs.Masks.{wide, zeroIn}
+use Rattle.words.specs.Masks.{wide, zeroIn}
 use Rattle.kinds.specs.declared.Kind.{Kind}
 use Rattle.formula.specs.Formula.{productForms, firstWrong, adders, known, lengths, judged, check}
 

@@ -2,22 +2,19 @@
 use mathlib.Core.Path.{_≡_, sym, ap, ap₂, _∙_}
 use mathlib.Core.Bool.{Bool, true, false, not, _||_, cond}
 use mathlib.Core.List.{List, [], _∷_, _++_, append-assoc, append-nil}
-use Prim.Native.Nat.{ℕ, zero, suc, _+_, _-_, _*_, _/_, _^_, _<_, _≤_}
-use native.Mathlib.Nat.{div-eq-of-lt, div-lt-iff-lt-mul}
+use Prim.Native.Nat.{ℕ, zero, suc, _+_, _-_, _/_, _^_, _<_, _≤_}
 use native.Mathlib.Numerals.{add-one}
 use native.Mathlib.Omega.{arith}
-use native.Mathlib.Decide.{decLt}
 use lib.ListN.{length, getD, take, drop, set, drop-of-length-le}
 use lib.Seq.{drop-cons, take-suc-set}
 use lib.Dec.{ltb, eqb}
-use lib.Pow.{pow-mono, pow-pos}
 use lib.Bits.{bitXor, bitAnd, xor-zero-r, xor-zero-l}
-use borrow.Author.Tests.{lt-ltb, le-ltb, eq-eqb, ne-eqb}
+use borrow.Author.Tests.{eq-eqb, ne-eqb}
 use Rattle.linear.specs.Bit.{bit}
 use Rattle.linear.specs.Word.{word, scaleW}
 use Rattle.linear.specs.laws.Space.{add-assoc}
 use mathlib.Core.Option.{Option, none, some}
-use Rattle.kinds.specs.Masks.{wide, zeroIn}
+use Rattle.words.specs.Masks.{wide, zeroIn}
 use Rattle.kinds.specs.declared.Kind.{Kind}
 use Rattle.maps.specs.Target.{targetForm}
 use Rattle.forms.specs.Product.{productForm}
@@ -35,20 +32,6 @@ next : (xs : List ℕ) (i : ℕ) → i < length xs → drop i xs ≡ getD xs i 0
 next xs i h = drop-cons xs i 0 h ∙ ap (λ (k : ℕ). getD xs i 0 ∷ drop k xs) (sym (add-one i))
 
 -- ---- a mask outside its width
-pub outside-shift : (x n : ℕ) → not (eqb (x / 2 ^ n) 0) ≡ not (ltb x (2 ^ n))
-outside-shift x n = go (decLt x (2 ^ n))
-  where
-    go : Dec (x < 2 ^ n) → not (eqb (x / 2 ^ n) 0) ≡ not (ltb x (2 ^ n))
-    go (yes l) = ap not (eq-eqb (x / 2 ^ n) 0 (div-eq-of-lt l) ∙ sym (lt-ltb x (2 ^ n) l))
-    go (no l) = ap not (ne-eqb (x / 2 ^ n) 0 big ∙ sym (le-ltb x (2 ^ n) (omega arith)))
-      where
-        big : x / 2 ^ n ≡ 0 → ⊥
-        big k = let d : x / 2 ^ n < 1 = omega (arith, k) in let e : x < 1 * 2 ^ n = div-lt-iff-lt-mul (pow-pos n) .0 d in l (omega arith)
-
--- 64 bits are all of a word
-pub outside-never : (x n : ℕ) → 64 ≤ n → x < 2 ^ 64 → false ≡ not (ltb x (2 ^ n))
-outside-never x n l h = ap not (sym (lt-ltb x (2 ^ n) (let p : 2 ^ 64 ≤ 2 ^ n = pow-mono l in omega arith)))
-
 module _ (n : ℕ) (xs : List ℕ) (i : ℕ) (W : Bool) (h : i < length xs) (inv : wide n (drop i xs) ≡ W) where
   at : not (ltb (getD xs i 0) (2 ^ n)) || wide n (drop (i + 1) xs) ≡ W
   unfolding wide

@@ -22,7 +22,7 @@ use Rattle.kinds.specs.Sizes.{sizes}
 use Rattle.kinds.specs.SizeLaws.{sizes-bounds}
 use Rattle.kinds.specs.Refusal.{accepted, need}
 use Rattle.kinds.specs.RefusalLaws.{accepted-inj, need-inv, refuse-inv}
-use Rattle.kinds.specs.Masks.{wide, zeroIn}
+use Rattle.words.specs.Masks.{wide, zeroIn}
 use Rattle.kinds.specs.declared.Kind.{Kind}
 use Rattle.kinds.specs.declared.Kind.the-variants as kind
 use Rattle.forms.specs.Product.{productForm, product-below}

@@ -1,0 +1,45 @@
+-- What the code's answers say, in the readings' terms: a number of bytes used stands for the text after them.
+--   seenX s .. r == the reading of s that the answer r stands for, with the lent buffers as they are then
+--   bytesX r     == the bytes used, 0 where there is no reading
+-- Assumes nothing.
+use Prim.Native.Nat.{ℕ}
+use mathlib.Core.List.{List}
+use mathlib.Core.Bool.{Bool}
+use mathlib.Core.Option.{Option, none, some}
+use lib.ListN.{drop}
+use Rattle.files.specs.declared.Product.{Product}
+use Rattle.files.specs.declared.Product.the-variants as product
+use Rattle.files.specs.declared.Products.{Products}
+use Rattle.files.specs.declared.Products.the-variants as products
+use Rattle.files.specs.declared.Rows.{Rows}
+use Rattle.files.specs.declared.Rows.the-variants as rows
+use Rattle.files.specs.declared.BodyRead.{BodyRead}
+use Rattle.files.specs.declared.BodyRead.the-variants as body
+
+abbrev pub seenProduct : List ℕ → Product → Option (ℕ × ℕ × List ℕ)
+seenProduct s (product.Is a b u) = some (a, b, drop u s)
+seenProduct s product.No = none
+
+abbrev pub bytesProduct : Product → ℕ
+bytesProduct (product.Is a b u) = u
+bytesProduct product.No = 0
+
+abbrev pub seenProducts : List ℕ → List ℕ → List ℕ → Products → Option (List ℕ × List ℕ × List ℕ × Bool × Bool)
+seenProducts s a b (products.Are u w z) = some (drop u s, a, b, w, z)
+seenProducts s a b products.No = none
+
+abbrev pub bytesProducts : Products → ℕ
+bytesProducts (products.Are u w z) = u
+bytesProducts products.No = 0
+
+abbrev pub seenRows : List ℕ → List ℕ → Rows → Option (List ℕ × List ℕ × Bool)
+seenRows s d (rows.Are u w) = some (drop u s, d, w)
+seenRows s d rows.No = none
+
+abbrev pub bytesRows : Rows → ℕ
+bytesRows (rows.Are u w) = u
+bytesRows rows.No = 0
+
+abbrev pub seenBody : List ℕ → List ℕ → List ℕ → BodyRead → Option (List ℕ × List ℕ × List ℕ × Bool × Bool)
+seenBody a b d (body.Are w z) = some (a, b, d, w, z)
+seenBody a b d body.No = none

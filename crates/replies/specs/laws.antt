@@ -1,0 +1,2 @@
+-- Proofs about writing a text piece by piece.
+pub mod Pieces

@@ -1,0 +1,67 @@
+-- `text::equal` meets its contract. The invariant: what is left is the same exactly if the whole is. Assumes nothing.
+use Prim.Native.Nat.{_≤_, _-_}
+use mathlib.Core.Path.{_≡_, refl, sym, _∙_}
+use native.Mathlib.Omega.{arith}
+use borrow.Author.Needs.{needs}
+use lib.ListN.{length, drop}
+use Rattle.kinds.specs.Kinds.{same}
+use Rattle.text.specs.laws.Line.{same-step, same-stop, same-end, same-length}
+use Rattle.text.proofs.equal.Statement.{statement}
+use Rattle.text.proofs.equal.Tie as tie
+
+abbrev Inv-loop : tie.InvT-loop
+Inv-loop s t n i₀ i = (n ≡ length s) × (n ≡ length t) × (i ≤ n) × (same s t ≡ same (drop i s) (drop i t))
+
+abbrev μ-loop : tie.MeasureT-loop
+μ-loop s t n i₀ i = n - i
+
+returns : tie.Need-returns Inv-loop μ-loop
+returns c = sym (same-length (c .before .args .s .now) (c .before .args .t .now) (c .if1 .taken))
+
+loop-holds : tie.Need-loop-holds Inv-loop μ-loop
+loop-holds c = (refl, omega arith, omega arith, refl)
+
+shared-slice-read-if2 : tie.Need-shared-slice-read-if2 Inv-loop μ-loop
+shared-slice-read-if2 c = search needs
+
+shared-slice-read-if2-2 : tie.Need-shared-slice-read-if2-2 Inv-loop μ-loop
+shared-slice-read-if2-2 c = search needs
+
+returns-2 : tie.Need-returns-2 Inv-loop μ-loop
+returns-2 c =
+    let z = c .before .before .before .before in
+    sym (z .loop .inv .3 ∙ same-stop (z .loop .i) (z .before .before .args .s .now) (z .before .before .args .t .now) (omega arith) (omega arith) (c .if2 .taken))
+
+add-i : tie.Need-add-i Inv-loop μ-loop
+add-i c = search needs
+
+loop-less : tie.Need-loop-less Inv-loop μ-loop
+loop-less c = search needs
+
+loop-again : tie.Need-loop-again Inv-loop μ-loop
+loop-again c =
+    let z = c .before .before .before .before in
+    (refl, omega arith, omega arith, z .loop .inv .3 ∙ same-step (z .loop .i) (z .before .before .args .s .now) (z .before .before .args .t .now) (omega arith) (omega arith) (c .if2 .left))
+
+returns-3 : tie.Need-returns-3 Inv-loop μ-loop
+returns-3 c =
+    let i = c .before .loop .i in
+    let e : i ≡ length (c .before .before .before .args .s .now) = omega arith in
+    let f : i ≡ length (c .before .before .before .args .t .now) = omega arith in
+    sym (c .before .loop .inv .3 ∙ same-end i (c .before .before .before .args .s .now) (c .before .before .before .args .t .now) e f)
+
+pub equal-spec : {M : Type 1} → statement M
+equal-spec =
+    tie.close
+    (tie.spec
+    Inv-loop
+    μ-loop
+    returns
+    loop-holds
+    shared-slice-read-if2
+    shared-slice-read-if2-2
+    returns-2
+    add-i
+    loop-less
+    loop-again
+    returns-3)

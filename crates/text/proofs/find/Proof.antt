@@ -1,0 +1,55 @@
+-- `text::find` meets its contract. The invariant: what is left has the first c as far on as the whole has. Assumes nothing.
+use Prim.Native.Nat.{_≤_, _-_, _+_}
+use mathlib.Core.Path.{_≡_}
+use native.Mathlib.Omega.{arith}
+use borrow.Author.Needs.{needs}
+use lib.ListN.{length, drop}
+use Rattle.text.specs.Line.{till}
+use Rattle.text.specs.laws.Line.{till-here, till-later, till-end}
+use Rattle.text.proofs.find.Statement.{statement}
+use Rattle.text.proofs.find.Tie as tie
+
+abbrev Inv-loop : tie.InvT-loop
+Inv-loop s c i₀ i = (i ≤ length s) × (till c s ≡ i + till c (drop i s))
+
+abbrev μ-loop : tie.MeasureT-loop
+μ-loop s c i₀ i = length s - i
+
+loop-holds : tie.Need-loop-holds Inv-loop μ-loop
+loop-holds c = (omega arith, omega arith)
+
+shared-slice-read-if1 : tie.Need-shared-slice-read-if1 Inv-loop μ-loop
+shared-slice-read-if1 c = search needs
+
+returns : tie.Need-returns Inv-loop μ-loop
+returns c = omega (arith, till-here (c .before .before .before .before .args .c) (c .before .before .before .loop .i) (c .before .before .before .before .args .s .now) (c .before .before .loop-test .taken) (c .if1 .taken))
+
+add-i : tie.Need-add-i Inv-loop μ-loop
+add-i c = search needs
+
+loop-less : tie.Need-loop-less Inv-loop μ-loop
+loop-less c = search needs
+
+loop-again : tie.Need-loop-again Inv-loop μ-loop
+loop-again c =
+    let e = till-later (c .before .before .before .before .args .c) (c .before .before .before .loop .i) (c .before .before .before .before .args .s .now) (c .before .before .loop-test .taken) (c .if1 .left) in
+    (omega arith, omega (arith, e))
+
+returns-2 : tie.Need-returns-2 Inv-loop μ-loop
+returns-2 c =
+    let e : c .before .loop .i ≡ length (c .before .before .args .s .now) = omega arith in
+    omega (arith, till-end (c .before .before .args .c) (c .before .loop .i) (c .before .before .args .s .now) e)
+
+pub find-spec : {M : Type 1} → statement M
+find-spec =
+    tie.close
+    (tie.spec
+    Inv-loop
+    μ-loop
+    loop-holds
+    shared-slice-read-if1
+    returns
+    add-i
+    loop-less
+    loop-again
+    returns-2)

@@ -1,0 +1,8 @@
+-- The bytes and numbers of a file.
+pub mod Reading
+pub mod Numeral
+pub mod Line
+pub mod Head
+pub mod Print
+pub mod Views
+pub mod laws

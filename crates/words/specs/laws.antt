@@ -1,0 +1,3 @@
+-- Proofs about masks and buffers.
+pub mod Masks
+pub mod Buffers

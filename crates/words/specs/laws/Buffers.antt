@@ -1,0 +1,14 @@
+-- Writing from the start of a buffer.
+--   filled-sets   word by word, where there is room, it comes to `filled`
+-- Assumes nothing.
+use Prim.Native.Nat.{ℕ, _≤_}
+use mathlib.Core.Path.{_≡_}
+use mathlib.Core.List.{List}
+use native.Mathlib.Omega.{arith}
+use native.Mathlib.Nat.{zero-add}
+use lib.ListN.{length}
+use lib.Seq.{sets, sets-eq}
+use Rattle.words.specs.Buffers.{filled}
+
+pub filled-sets : (xs d : List ℕ) (n : ℕ) → length xs ≡ n → n ≤ length d → sets d 0 xs ≡ filled xs d
+filled-sets xs d n e h = rw (sets-eq xs d 0 (omega arith)) (rw zero-add)

@@ -1,0 +1,35 @@
+-- Masks and their widths.
+--   shift-none   a mask shifted by n is zero exactly if it has no bit outside n bits
+--   wide-below   no bit outside n bits: every mask is below 2^n
+-- Assumes nothing.
+use Prim.Native.Nat.{ℕ, _*_, _/_, _^_, _<_, _≤_}
+use mathlib.Core.Path.{_≡_, refl}
+use mathlib.Core.List.{List, [], _∷_}
+use mathlib.Core.Bool.{Bool, true, false, _||_, not}
+use native.Mathlib.Omega.{arith}
+use native.Mathlib.Nat.{div-eq-of-lt, div-lt-iff-lt-mul, one-mul}
+use lib.Pow.{pow-pos}
+use lib.Dec.{ltb, eqb}
+use borrow.Author.Tests.{eq-eqb, ne-eqb, ltb-true, ltb-false}
+use Rattle.words.specs.Masks.{wide}
+
+pub shift-none : (x n : ℕ) → eqb (x / 2 ^ n) 0 ≡ ltb x (2 ^ n)
+shift-none x n = go (ltb x (2 ^ n)) refl
+  where
+    go : (t : Bool) → ltb x (2 ^ n) ≡ t → eqb (x / 2 ^ n) 0 ≡ t
+    go true e = eq-eqb (x / 2 ^ n) 0 (div-eq-of-lt (ltb-true x (2 ^ n) e))
+    go false e = ne-eqb (x / 2 ^ n) 0 (λ z. let h : x < 1 * 2 ^ n = div-lt-iff-lt-mul (pow-pos n) .0 (omega arith) in omega (arith, ltb-false x (2 ^ n) e, one-mul (2 ^ n)))
+
+-- every word of a list is below b
+abbrev pub Below : ℕ → List ℕ → Type 0
+Below b [] = Unit {0}
+Below b (x ∷ xs) = (x < b) × Below b xs
+
+pub wide-below : (n b : ℕ) (xs : List ℕ) → 2 ^ n ≤ b → wide n xs ≡ false → Below b xs
+unfolding wide
+wide-below n b [] h e = tt
+wide-below n b (x ∷ xs) h e = go (ltb x (2 ^ n)) refl (wide-below n b xs h) e
+  where
+    go : (t : Bool) → ltb x (2 ^ n) ≡ t → (wide n xs ≡ false → Below b xs) → (not t || wide n xs) ≡ false → (x < b) × Below b xs
+    go true l ih f = (let k = ltb-true x (2 ^ n) l in omega arith, ih f)
+    go false l ih f = absurd (let q : _≡_ {A = ℕ} 0 1 = cc in omega arith)

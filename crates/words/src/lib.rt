@@ -1,0 +1,49 @@
+// 64-bit words: lent buffers of them, and the tests on masks that a reader keeps as flags.
+ghost use mathlib.Core.Path.{_≡_};
+ghost use mathlib.Core.Bool.{_||_};
+ghost use lib.ListN.{length, set, replicate};
+ghost use lib.Dec.{eqb};
+ghost use Rattle.words.specs.Masks.{outside};
+
+// The word x at place i, where there is one.
+pub fn put_word(a: &mut [u64], i: usize, x: u64)
+    ensures { λ _. ⌜ now (a .exit) ≡ set (now (a .entry)) i x ⌝ }
+{
+    if i < a.len() {
+        a[i] = x;
+    }
+}
+
+// The whole of a buffer 0.
+pub fn clear(a: &mut [u64])
+    ensures { λ _. ⌜ now (a .exit) ≡ replicate (length (now (a .entry))) 0 ⌝ }
+{
+    let mut i = 0;
+    while i < a.len() {
+        a[i] = 0;
+        i += 1;
+    }
+}
+
+// w, or x has a bit outside n bits.
+pub fn wider(w: bool, x: u64, n: usize) -> bool
+    ensures { λ r. ⌜ r ≡ (w || outside n x) ⌝ }
+{
+    if w {
+        return true;
+    }
+    if n < 64 {
+        return (x >> n) != 0;
+    }
+    false
+}
+
+// z, or x is zero.
+pub fn nil(z: bool, x: u64) -> bool
+    ensures { λ r. ⌜ r ≡ (z || eqb x 0) ⌝ }
+{
+    if z {
+        return true;
+    }
+    x == 0
+}
