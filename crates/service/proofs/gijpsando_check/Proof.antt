@@ -1,0 +1,87 @@
+-- `service::gijpsando_check` meets its contract. Assumes nothing.
+use mathlib.Core.Path.{_≡_, refl, sym, ap, ap₂, _∙_, subst}
+use mathlib.Core.Option.{Option, none, some}
+use mathlib.Core.List.{List}
+use Prim.Native.Nat.{ℕ, _≤_}
+use native.Mathlib.Omega.{arith}
+use lib.ListN.{length, take, replicate}
+use lib.Seq.{length-take-le}
+use Rattle.kinds.specs.Kinds.{numberOf}
+use Rattle.kinds.specs.Sizes.{sizes, seenSizes}
+use Rattle.kinds.specs.Refusal.{Answer, refused, accepted}
+use Rattle.formula.specs.Formula.{check}
+use Rattle.formula.specs.Replies.{seenReply, seenVerdict}
+use Rattle.files.specs.Lent.{reply}
+use Rattle.replies.specs.CheckText.{checkText}
+use Rattle.replies.specs.Written.{bytesIn, writtenIn}
+use Rattle.service.specs.Service.{verdictOf, replyText, checkFile, replyOf, bytesOf}
+use Rattle.service.specs.Ready.{third, outputsOf, Ready}
+use Rattle.service.specs.laws.Reading.{outs, read-ready, read-checks, refused-checks, verdict-same, text-short, text-whole}
+use borrow.Author.Needs.{needs}
+use Rattle.service.proofs.gijpsando_check.Statement.{statement}
+use Rattle.service.proofs.gijpsando_check.Tie as tie
+use Rattle.service.proofs.gijpsando_check.Reads as reads
+use Rattle.service.proofs.gijpsando_check.Lts as lts
+use Rattle.files.proofs.read_formula.Reads as read-formula-reads
+use Rattle.service.proofs.answer.Reads as answer-reads
+
+slice-aggregate-read-formula : tie.Need-slice-aggregate-read-formula
+slice-aggregate-read-formula c = search needs
+
+slice-aggregate-read-formula-2 : tie.Need-slice-aggregate-read-formula-2
+slice-aggregate-read-formula-2 c = search needs
+
+slice-aggregate-read-formula-3 : tie.Need-slice-aggregate-read-formula-3
+slice-aggregate-read-formula-3 c = search needs
+
+read-formula-requires : tie.Need-read-formula-requires
+read-formula-requires c κs = search needs
+
+enum-known-got : tie.Need-enum-known-got
+enum-known-got c = search needs
+
+enum-known-got-2 : tie.Need-enum-known-got-2
+enum-known-got-2 c = search needs
+
+slice-aggregate-answer : tie.Need-slice-aggregate-answer
+slice-aggregate-answer c = search needs
+
+slice-aggregate-answer-2 : tie.Need-slice-aggregate-answer-2
+slice-aggregate-answer-2 c = search needs
+
+slice-aggregate-answer-3 : tie.Need-slice-aggregate-answer-3
+slice-aggregate-answer-3 c = search needs
+
+answer-requires : tie.Need-answer-requires
+answer-requires c κs = read-ready (c .before .before .before .before .before .before .before .before .before .before .before .before .before .before .before .before .args .file .now) (c .before .before .before .before .before .got2 .given .0 .0) (c .before .before .before .before .before .got2 .given .0 .1 .0) (c .before .before .before .before .before .got2 .given .0 .1 .1 .0) (c .before .before .before .before .before .got2 .given .0 .1 .1 .1 .0) (c .before .before .before .before .before .got2 .given .0 .1 .1 .1 .1 .0) (replicate 64 0) (replicate 64 0) (replicate 64 0) (c .before .before .before .before .before .before .before .before .before .before .read-formula .last .1 .0) (c .before .before .before .before .before .before .before .before .before .before .read-formula .last .1 .1 .0) (c .before .before .before .before .before .before .before .before .before .before .read-formula .last .1 .1 .1 .0) refl refl refl (sym (c .before .before .before .before .before .got2 .given .1) ∙ c .before .before .before .before .before .before .before .before .before .before .read-formula .ensures .0) (c .before .before .before .before .before .before .before .before .before .before .read-formula .ensures .1) (c .before .before .before .before .before .before .before .before .before .before .read-formula .ensures .2) (c .before .before .before .before .before .before .before .before .before .before .read-formula .ensures .3)
+
+returns : tie.Need-returns
+returns c = 
+    let e : checkFile (c .before .before .before .before .before .before .before .before .before .before .before .before .args .file .now) ≡ refused (c .before .got .given .0 .0) = refused-checks (c .before .before .before .before .before .before .before .before .before .before .before .before .args .file .now) (replicate 64 0) (replicate 64 0) (replicate 64 0) (c .before .got .given .0 .0) refl refl refl (sym (c .before .got .given .1) ∙ c .before .before .before .before .before .before .read-formula .ensures .0) in
+    (ap (λ (x : Answer (List ℕ)). replyOf x (c .before .before .before .before .before .before .before .before .before .before .before .before .args .out .now)) (sym e), ap (λ (x : Answer (List ℕ)). bytesOf x (c .before .before .before .before .before .before .before .before .before .before .before .before .args .out .now)) (sym e))
+
+same-length : tie.Need-same-length
+same-length c = search needs
+
+returns-2 : tie.Need-returns-2
+returns-2 c = 
+    let e = read-checks (c .before .before .before .before .before .before .before .before .before .before .before .before .before .before .before .before .before .before .before .args .file .now) (c .before .before .before .before .before .before .before .before .got2 .given .0 .0) (c .before .before .before .before .before .before .before .before .got2 .given .0 .1 .0) (c .before .before .before .before .before .before .before .before .got2 .given .0 .1 .1 .0) (c .before .before .before .before .before .before .before .before .got2 .given .0 .1 .1 .1 .0) (c .before .before .before .before .before .before .before .before .got2 .given .0 .1 .1 .1 .1 .0) (replicate 64 0) (replicate 64 0) (replicate 64 0) (c .before .before .before .before .before .before .before .before .before .before .before .before .before .read-formula .last .1 .0) (c .before .before .before .before .before .before .before .before .before .before .before .before .before .read-formula .last .1 .1 .0) (c .before .before .before .before .before .before .before .before .before .before .before .before .before .read-formula .last .1 .1 .1 .0) refl refl refl (sym (c .before .before .before .before .before .before .before .before .got2 .given .1) ∙ c .before .before .before .before .before .before .before .before .before .before .before .before .before .read-formula .ensures .0) (c .before .before .before .before .before .before .before .before .before .before .before .before .before .read-formula .ensures .1) (c .before .before .before .before .before .before .before .before .before .before .before .before .before .read-formula .ensures .2) (c .before .before .before .before .before .before .before .before .before .before .before .before .before .read-formula .ensures .3) in
+    (c .before .before .answer .ensures .0 ∙ ap (λ (x : Answer (List ℕ)). replyOf x (c .before .before .before .before .before .before .before .before .before .before .before .before .before .before .before .before .before .before .before .args .out .now)) (sym e), c .before .before .answer .ensures .1 ∙ ap (λ (x : Answer (List ℕ)). bytesOf x (c .before .before .before .before .before .before .before .before .before .before .before .before .before .before .before .before .before .before .before .args .out .now)) (sym e))
+
+pub gijpsando-check-spec : {M : Type 1} → statement M
+gijpsando-check-spec =
+    tie.close
+    (tie.spec
+    slice-aggregate-read-formula
+    slice-aggregate-read-formula-2
+    slice-aggregate-read-formula-3
+    read-formula-requires
+    enum-known-got
+    enum-known-got-2
+    slice-aggregate-answer
+    slice-aggregate-answer-2
+    slice-aggregate-answer-3
+    answer-requires
+    returns
+    same-length
+    returns-2)

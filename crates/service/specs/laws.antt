@@ -1,0 +1,2 @@
+-- The laws behind the exported calls.
+pub mod Reading

@@ -1,0 +1,141 @@
+-- From the reading of a file to the numbers that are checked. Assumes nothing.
+use mathlib.Core.Path.{_≡_, refl, sym, ap, ap₂, _∙_, subst}
+use mathlib.Core.Bool.{Bool, true, false, cond}
+use mathlib.Core.List.{List, [], _∷_, _++_}
+use mathlib.Core.Option.{Option, none, some}
+use Prim.Native.Nat.{ℕ, zero, suc, _+_, _-_, _<_, _≤_}
+use native.Mathlib.Omega.{arith}
+use lib.ListN.{length, take, drop, length-append, length-drop}
+use lib.Seq.{take-append-seam}
+use lib.Dec.{ltb}
+use borrow.Author.Tests.{lt-ltb, le-ltb, ltb-true, ltb-false}
+use Rattle.kinds.specs.declared.Kind.{Kind}
+use Rattle.kinds.specs.Kinds.{numberOf}
+use Rattle.kinds.specs.Sizes.{sizes}
+use Rattle.kinds.specs.Refusal.{Answer, refused, accepted}
+use Rattle.words.specs.Buffers.{filled}
+use Rattle.files.specs.Outcome.{Outcome, outcome}
+use Rattle.files.specs.Outcome as file
+use Rattle.files.specs.Lent.{reply, firstOf, secondOf, rowsOf}
+use Rattle.files.specs.Sound.{Sound, Room}
+use Rattle.files.specs.AcceptedOnly.{accepted-sound}
+use Rattle.files.specs.declared.Read.{Read}
+use Rattle.files.specs.declared.Read.the-variants as read
+use Rattle.formula.specs.Formula.{check}
+use Rattle.formula.specs.Replies.{seenReply, seenVerdict}
+use Rattle.formula.specs.declared.Verdict.{Verdict}
+use Rattle.formula.specs.declared.Verdict.the-variants as verdict
+use Rattle.replies.specs.CheckText.{checkText}
+use Rattle.replies.specs.CheckTextLong.{check-text-long}
+use Rattle.replies.specs.Written.{bytesIn, writtenIn}
+use Rattle.service.specs.Service.{verdictOf, replyText, checkRead, checkFile, replyOf, bytesOf}
+use Rattle.service.specs.Ready.{third, outputsOf, Ready}
+
+pub outs : (kd : Kind) (p q r : ℕ) (z : ℕ × ℕ × ℕ) → sizes kd p q r ≡ some z → outputsOf kd p q r ≡ z .2
+unfolding outputsOf
+outs kd p q r z e = ap third e
+
+-- ---- a reply that is a formula
+abbrev Was : Outcome → Kind → (p q r k : ℕ) → Type 0
+Was o kd p q r k = (xs : List ℕ) × (ys : List ℕ) × (zs : List ℕ) × (o ≡ file.formula kd p q r k xs ys zs)
+
+was : (o : Outcome) (kd : Kind) (p q r k : ℕ) → reply o ≡ read.Formula kd p q r k → Was o kd p q r k
+was (file.refused e) kd p q r k h = absurd (let z : _≡_ {A = ℕ} 0 1 = cc in omega arith)
+was (file.formula kd′ p′ q′ r′ k′ xs ys zs) kd p q r k h = (xs, ys, zs, cc)
+
+pub refused-is : (o : Outcome) (e : ℕ) → reply o ≡ read.Refused e → o ≡ file.refused e
+refused-is (file.refused e′) e h = cc
+refused-is (file.formula kd′ p′ q′ r′ k′ xs ys zs) e h = absurd (let z : _≡_ {A = ℕ} 0 1 = cc in omega arith)
+
+-- ---- the numbers in the buffers
+take-filled : (n : ℕ) (xs d : List ℕ) → length xs ≡ n → take n (filled xs d) ≡ xs
+take-filled n xs d e = ap (λ (k : ℕ). take k (filled xs d)) (sym e) ∙ take-append-seam xs (drop (length xs) d)
+
+filled-length : (xs d : List ℕ) → length xs ≤ length d → length (filled xs d) ≡ length d
+filled-length xs d h = length-append xs (drop (length xs) d) ∙ (let e = length-drop (length xs) d in omega arith)
+
+module _ (s : List ℕ) (kd : Kind) (p q r k : ℕ) (a b rows a₁ b₁ rows₁ : List ℕ) (la : length a ≡ 64) (lb : length b ≡ 64) (lr : length rows ≡ 64)
+    (told : read.Formula kd p q r k ≡ reply (outcome s (length a) (length b) (length rows)))
+    (fa : a₁ ≡ firstOf (outcome s (length a) (length b) (length rows)) a) (fb : b₁ ≡ secondOf (outcome s (length a) (length b) (length rows)) b)
+    (fr : rows₁ ≡ rowsOf (outcome s (length a) (length b) (length rows)) rows) where
+  abbrev O : Outcome
+  O = outcome s (length a) (length b) (length rows)
+
+  W : Was O kd p q r k
+  W = was O kd p q r k (sym told)
+
+  xs : List ℕ
+  xs = W .0
+
+  ys : List ℕ
+  ys = W .1
+
+  zs : List ℕ
+  zs = W .2
+
+  S : Sound kd p q r k (W .0) (W .1) (W .2) × Room k (length (W .2)) (length a) (length b) (length rows)
+  S = accepted-sound s (length a) (length b) (length rows) kd p q r k (W .0) (W .1) (W .2) (W .3)
+
+  ea : a₁ ≡ filled (W .0) a
+  ea = fa ∙ ap (λ (o : Outcome). firstOf o a) (W .3)
+
+  eb : b₁ ≡ filled (W .1) b
+  eb = fb ∙ ap (λ (o : Outcome). secondOf o b) (W .3)
+
+  er : rows₁ ≡ filled (W .2) rows
+  er = fr ∙ ap (λ (o : Outcome). rowsOf o rows) (W .3)
+
+  rows-out : outputsOf kd p q r ≡ length (W .2)
+  rows-out = outs kd p q r (S .0 .n, S .0 .m, length (W .2)) (S .0 .fits)
+
+  pub read-ready : Ready kd p q r k a₁ b₁ rows₁
+  read-ready =
+      record {
+        n = S .0 .n;
+        m = S .0 .m;
+        u = length (W .2);
+        sized = S .0 .fits;
+        firsts = (let l = ap length ea ∙ filled-length (W .0) a (let f = S .0 .firsts in let g = S .1 .for-firsts in omega arith) in let g = S .1 .for-firsts in omega arith);
+        seconds = (let l = ap length eb ∙ filled-length (W .1) b (let f = S .0 .seconds in let g = S .1 .for-seconds in omega arith) in let g = S .1 .for-seconds in omega arith);
+        outputs = (let l = ap length er ∙ filled-length (W .2) rows (S .1 .for-rows) in let g = S .1 .for-rows in omega arith);
+      }
+
+  -- what the buffers hold is what the file says
+  pub read-checks : checkFile s ≡ replyText kd p q r k (check (numberOf kd) p q r k (take k a₁) (take k b₁) (take (outputsOf kd p q r) rows₁))
+  unfolding checkFile
+  read-checks =
+      ap checkRead (sixty ∙ W .3)
+      ∙ sym
+      (ap (replyText kd p q r k)
+      (ap₂ (λ (x y : List ℕ). check (numberOf kd) p q r k x y (take (outputsOf kd p q r) rows₁)) (ap (take k) ea ∙ take-filled k (W .0) a (S .0 .firsts)) (ap (take k) eb ∙ take-filled k (W .1) b (S .0 .seconds))
+      ∙ ap (check (numberOf kd) p q r k (W .0) (W .1)) (ap₂ take rows-out er ∙ take-filled (length (W .2)) (W .2) rows refl)))
+    where
+      sixty : outcome s 64 64 64 ≡ O
+      sixty = ap₂ (λ (x y : ℕ). outcome s x y 64) (sym la) (sym lb) ∙ ap (outcome s (length a) (length b)) (sym lr)
+
+pub refused-checks : (s : List ℕ) (a b rows : List ℕ) (e : ℕ) → length a ≡ 64 → length b ≡ 64 → length rows ≡ 64 → read.Refused e ≡ reply (outcome s (length a) (length b) (length rows)) → checkFile s ≡ refused e
+unfolding checkFile
+refused-checks s a b rows e la lb lr told =
+    ap checkRead (ap₂ (λ (x y : ℕ). outcome s x y 64) (sym la) (sym lb) ∙ ap (outcome s (length a) (length b)) (sym lr) ∙ refused-is (outcome s (length a) (length b) (length rows)) e (sym told))
+
+-- ---- the text
+pub verdict-same : (v : Verdict) → verdictOf (seenVerdict v) ≡ v
+verdict-same verdict.Right = refl
+verdict-same (verdict.Wrong t) = refl
+
+-- no bytes written: too short
+pub text-short : (kd : Kind) (p q r k : ℕ) (v : Verdict) (w : ℕ) (d : List ℕ) → bytesIn (checkText kd p q r k v w) d ≡ 0 → 9 ≡ replyOf (accepted (checkText kd p q r k v w)) d
+unfolding bytesIn
+text-short kd p q r k v w d = go (ltb (length d) (length (checkText kd p q r k v w)))
+  where
+    go : (t : Bool) → _≡_ {A = ℕ} (cond t 0 (length (checkText kd p q r k v w))) 0 → _≡_ {A = ℕ} 9 (cond t 9 (length (checkText kd p q r k v w)))
+    go true e = refl
+    go false e = absurd (let l = check-text-long kd p q r k v w in omega arith)
+
+pub text-whole : (kd : Kind) (p q r k : ℕ) (v : Verdict) (w : ℕ) (d : List ℕ) → (bytesIn (checkText kd p q r k v w) d ≡ 0 → ⊥) → bytesIn (checkText kd p q r k v w) d ≡ replyOf (accepted (checkText kd p q r k v w)) d
+unfolding bytesIn
+text-whole kd p q r k v w d = go (ltb (length d) (length (checkText kd p q r k v w)))
+  where
+    go : (t : Bool) → (_≡_ {A = ℕ} (cond t 0 (length (checkText kd p q r k v w))) 0 → ⊥) → _≡_ {A = ℕ} (cond t 0 (length (checkText kd p q r k v w))) (cond t 9 (length (checkText kd p q r k v w)))
+    go true h = absurd (h refl)
+    go false h = refl
