@@ -15,10 +15,13 @@ use Rattle.words.specs.Masks.{wide, zeroIn}
 use Rattle.text.specs.Print.{headText}
 use Rattle.text.specs.laws.Only.{head-only}
 use Rattle.files.specs.Outcome.{Outcome, refused, formula, outcome}
-use Rattle.files.specs.FileText.{fileText, bodyText}
+use Rattle.lines.specs.BodyText.{bodyText}
+use Rattle.files.specs.FileText.{fileText}
 use Rattle.files.specs.Sound.{Sound, Room}
-use Rattle.files.specs.laws.Outcome.{room, body-lengths}
-use Rattle.files.specs.laws.Only.{Went, body-only, outcome-only, neither}
+use Rattle.lines.specs.laws.Told.{body-lengths}
+use Rattle.files.specs.laws.Outcome.{room}
+use Rattle.lines.specs.laws.Only.{body-only}
+use Rattle.files.specs.laws.Only.{Went, outcome-only, neither}
 
 module _ (s : List ℕ) (la lb lr : ℕ) (kind : Kind) (p q r k : ℕ) (xs ys zs : List ℕ) (accepted : outcome s la lb lr ≡ formula kind p q r k xs ys zs) where
   pub accepted-only : s ≡ fileText kind p q r k xs ys zs

@@ -1,10 +1,8 @@
 -- The file of a formula, read and printed.
-pub mod Formula
 pub mod Outcome
 pub mod Lent
 pub mod FileText
 pub mod Sound
-pub mod Views
 pub mod laws
 pub mod PrintThenRead
 pub mod AcceptedOnly

@@ -12,9 +12,10 @@ use Rattle.text.specs.Numeral.{digits, numeral}
 use Rattle.text.specs.Line.{cut, nameLine, field}
 use Rattle.text.specs.Head.{countFields, headLine, headLines}
 use Rattle.text.specs.Print.{printed, fieldsText, headText}
-use Rattle.files.specs.Formula.{productLine, products, rows, ended, body}
+use Rattle.lines.specs.Formula.{productLine, products, rows, ended, body}
 use Rattle.files.specs.Outcome.{formula, judged, rest, outcome}
-use Rattle.files.specs.FileText.{productsText, rowsText, bodyText, fileText}
+use Rattle.lines.specs.BodyText.{productsText, rowsText, bodyText}
+use Rattle.files.specs.FileText.{fileText}
 
 -- `kind,p,q,r,k`, `poly,2,2,0,3`, `a,b`, `1,1`, `2,2`, `3,3`, `row`, `1`, `7`, `2`
 abbrev pub worked : List ℕ

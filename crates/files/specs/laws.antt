@@ -1,6 +1,4 @@
 -- Proofs about the formula's file: what the code's proofs cite, and that printing and reading are inverse.
-pub mod Loops
-pub mod Body
 pub mod Outcome
 pub mod Back
 pub mod Only

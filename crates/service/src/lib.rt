@@ -4,16 +4,28 @@ ghost use lib.ListN.{length, take};
 ghost use Rattle.formula.specs.Formula.{check};
 ghost use Rattle.formula.specs.Replies.{seenReply};
 ghost use Rattle.kinds.specs.Kinds.{numberOf};
-ghost use Rattle.service.specs.Service.{checkFile, replyText, replyOf, bytesOf};
+ghost use Rattle.service.specs.Service.{checkFile, replyText, replyOf, bytesOf, programText, numbersReply, numbersLent};
+ghost use Rattle.words.specs.Buffers.{filled};
+ghost use mathlib.Core.List.{[], _∷_};
+ghost use Prim.Native.Nat.{_≤_};
 ghost use Rattle.service.specs.Ready.{outputsOf, Ready};
-
 use files::Read;
 use formula::Reply;
+use formula::Verdict;
 use kinds::Kind;
 use kinds::Sized;
 
 // Check of a formula that was read: the first k words of a and b are its masks, and rows starts with a row for each output.
-fn check_read(kind: Kind, p: u64, q: u64, r: u64, k: u64, a: &[u64], b: &[u64], rows: &[u64]) -> Reply
+fn check_read(
+    kind: Kind,
+    p: u64,
+    q: u64,
+    r: u64,
+    k: u64,
+    a: &[u64],
+    b: &[u64],
+    rows: &[u64],
+) -> Reply
     requires { ⌜ Ready kind p q r k (now a) (now b) (now rows) ⌝ }
     ensures { λ x. ⌜ check (numberOf kind) p q r k (take k (now (a .entry))) (take k (now (b .entry))) (take (outputsOf kind p q r) (now (rows .entry))) ≡ seenReply x ⌝ }
 {
@@ -22,11 +34,30 @@ fn check_read(kind: Kind, p: u64, q: u64, r: u64, k: u64, a: &[u64], b: &[u64], 
     };
     let products = k as usize;
     let u = outputs as usize;
-    formula::check(kinds::number_of(kind), p, q, r, k, &a[..products], &b[..products], &rows[..u])
+    formula::check(
+        kinds::number_of(kind),
+        p,
+        q,
+        r,
+        k,
+        &a[..products],
+        &b[..products],
+        &rows[..u],
+    )
 }
 
 // The reply to such a formula: the bytes of its text, written to out, or a refusal's number.
-fn answer(kind: Kind, p: u64, q: u64, r: u64, k: u64, a: &[u64], b: &[u64], rows: &[u64], out: &mut [u8]) -> usize
+fn answer(
+    kind: Kind,
+    p: u64,
+    q: u64,
+    r: u64,
+    k: u64,
+    a: &[u64],
+    b: &[u64],
+    rows: &[u64],
+    out: &mut [u8],
+) -> usize
     requires { ⌜ Ready kind p q r k (now a) (now b) (now rows) ⌝ }
     ensures { λ x. ⌜ (x ≡ replyOf (replyText kind p q r k (check (numberOf kind) p q r k (take k (now (a .entry))) (take k (now (b .entry))) (take (outputsOf kind p q r) (now (rows .entry))))) (now (out .entry)))
         × (now (out .exit) ≡ bytesOf (replyText kind p q r k (check (numberOf kind) p q r k (take k (now (a .entry))) (take k (now (b .entry))) (take (outputsOf kind p q r) (now (rows .entry))))) (now (out .entry))) ⌝ }
@@ -54,5 +85,63 @@ pub extern "C" fn gijpsando_check(file: &[u8], out: &mut [u8]) -> usize
     match got {
         Read::Refused(e) => e as usize,
         Read::Formula(kind, p, q, r, k) => answer(kind, p, q, r, k, &a, &b, &rows, out),
+    }
+}
+
+// The text that the Check program prints for an input, from the start of out; its length.
+pub fn check_program(file: &[u8], out: &mut [u8; 256]) -> usize
+    requires { ⌜ length (now out) ≡ 256 ⌝ }
+    ensures { λ n. ⌜ take n (now (out .exit)) ≡ programText (now (file .entry)) ⌝ }
+{
+    if 65536 < file.len() {
+        return replies::refused_text(1, out);
+    }
+    let n = gijpsando_check(file, out);
+    if 35 < n {
+        return n;
+    }
+    replies::refused_text(n as u64, out)
+}
+
+// Three words from the start.
+fn put_three(words: &mut [u64], x: u64, y: u64, z: u64)
+    requires { ⌜ 3 ≤ length (now words) ⌝ }
+    ensures { λ _. ⌜ now (words .exit) ≡ filled (x ∷ y ∷ z ∷ []) (now (words .entry)) ⌝ }
+{
+    words[0] = x;
+    words[1] = y;
+    words[2] = z;
+}
+
+// Check on numbers and slices: 0 and in reply the verdict (0 right, 1 wrong), the output and the adders; or the refusal's number, and reply
+// is as it was. Fewer than 3 words for the reply are refused by 9.
+#[no_mangle]
+pub extern "C" fn gijpsando_check_numbers(
+    kind: u64,
+    p: u64,
+    q: u64,
+    r: u64,
+    k: u64,
+    a: &[u64],
+    b: &[u64],
+    rows: &[u64],
+    reply: &mut [u64],
+) -> u64
+    ensures { λ x. ⌜ (x ≡ numbersReply (check kind p q r k (now (a .entry)) (now (b .entry)) (now (rows .entry))) (now (reply .entry)))
+        × (now (reply .exit) ≡ numbersLent (check kind p q r k (now (a .entry)) (now (b .entry)) (now (rows .entry))) (now (reply .entry))) ⌝ }
+{
+    let said = formula::check(kind, p, q, r, k, a, b, rows);
+    match said {
+        Reply::Refused(e) => e,
+        Reply::Judged(v, w) => {
+            if reply.len() < 3 {
+                return 9;
+            }
+            match v {
+                Verdict::Right => put_three(reply, 0, 0, w),
+                Verdict::Wrong(t) => put_three(reply, 1, t, w),
+            }
+            0
+        }
     }
 }

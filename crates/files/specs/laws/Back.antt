@@ -1,11 +1,10 @@
 -- The text of a formula is read back.
---   body-back   the lines under the first two
 --   sizes-few   sizes that fit are at most 64, but for list
 --   file-back   the whole text, but for what 6 to 9 judge
 -- Assumes nothing.
 use Prim.Native.Nat.{ℕ, _+_, _-_, _*_, _^_, _<_, _≤_}
 use mathlib.Core.Path.{_≡_, refl, _∙_}
-use mathlib.Core.List.{List, [], _∷_, _++_}
+use mathlib.Core.List.{List}
 use mathlib.Core.Bool.{false, _&&_}
 use mathlib.Core.Option.{some}
 use native.Mathlib.Omega.{arith}
@@ -17,43 +16,13 @@ use Rattle.kinds.specs.declared.Kind.the-variants as kind
 use Rattle.kinds.specs.Sizes.{sizes, within, polySizes, squareSizes, matSizes}
 use Rattle.kinds.specs.SizeLaws.{both, given-some, within-yes, mat-within, Within, MatWithin}
 use Rattle.words.specs.laws.Masks.{Below}
-use Rattle.text.specs.Line.{LF, comma}
-use Rattle.text.specs.Print.{maskText, headText}
-use Rattle.text.specs.laws.Back.{mask-back, field-back, name-back, head-back}
-use Rattle.files.specs.Formula.{productLine, products, rows, body, ended, productNames, rowName}
+use Rattle.text.specs.Print.{headText}
+use Rattle.text.specs.laws.Back.{head-back}
 use Rattle.files.specs.Outcome.{isList, judged, outcome}
-use Rattle.files.specs.FileText.{productsText, rowsText, bodyText, fileText}
-use Rattle.files.specs.laws.Loops.{product-is}
+use Rattle.lines.specs.BodyText.{bodyText}
+use Rattle.files.specs.FileText.{fileText}
+use Rattle.lines.specs.laws.Back.{body-back}
 use Rattle.files.specs.laws.Outcome.{outcome-rest, rest-judged}
-
-product-back : (x y : ℕ) (t : List ℕ) → x < 2 ^ 64 → y < 2 ^ 64 → productLine (maskText x ++ (comma ∷ (maskText y ++ (LF ∷ t)))) ≡ some (x, y, t)
-product-back x y t hx hy =
-    product-is (maskText x ++ (comma ∷ (maskText y ++ (LF ∷ t)))) (maskText y ++ (LF ∷ t)) t x y
-    (field-back 16 16 comma x (maskText y ++ (LF ∷ t)) (omega arith) (mask-back x hx))
-    (field-back 16 16 LF y t (omega arith) (mask-back y hy))
-
-products-back : (xs ys t : List ℕ) → length xs ≡ length ys → Below (2 ^ 64) xs → Below (2 ^ 64) ys → products (length xs) (productsText xs ys t) ≡ some (xs, ys, t)
-unfolding products productsText
-products-back [] [] t e hx hy = refl
-products-back [] (y ∷ ys) t e hx hy = absurd (omega arith)
-products-back (x ∷ xs) [] t e hx hy = absurd (omega arith)
-products-back (x ∷ xs) (y ∷ ys) t e hx hy =
-    rw (product-back x y (productsText xs ys t) (hx .0) (hy .0), products-back xs ys t (omega arith) (hx .1) (hy .1))
-
-rows-back : (zs t : List ℕ) → Below (2 ^ 64) zs → rows (length zs) (rowsText zs t) ≡ some (zs, t)
-unfolding rows rowsText
-rows-back [] t h = refl
-rows-back (z ∷ zs) t h = rw (field-back 16 16 LF z (rowsText zs t) (omega arith) (mask-back z (h .0)), rows-back zs t (h .1))
-
-pub body-back : (xs ys zs : List ℕ) → length xs ≡ length ys → Below (2 ^ 64) xs → Below (2 ^ 64) ys → Below (2 ^ 64) zs → body (length xs) (length zs) (bodyText xs ys zs) ≡ some (xs, ys, zs)
-unfolding body bodyText ended
-body-back xs ys zs e hx hy hz =
-    rw (
-      name-back productNames (productsText xs ys (rowName ++ (LF ∷ rowsText zs []))) (omega arith),
-      products-back xs ys (rowName ++ (LF ∷ rowsText zs [])) e hx hy,
-      name-back rowName (rowsText zs []) (omega arith),
-      rows-back zs [] hz,
-    )
 
 -- ---- the sizes
 pub record Few (p q r : ℕ) : Type 0 where

@@ -56,7 +56,7 @@ answer-requires : tie.Need-answer-requires
 answer-requires c κs = read-ready (c .before .before .before .before .before .before .before .before .before .before .before .before .before .before .before .before .args .file .now) (c .before .before .before .before .before .got2 .given .0 .0) (c .before .before .before .before .before .got2 .given .0 .1 .0) (c .before .before .before .before .before .got2 .given .0 .1 .1 .0) (c .before .before .before .before .before .got2 .given .0 .1 .1 .1 .0) (c .before .before .before .before .before .got2 .given .0 .1 .1 .1 .1 .0) (replicate 64 0) (replicate 64 0) (replicate 64 0) (c .before .before .before .before .before .before .before .before .before .before .read-formula .last .1 .0) (c .before .before .before .before .before .before .before .before .before .before .read-formula .last .1 .1 .0) (c .before .before .before .before .before .before .before .before .before .before .read-formula .last .1 .1 .1 .0) refl refl refl (sym (c .before .before .before .before .before .got2 .given .1) ∙ c .before .before .before .before .before .before .before .before .before .before .read-formula .ensures .0) (c .before .before .before .before .before .before .before .before .before .before .read-formula .ensures .1) (c .before .before .before .before .before .before .before .before .before .before .read-formula .ensures .2) (c .before .before .before .before .before .before .before .before .before .before .read-formula .ensures .3)
 
 returns : tie.Need-returns
-returns c = 
+returns c =
     let e : checkFile (c .before .before .before .before .before .before .before .before .before .before .before .before .args .file .now) ≡ refused (c .before .got .given .0 .0) = refused-checks (c .before .before .before .before .before .before .before .before .before .before .before .before .args .file .now) (replicate 64 0) (replicate 64 0) (replicate 64 0) (c .before .got .given .0 .0) refl refl refl (sym (c .before .got .given .1) ∙ c .before .before .before .before .before .before .read-formula .ensures .0) in
     (ap (λ (x : Answer (List ℕ)). replyOf x (c .before .before .before .before .before .before .before .before .before .before .before .before .args .out .now)) (sym e), ap (λ (x : Answer (List ℕ)). bytesOf x (c .before .before .before .before .before .before .before .before .before .before .before .before .args .out .now)) (sym e))
 
@@ -64,7 +64,7 @@ same-length : tie.Need-same-length
 same-length c = search needs
 
 returns-2 : tie.Need-returns-2
-returns-2 c = 
+returns-2 c =
     let e = read-checks (c .before .before .before .before .before .before .before .before .before .before .before .before .before .before .before .before .before .before .before .args .file .now) (c .before .before .before .before .before .before .before .before .got2 .given .0 .0) (c .before .before .before .before .before .before .before .before .got2 .given .0 .1 .0) (c .before .before .before .before .before .before .before .before .got2 .given .0 .1 .1 .0) (c .before .before .before .before .before .before .before .before .got2 .given .0 .1 .1 .1 .0) (c .before .before .before .before .before .before .before .before .got2 .given .0 .1 .1 .1 .1 .0) (replicate 64 0) (replicate 64 0) (replicate 64 0) (c .before .before .before .before .before .before .before .before .before .before .before .before .before .read-formula .last .1 .0) (c .before .before .before .before .before .before .before .before .before .before .before .before .before .read-formula .last .1 .1 .0) (c .before .before .before .before .before .before .before .before .before .before .before .before .before .read-formula .last .1 .1 .1 .0) refl refl refl (sym (c .before .before .before .before .before .before .before .before .got2 .given .1) ∙ c .before .before .before .before .before .before .before .before .before .before .before .before .before .read-formula .ensures .0) (c .before .before .before .before .before .before .before .before .before .before .before .before .before .read-formula .ensures .1) (c .before .before .before .before .before .before .before .before .before .before .before .before .before .read-formula .ensures .2) (c .before .before .before .before .before .before .before .before .before .before .before .before .before .read-formula .ensures .3) in
     (c .before .before .answer .ensures .0 ∙ ap (λ (x : Answer (List ℕ)). replyOf x (c .before .before .before .before .before .before .before .before .before .before .before .before .before .before .before .before .before .before .before .args .out .now)) (sym e), c .before .before .answer .ensures .1 ∙ ap (λ (x : Answer (List ℕ)). bytesOf x (c .before .before .before .before .before .before .before .before .before .before .before .before .before .before .before .before .before .before .before .args .out .now)) (sym e))
 

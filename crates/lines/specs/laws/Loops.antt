@@ -18,10 +18,10 @@ use Rattle.words.specs.Masks.{outside, wide, zeroIn}
 use Rattle.text.specs.Reading.{_>>=_}
 use Rattle.text.specs.Line.{maskField, maskLine}
 use Rattle.text.specs.laws.Line.{read-at}
-use Rattle.files.specs.Formula.{productLine, products, rows}
-use Rattle.files.specs.Views.{seenProduct}
-use Rattle.files.specs.declared.Product.{Product}
-use Rattle.files.specs.declared.Product.the-variants as product
+use Rattle.lines.specs.Formula.{productLine, products, rows}
+use Rattle.lines.specs.Views.{seenProduct}
+use Rattle.lines.specs.declared.Product.{Product}
+use Rattle.lines.specs.declared.Product.the-variants as product
 
 -- k product lines from s on, the i-th next; a and b as far as they are written, and the two flags
 unfoldable pub productsFrom : (n m : ℕ) → ℕ → List ℕ → ℕ → List ℕ → List ℕ → Bool → Bool → Option (List ℕ × List ℕ × List ℕ × Bool × Bool)

@@ -1,15 +1,15 @@
--- `files::read_body` meets its contract. Assumes nothing.
+-- `lines::read_body` meets its contract. Assumes nothing.
 use mathlib.Core.Path.{ap, _∙_}
 use native.Mathlib.Omega.{arith}
 use borrow.Author.Needs.{needs}
 use Rattle.text.specs.Line.{nameLine}
 use Rattle.text.specs.Views.{seenUsed, bytesUsed}
 use Rattle.text.specs.laws.Line.{used-fit, read-at, fits-at}
-use Rattle.files.specs.Formula.{rowName}
-use Rattle.files.specs.Views.{bytesProducts, bytesRows}
-use Rattle.files.specs.laws.Body.{run-1, run-2, run-3, run-4, run-5, run-is, ended-not, ended-yes, name-at, products-at, products-not, rows-at, rows-not}
-use Rattle.files.proofs.read_body.Statement.{statement}
-use Rattle.files.proofs.read_body.Tie as tie
+use Rattle.lines.specs.Formula.{rowName}
+use Rattle.lines.specs.Views.{bytesProducts, bytesRows}
+use Rattle.lines.specs.laws.Body.{run-1, run-2, run-3, run-4, run-5, run-is, ended-not, ended-yes, name-at, products-at, products-not, rows-at, rows-not}
+use Rattle.lines.proofs.read_body.Statement.{statement}
+use Rattle.lines.proofs.read_body.Tie as tie
 
 slice-aggregate-name-line : tie.Need-slice-aggregate-name-line
 slice-aggregate-name-line c = search needs

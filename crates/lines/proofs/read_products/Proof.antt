@@ -1,4 +1,4 @@
--- `files::read_products` meets its contract. The invariant: the lines that are left read as the whole. Assumes nothing.
+-- `lines::read_products` meets its contract. The invariant: the lines that are left read as the whole. Assumes nothing.
 use mathlib.Core.Path.{_≡_, refl, _∙_}
 use Prim.Native.Nat.{_≤_, _-_}
 use native.Mathlib.Omega.{arith}
@@ -7,11 +7,11 @@ use mathlib.Core.Bool.{false}
 use native.Mathlib.Nat.{sub-zero}
 use lib.ListN.{length, drop}
 use Rattle.text.specs.laws.Line.{read-at, fits-at}
-use Rattle.files.specs.Formula.{productLine}
-use Rattle.files.specs.Views.{seenProduct, bytesProduct}
-use Rattle.files.specs.laws.Loops.{productsFrom, products-turn, products-stop, products-end, product-at}
-use Rattle.files.proofs.read_products.Statement.{statement}
-use Rattle.files.proofs.read_products.Tie as tie
+use Rattle.lines.specs.Formula.{productLine}
+use Rattle.lines.specs.Views.{seenProduct, bytesProduct}
+use Rattle.lines.specs.laws.Loops.{productsFrom, products-turn, products-stop, products-end, product-at}
+use Rattle.lines.proofs.read_products.Statement.{statement}
+use Rattle.lines.proofs.read_products.Tie as tie
 
 abbrev Inv-loop : tie.InvT-loop
 Inv-loop s k n m a₀ b₀ i₀ at₀ wide₀ zero₀ a b i at wide zero =

@@ -20,13 +20,13 @@ use Rattle.text.specs.Views.{seenUsed}
 use Rattle.text.specs.laws.Line.{read-at}
 use Rattle.text.specs.declared.Used.{Used}
 use Rattle.text.specs.declared.Used.the-variants as used
-use Rattle.files.specs.Formula.{products, rows, body, ended, productNames, rowName}
-use Rattle.files.specs.Views.{seenProducts, seenRows}
-use Rattle.files.specs.laws.Loops.{productsFrom, rowsFrom, products-from, rows-from}
-use Rattle.files.specs.declared.Products.{Products}
-use Rattle.files.specs.declared.Products.the-variants as pds
-use Rattle.files.specs.declared.Rows.{Rows}
-use Rattle.files.specs.declared.Rows.the-variants as rws
+use Rattle.lines.specs.Formula.{products, rows, body, ended, productNames, rowName}
+use Rattle.lines.specs.Views.{seenProducts, seenRows}
+use Rattle.lines.specs.laws.Loops.{productsFrom, rowsFrom, products-from, rows-from}
+use Rattle.lines.specs.declared.Products.{Products}
+use Rattle.lines.specs.declared.Products.the-variants as pds
+use Rattle.lines.specs.declared.Rows.{Rows}
+use Rattle.lines.specs.declared.Rows.the-variants as rws
 
 -- ---- the body, as the code reads it
 unfoldable pub bodyRun : (n m k t : ℕ) (s a b d : List ℕ) → Option (List ℕ × List ℕ × List ℕ × Bool × Bool)

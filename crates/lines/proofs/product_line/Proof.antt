@@ -1,12 +1,12 @@
--- `files::product_line` meets its contract. Assumes nothing.
+-- `lines::product_line` meets its contract. Assumes nothing.
 use borrow.Author.Needs.{needs}
 use mathlib.Core.Path.{ap, _∙_}
 use native.Mathlib.Omega.{arith}
 use Rattle.text.specs.Views.{seenField}
 use Rattle.text.specs.laws.Line.{field-from, field-no, field-fit, field-fits}
-use Rattle.files.specs.laws.Loops.{product-first, product-second, product-is}
-use Rattle.files.proofs.product_line.Statement.{statement}
-use Rattle.files.proofs.product_line.Tie as tie
+use Rattle.lines.specs.laws.Loops.{product-first, product-second, product-is}
+use Rattle.lines.proofs.product_line.Statement.{statement}
+use Rattle.lines.proofs.product_line.Tie as tie
 
 field-at-requires : tie.Need-field-at-requires
 field-at-requires c κs = search needs

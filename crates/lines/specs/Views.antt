@@ -7,14 +7,14 @@ use mathlib.Core.List.{List}
 use mathlib.Core.Bool.{Bool}
 use mathlib.Core.Option.{Option, none, some}
 use lib.ListN.{drop}
-use Rattle.files.specs.declared.Product.{Product}
-use Rattle.files.specs.declared.Product.the-variants as product
-use Rattle.files.specs.declared.Products.{Products}
-use Rattle.files.specs.declared.Products.the-variants as products
-use Rattle.files.specs.declared.Rows.{Rows}
-use Rattle.files.specs.declared.Rows.the-variants as rows
-use Rattle.files.specs.declared.BodyRead.{BodyRead}
-use Rattle.files.specs.declared.BodyRead.the-variants as body
+use Rattle.lines.specs.declared.Product.{Product}
+use Rattle.lines.specs.declared.Product.the-variants as product
+use Rattle.lines.specs.declared.Products.{Products}
+use Rattle.lines.specs.declared.Products.the-variants as products
+use Rattle.lines.specs.declared.Rows.{Rows}
+use Rattle.lines.specs.declared.Rows.the-variants as rows
+use Rattle.lines.specs.declared.BodyRead.{BodyRead}
+use Rattle.lines.specs.declared.BodyRead.the-variants as body
 
 abbrev pub seenProduct : List ℕ → Product → Option (ℕ × ℕ × List ℕ)
 seenProduct s (product.Is a b u) = some (a, b, drop u s)

@@ -1,4 +1,4 @@
--- `files::read_rows` meets its contract. The invariant: the lines that are left read as the whole. Assumes nothing.
+-- `lines::read_rows` meets its contract. The invariant: the lines that are left read as the whole. Assumes nothing.
 use mathlib.Core.Path.{_≡_, refl, _∙_}
 use Prim.Native.Nat.{_≤_, _-_}
 use native.Mathlib.Omega.{arith}
@@ -7,9 +7,9 @@ use mathlib.Core.Bool.{false}
 use native.Mathlib.Nat.{sub-zero}
 use lib.ListN.{length, drop}
 use Rattle.text.specs.laws.Line.{field-from, field-no, field-fits}
-use Rattle.files.specs.laws.Loops.{rowsFrom, rows-turn, rows-stop, rows-end}
-use Rattle.files.proofs.read_rows.Statement.{statement}
-use Rattle.files.proofs.read_rows.Tie as tie
+use Rattle.lines.specs.laws.Loops.{rowsFrom, rows-turn, rows-stop, rows-end}
+use Rattle.lines.proofs.read_rows.Statement.{statement}
+use Rattle.lines.proofs.read_rows.Tie as tie
 
 abbrev Inv-loop : tie.InvT-loop
 Inv-loop s t k d₀ i₀ at₀ wide₀ d i at wide =

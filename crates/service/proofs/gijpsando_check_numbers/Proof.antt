@@ -1,0 +1,88 @@
+-- `service::gijpsando_check_numbers` meets its contract. Assumes nothing.
+use mathlib.Core.Path.{_≡_, refl, sym, ap, ap₂, _∙_}
+use mathlib.Core.Option.{Option, none, some}
+use mathlib.Core.List.{List, [], _∷_}
+use Prim.Native.Nat.{ℕ, _≤_}
+use native.Mathlib.Omega.{arith}
+use lib.ListN.{length, take, set, length-set}
+use Rattle.kinds.specs.Refusal.{Answer, refused, accepted}
+use Rattle.words.specs.Buffers.{filled}
+use Rattle.formula.specs.Formula.{check}
+use Rattle.formula.specs.Replies.{seenReply, seenVerdict}
+use Rattle.service.specs.Service.{verdictWords, numbersReply, numbersLent}
+use Rattle.service.specs.laws.Program.{print-text, print-refusal, program-long, program-short, three, numbers-short, numbers-whole}
+use borrow.Author.Needs.{needs}
+use Rattle.service.proofs.gijpsando_check_numbers.Statement.{statement}
+use Rattle.service.proofs.gijpsando_check_numbers.Tie as tie
+use Rattle.service.proofs.gijpsando_check_numbers.Reads as reads
+use Rattle.service.proofs.gijpsando_check_numbers.Lts as lts
+use Rattle.formula.proofs.check.Reads as check-reads
+use Rattle.service.proofs.put_three.Reads as put-three-reads
+
+check-requires : tie.Need-check-requires
+check-requires c κs = search needs
+
+enum-known-said : tie.Need-enum-known-said
+enum-known-said c = search needs
+
+enum-known-said-2 : tie.Need-enum-known-said-2
+enum-known-said-2 c = search needs
+
+returns : tie.Need-returns
+returns c =
+    let e : check (c .before .before .before .before .before .before .before .before .before .args .kind) (c .before .before .before .before .before .before .before .before .before .args .p) (c .before .before .before .before .before .before .before .before .before .args .q) (c .before .before .before .before .before .before .before .before .before .args .r) (c .before .before .before .before .before .before .before .before .before .args .k) (c .before .before .before .before .before .before .before .before .before .args .a .now) (c .before .before .before .before .before .before .before .before .before .args .b .now) (c .before .before .before .before .before .before .before .before .before .args .rows .now) ≡ accepted ((seenVerdict (c .before .before .said2 .given .0 .0)), (c .before .before .said2 .given .0 .1 .0)) = c .before .before .before .before .check .ensures ∙ ap seenReply (c .before .before .said2 .given .1) in
+    let n = numbers-short (seenVerdict (c .before .before .said2 .given .0 .0)) (c .before .before .said2 .given .0 .1 .0) (c .before .before .before .before .before .before .before .before .before .args .reply .now) (omega arith) in
+    (n .0 ∙ ap (λ (x : Answer (Option ℕ × ℕ)). numbersReply x (c .before .before .before .before .before .before .before .before .before .args .reply .now)) (sym e), n .1 ∙ ap (λ (x : Answer (Option ℕ × ℕ)). numbersLent x (c .before .before .before .before .before .before .before .before .before .args .reply .now)) (sym e))
+
+enum-told : tie.Need-enum-told
+enum-told c = search needs
+
+put-three-requires : tie.Need-put-three-requires
+put-three-requires c κs = search needs
+
+enum-known-v : tie.Need-enum-known-v
+enum-known-v c = search needs
+
+put-three-requires-2 : tie.Need-put-three-requires-2
+put-three-requires-2 c κs = search needs
+
+returns-2 : tie.Need-returns-2
+returns-2 c =
+    let e : check (c .before .before .before .before .before .before .before .before .args .kind) (c .before .before .before .before .before .before .before .before .args .p) (c .before .before .before .before .before .before .before .before .args .q) (c .before .before .before .before .before .before .before .before .args .r) (c .before .before .before .before .before .before .before .before .args .k) (c .before .before .before .before .before .before .before .before .args .a .now) (c .before .before .before .before .before .before .before .before .args .b .now) (c .before .before .before .before .before .before .before .before .args .rows .now) ≡ refused (c .before .said .given .0 .0) = c .before .before .before .check .ensures ∙ ap seenReply (c .before .said .given .1) in
+    (ap (λ (x : Answer (Option ℕ × ℕ)). numbersReply x (c .before .before .before .before .before .before .before .before .args .reply .now)) (sym e), ap (λ (x : Answer (Option ℕ × ℕ)). numbersLent x (c .before .before .before .before .before .before .before .before .args .reply .now)) (sym e))
+
+same-length : tie.Need-same-length
+same-length c = search needs
+
+returns-3 : tie.Need-returns-3
+returns-3 c =
+    let e : check (c .before .before .before .before .before .before .before .before .before .before .before .before .before .before .before .args .kind) (c .before .before .before .before .before .before .before .before .before .before .before .before .before .before .before .args .p) (c .before .before .before .before .before .before .before .before .before .before .before .before .before .before .before .args .q) (c .before .before .before .before .before .before .before .before .before .before .before .before .before .before .before .args .r) (c .before .before .before .before .before .before .before .before .before .before .before .before .before .before .before .args .k) (c .before .before .before .before .before .before .before .before .before .before .before .before .before .before .before .args .a .now) (c .before .before .before .before .before .before .before .before .before .before .before .before .before .before .before .args .b .now) (c .before .before .before .before .before .before .before .before .before .before .before .before .before .before .before .args .rows .now) ≡ accepted (none, (c .before .before .before .before .before .before .before .before .said2 .given .0 .1 .0)) = c .before .before .before .before .before .before .before .before .before .before .check .ensures ∙ ap seenReply (c .before .before .before .before .before .before .before .before .said2 .given .1) ∙ ap (λ (x : Option ℕ). accepted (x, (c .before .before .before .before .before .before .before .before .said2 .given .0 .1 .0))) (ap seenVerdict (c .before .before .before .before .enum-told .given .1)) in
+    let n = numbers-whole none (c .before .before .before .before .before .before .before .before .said2 .given .0 .1 .0) (c .before .before .before .before .before .before .before .before .before .before .before .before .before .before .before .args .reply .now) (omega arith) in
+    (n .0 ∙ ap (λ (x : Answer (Option ℕ × ℕ)). numbersReply x (c .before .before .before .before .before .before .before .before .before .before .before .before .before .before .before .args .reply .now)) (sym e), c .before .before .put-three .ensures ∙ n .1 ∙ ap (λ (x : Answer (Option ℕ × ℕ)). numbersLent x (c .before .before .before .before .before .before .before .before .before .before .before .before .before .before .before .args .reply .now)) (sym e))
+
+same-length-2 : tie.Need-same-length-2
+same-length-2 c = search needs
+
+returns-4 : tie.Need-returns-4
+returns-4 c =
+    let e : check (c .before .before .before .before .before .before .before .before .before .before .before .before .before .before .before .before .args .kind) (c .before .before .before .before .before .before .before .before .before .before .before .before .before .before .before .before .args .p) (c .before .before .before .before .before .before .before .before .before .before .before .before .before .before .before .before .args .q) (c .before .before .before .before .before .before .before .before .before .before .before .before .before .before .before .before .args .r) (c .before .before .before .before .before .before .before .before .before .before .before .before .before .before .before .before .args .k) (c .before .before .before .before .before .before .before .before .before .before .before .before .before .before .before .before .args .a .now) (c .before .before .before .before .before .before .before .before .before .before .before .before .before .before .before .before .args .b .now) (c .before .before .before .before .before .before .before .before .before .before .before .before .before .before .before .before .args .rows .now) ≡ accepted (some (c .before .before .before .before .before .v .given .0 .0), (c .before .before .before .before .before .before .before .before .before .said2 .given .0 .1 .0)) = c .before .before .before .before .before .before .before .before .before .before .before .check .ensures ∙ ap seenReply (c .before .before .before .before .before .before .before .before .before .said2 .given .1) ∙ ap (λ (x : Option ℕ). accepted (x, (c .before .before .before .before .before .before .before .before .before .said2 .given .0 .1 .0))) (ap seenVerdict (c .before .before .before .before .before .v .given .1)) in
+    let n = numbers-whole (some (c .before .before .before .before .before .v .given .0 .0)) (c .before .before .before .before .before .before .before .before .before .said2 .given .0 .1 .0) (c .before .before .before .before .before .before .before .before .before .before .before .before .before .before .before .before .args .reply .now) (omega arith) in
+    (n .0 ∙ ap (λ (x : Answer (Option ℕ × ℕ)). numbersReply x (c .before .before .before .before .before .before .before .before .before .before .before .before .before .before .before .before .args .reply .now)) (sym e), c .before .before .put-three2 .ensures ∙ n .1 ∙ ap (λ (x : Answer (Option ℕ × ℕ)). numbersLent x (c .before .before .before .before .before .before .before .before .before .before .before .before .before .before .before .before .args .reply .now)) (sym e))
+
+pub gijpsando-check-numbers-spec : {M : Type 1} → statement M
+gijpsando-check-numbers-spec =
+    tie.close
+    (tie.spec
+    check-requires
+    enum-known-said
+    enum-known-said-2
+    returns
+    enum-told
+    put-three-requires
+    enum-known-v
+    put-three-requires-2
+    returns-2
+    same-length
+    returns-3
+    same-length-2
+    returns-4)

@@ -1,0 +1,39 @@
+-- `service::put_three` meets its contract. Assumes nothing.
+use mathlib.Core.Path.{_≡_, refl, sym, ap, ap₂, _∙_}
+use mathlib.Core.Option.{Option, none, some}
+use mathlib.Core.List.{List, [], _∷_}
+use Prim.Native.Nat.{ℕ, _≤_}
+use native.Mathlib.Omega.{arith}
+use lib.ListN.{length, take, set, length-set}
+use Rattle.kinds.specs.Refusal.{Answer, refused, accepted}
+use Rattle.words.specs.Buffers.{filled}
+use Rattle.formula.specs.Formula.{check}
+use Rattle.formula.specs.Replies.{seenReply, seenVerdict}
+use Rattle.service.specs.Service.{verdictWords, numbersReply, numbersLent}
+use Rattle.service.specs.laws.Program.{print-text, print-refusal, program-long, program-short, three, numbers-short, numbers-whole}
+use native.Mathlib.Omega.{arith}
+use borrow.Author.Needs.{needs}
+use Rattle.service.proofs.put_three.Statement.{statement}
+use Rattle.service.proofs.put_three.Tie as tie
+use Rattle.service.proofs.put_three.Reads as reads
+use Rattle.service.proofs.put_three.Lts as lts
+
+slice-write-words : tie.Need-slice-write-words
+slice-write-words c = search needs
+
+slice-write-words-2 : tie.Need-slice-write-words-2
+slice-write-words-2 c = let l = length-set (c .args .words .now) 0 (c .args .x) in let h = c .pre in omega arith
+
+slice-write-words-3 : tie.Need-slice-write-words-3
+slice-write-words-3 c = search needs
+
+same-length : tie.Need-same-length
+same-length c = search needs
+
+returns : tie.Need-returns
+returns c = three (c .args .words .now) (c .args .x) (c .args .y) (c .args .z) (c .pre)
+
+pub put-three-spec : {M : Type 1} → statement M
+put-three-spec =
+    tie.close
+    (tie.spec slice-write-words slice-write-words-2 slice-write-words-3 same-length returns)
