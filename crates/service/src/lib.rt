@@ -89,9 +89,9 @@ pub extern "C" fn gijpsando_check(file: &[u8], out: &mut [u8]) -> usize
 }
 
 // The text that the Check program prints for an input, from the start of out; its length.
-pub fn check_program(file: &[u8], out: &mut [u8; 256]) -> usize
+pub fn check_program(file: &[u8], out: &mut [u8]) -> usize
     requires { ⌜ length (now out) ≡ 256 ⌝ }
-    ensures { λ n. ⌜ take n (now (out .exit)) ≡ programText (now (file .entry)) ⌝ }
+    ensures { λ n. ⌜ (take n (now (out .exit)) ≡ programText (now (file .entry))) × (n ≤ 256) ⌝ }
 {
     if 65536 < file.len() {
         return replies::refused_text(1, out);

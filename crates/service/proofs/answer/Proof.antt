@@ -1,23 +1,17 @@
 -- `service::answer` meets its contract. Assumes nothing.
-use mathlib.Core.Path.{_≡_, refl, sym, ap, ap₂, _∙_, subst}
-use mathlib.Core.Option.{Option, none, some}
+use mathlib.Core.Path.{_≡_, sym, ap, _∙_}
 use mathlib.Core.List.{List}
-use Prim.Native.Nat.{ℕ, _≤_}
-use native.Mathlib.Omega.{arith}
-use lib.ListN.{length, take}
-use lib.Seq.{length-take-le}
+use Prim.Native.Nat.{ℕ}
+use lib.ListN.{take}
 use Rattle.kinds.specs.Kinds.{numberOf}
-use Rattle.kinds.specs.Sizes.{sizes, seenSizes}
 use Rattle.kinds.specs.Refusal.{Answer, refused, accepted}
 use Rattle.formula.specs.Formula.{check}
 use Rattle.formula.specs.declared.Verdict.{Verdict}
-use Rattle.formula.specs.Replies.{seenReply, seenVerdict}
-use Rattle.files.specs.Lent.{reply}
+use Rattle.formula.specs.Replies.{seenReply}
 use Rattle.replies.specs.CheckText.{checkText}
-use Rattle.replies.specs.Written.{bytesIn, writtenIn}
-use Rattle.service.specs.Service.{verdictOf, replyText, checkFile, replyOf, bytesOf}
-use Rattle.service.specs.Ready.{third, outputsOf, Ready}
-use Rattle.service.specs.laws.Reading.{outs, read-ready, read-checks, refused-checks, verdict-same, text-short, text-whole}
+use Rattle.service.specs.Service.{replyText, replyOf, bytesOf}
+use Rattle.service.specs.Ready.{outputsOf}
+use Rattle.service.specs.laws.Reading.{verdict-same, text-short, text-whole}
 use borrow.Author.Needs.{needs}
 use Rattle.service.proofs.answer.Statement.{statement}
 use Rattle.service.proofs.answer.Tie as tie

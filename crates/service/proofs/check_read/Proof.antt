@@ -1,22 +1,15 @@
 -- `service::check_read` meets its contract. Assumes nothing.
-use mathlib.Core.Path.{_≡_, refl, sym, ap, ap₂, _∙_, subst}
-use mathlib.Core.Option.{Option, none, some}
-use mathlib.Core.List.{List}
-use Prim.Native.Nat.{ℕ, _≤_}
+use mathlib.Core.Path.{_≡_, sym, ap, _∙_}
+use mathlib.Core.Option.{none}
+use Prim.Native.Nat.{ℕ}
 use native.Mathlib.Omega.{arith}
-use lib.ListN.{length, take}
+use lib.ListN.{take}
 use lib.Seq.{length-take-le}
 use Rattle.kinds.specs.Kinds.{numberOf}
 use Rattle.kinds.specs.Sizes.{sizes, seenSizes}
-use Rattle.kinds.specs.Refusal.{Answer, refused, accepted}
 use Rattle.formula.specs.Formula.{check}
-use Rattle.formula.specs.Replies.{seenReply, seenVerdict}
-use Rattle.files.specs.Lent.{reply}
-use Rattle.replies.specs.CheckText.{checkText}
-use Rattle.replies.specs.Written.{bytesIn, writtenIn}
-use Rattle.service.specs.Service.{verdictOf, replyText, checkFile, replyOf, bytesOf}
-use Rattle.service.specs.Ready.{third, outputsOf, Ready}
-use Rattle.service.specs.laws.Reading.{outs, read-ready, read-checks, refused-checks, verdict-same, text-short, text-whole}
+use Rattle.service.specs.Ready.{outputsOf}
+use Rattle.service.specs.laws.Reading.{outs}
 use borrow.Author.Needs.{needs}
 use Rattle.service.proofs.check_read.Statement.{statement}
 use Rattle.service.proofs.check_read.Tie as tie

@@ -1,22 +1,11 @@
 -- `service::gijpsando_check` meets its contract. Assumes nothing.
-use mathlib.Core.Path.{_≡_, refl, sym, ap, ap₂, _∙_, subst}
-use mathlib.Core.Option.{Option, none, some}
+use mathlib.Core.Path.{_≡_, refl, sym, ap, _∙_}
 use mathlib.Core.List.{List}
-use Prim.Native.Nat.{ℕ, _≤_}
-use native.Mathlib.Omega.{arith}
-use lib.ListN.{length, take, replicate}
-use lib.Seq.{length-take-le}
-use Rattle.kinds.specs.Kinds.{numberOf}
-use Rattle.kinds.specs.Sizes.{sizes, seenSizes}
-use Rattle.kinds.specs.Refusal.{Answer, refused, accepted}
-use Rattle.formula.specs.Formula.{check}
-use Rattle.formula.specs.Replies.{seenReply, seenVerdict}
-use Rattle.files.specs.Lent.{reply}
-use Rattle.replies.specs.CheckText.{checkText}
-use Rattle.replies.specs.Written.{bytesIn, writtenIn}
-use Rattle.service.specs.Service.{verdictOf, replyText, checkFile, replyOf, bytesOf}
-use Rattle.service.specs.Ready.{third, outputsOf, Ready}
-use Rattle.service.specs.laws.Reading.{outs, read-ready, read-checks, refused-checks, verdict-same, text-short, text-whole}
+use Prim.Native.Nat.{ℕ}
+use lib.ListN.{replicate}
+use Rattle.kinds.specs.Refusal.{Answer, refused}
+use Rattle.service.specs.Service.{checkFile, replyOf, bytesOf}
+use Rattle.service.specs.laws.Reading.{read-ready, read-checks, refused-checks}
 use borrow.Author.Needs.{needs}
 use Rattle.service.proofs.gijpsando_check.Statement.{statement}
 use Rattle.service.proofs.gijpsando_check.Tie as tie

@@ -1,16 +1,13 @@
 -- `service::gijpsando_check_numbers` meets its contract. Assumes nothing.
-use mathlib.Core.Path.{_≡_, refl, sym, ap, ap₂, _∙_}
+use mathlib.Core.Path.{_≡_, sym, ap, _∙_}
 use mathlib.Core.Option.{Option, none, some}
-use mathlib.Core.List.{List, [], _∷_}
-use Prim.Native.Nat.{ℕ, _≤_}
+use Prim.Native.Nat.{ℕ}
 use native.Mathlib.Omega.{arith}
-use lib.ListN.{length, take, set, length-set}
 use Rattle.kinds.specs.Refusal.{Answer, refused, accepted}
-use Rattle.words.specs.Buffers.{filled}
 use Rattle.formula.specs.Formula.{check}
 use Rattle.formula.specs.Replies.{seenReply, seenVerdict}
-use Rattle.service.specs.Service.{verdictWords, numbersReply, numbersLent}
-use Rattle.service.specs.laws.Program.{print-text, print-refusal, program-long, program-short, three, numbers-short, numbers-whole}
+use Rattle.service.specs.Service.{numbersReply, numbersLent}
+use Rattle.service.specs.laws.Program.{numbers-short, numbers-whole}
 use borrow.Author.Needs.{needs}
 use Rattle.service.proofs.gijpsando_check_numbers.Statement.{statement}
 use Rattle.service.proofs.gijpsando_check_numbers.Tie as tie

@@ -1,16 +1,7 @@
 -- `service::put_three` meets its contract. Assumes nothing.
-use mathlib.Core.Path.{_≡_, refl, sym, ap, ap₂, _∙_}
-use mathlib.Core.Option.{Option, none, some}
-use mathlib.Core.List.{List, [], _∷_}
-use Prim.Native.Nat.{ℕ, _≤_}
 use native.Mathlib.Omega.{arith}
-use lib.ListN.{length, take, set, length-set}
-use Rattle.kinds.specs.Refusal.{Answer, refused, accepted}
-use Rattle.words.specs.Buffers.{filled}
-use Rattle.formula.specs.Formula.{check}
-use Rattle.formula.specs.Replies.{seenReply, seenVerdict}
-use Rattle.service.specs.Service.{verdictWords, numbersReply, numbersLent}
-use Rattle.service.specs.laws.Program.{print-text, print-refusal, program-long, program-short, three, numbers-short, numbers-whole}
+use lib.ListN.{length-set}
+use Rattle.service.specs.laws.Program.{three}
 use native.Mathlib.Omega.{arith}
 use borrow.Author.Needs.{needs}
 use Rattle.service.proofs.put_three.Statement.{statement}

@@ -6,8 +6,9 @@ use mathlib.Core.Path.{_≡_, refl, sym, ap, ap₂, _∙_, subst}
 use mathlib.Core.Bool.{Bool, true, false, _||_, cond}
 use mathlib.Core.List.{List, [], _∷_, _++_}
 use mathlib.Core.Option.{Option, none, some}
-use Prim.Native.Nat.{ℕ, _+_, _<_, _≤_}
+use Prim.Native.Nat.{ℕ, _<_, _≤_}
 use native.Mathlib.Omega.{arith}
+use native.Mathlib.Decide.{decLt}
 use lib.ListN.{length, take, drop, set, length-append}
 use lib.Seq.{take-append-seam}
 use lib.Dec.{ltb}
@@ -234,3 +235,33 @@ module _ (v : Option ℕ) (w : ℕ) (d : List ℕ) where
     sym (ap (λ (b : Bool). cond b 9 0) (le-ltb (length d) 3 h)),
     sym (ap (λ (b : Bool). cond b d (filled (verdictWords v w) d)) (le-ltb (length d) 3 h)),
   )
+
+-- ---- what is printed fits 256 bytes
+pub bytes-most : (t d : List ℕ) → length d ≡ 256 → bytesIn t d ≤ 256
+unfolding bytesIn
+bytes-most t d l = go (decLt (length d) (length t))
+  where
+    go : Dec (length d < length t) → cond (ltb (length d) (length t)) 0 (length t) ≤ 256
+    go (yes h) = subst (λ (b : Bool). cond b 0 (length t) ≤ 256) (sym (lt-ltb (length d) (length t) h)) (omega arith)
+    go (no h) = let k : length t ≤ length d = omega arith in subst (λ (b : Bool). cond b 0 (length t) ≤ 256) (sym (le-ltb (length d) (length t) k)) (omega arith)
+
+pub reply-most : (s d : List ℕ) → replyOf (checkFile s) d ≤ 256
+reply-most s d = go (checkFile s) (file-fine s)
+  where
+    go : (a : Answer (List ℕ)) → Fine a → replyOf a d ≤ 256
+    go (refused e) f = omega arith
+    go (accepted t) f = by (ltb (length d) (length t))
+      where
+        by : (b : Bool) → cond b 9 (length t) ≤ 256
+        by true = omega arith
+        by false = omega (arith, f .1)
+
+pub refused-length : (s d d₁ : List ℕ) → length d ≡ 256 → d₁ ≡ bytesOf (checkFile s) d → replyOf (checkFile s) d ≤ 35 → length d₁ ≡ 256
+refused-length s d d₁ l q h = go (checkFile s) (file-fine s) q h
+  where
+    go : (a : Answer (List ℕ)) → Fine a → d₁ ≡ bytesOf a d → replyOf a d ≤ 35 → length d₁ ≡ 256
+    go (refused e) f q h = ap length q ∙ l
+    go (accepted t) f q h =
+        let m : length t ≤ length d = omega (arith, f .1) in
+        let r : replyOf (accepted t) d ≡ length t = ap (λ (b : Bool). cond b 9 (length t)) (le-ltb (length d) (length t) m) in
+        absurd (omega (arith, f .0))

@@ -1,34 +1,32 @@
 -- From the reading of a file to the numbers that are checked. Assumes nothing.
-use mathlib.Core.Path.{_≡_, refl, sym, ap, ap₂, _∙_, subst}
+use mathlib.Core.Path.{_≡_, refl, sym, ap, ap₂, _∙_}
 use mathlib.Core.Bool.{Bool, true, false, cond}
-use mathlib.Core.List.{List, [], _∷_, _++_}
-use mathlib.Core.Option.{Option, none, some}
-use Prim.Native.Nat.{ℕ, zero, suc, _+_, _-_, _<_, _≤_}
+use mathlib.Core.List.{List}
+use mathlib.Core.Option.{some}
+use Prim.Native.Nat.{ℕ, _≤_}
 use native.Mathlib.Omega.{arith}
 use lib.ListN.{length, take, drop, length-append, length-drop}
 use lib.Seq.{take-append-seam}
 use lib.Dec.{ltb}
-use borrow.Author.Tests.{lt-ltb, le-ltb, ltb-true, ltb-false}
 use Rattle.kinds.specs.declared.Kind.{Kind}
 use Rattle.kinds.specs.Kinds.{numberOf}
 use Rattle.kinds.specs.Sizes.{sizes}
-use Rattle.kinds.specs.Refusal.{Answer, refused, accepted}
+use Rattle.kinds.specs.Refusal.{refused, accepted}
 use Rattle.words.specs.Buffers.{filled}
 use Rattle.files.specs.Outcome.{Outcome, outcome}
 use Rattle.files.specs.Outcome as file
 use Rattle.files.specs.Lent.{reply, firstOf, secondOf, rowsOf}
 use Rattle.files.specs.Sound.{Sound, Room}
 use Rattle.files.specs.AcceptedOnly.{accepted-sound}
-use Rattle.files.specs.declared.Read.{Read}
 use Rattle.files.specs.declared.Read.the-variants as read
 use Rattle.formula.specs.Formula.{check}
-use Rattle.formula.specs.Replies.{seenReply, seenVerdict}
+use Rattle.formula.specs.Replies.{seenVerdict}
 use Rattle.formula.specs.declared.Verdict.{Verdict}
 use Rattle.formula.specs.declared.Verdict.the-variants as verdict
 use Rattle.replies.specs.CheckText.{checkText}
 use Rattle.replies.specs.CheckTextLong.{check-text-long}
-use Rattle.replies.specs.Written.{bytesIn, writtenIn}
-use Rattle.service.specs.Service.{verdictOf, replyText, checkRead, checkFile, replyOf, bytesOf}
+use Rattle.replies.specs.Written.{bytesIn}
+use Rattle.service.specs.Service.{verdictOf, replyText, checkRead, checkFile, replyOf}
 use Rattle.service.specs.Ready.{third, outputsOf, Ready}
 
 pub outs : (kd : Kind) (p q r : ℕ) (z : ℕ × ℕ × ℕ) → sizes kd p q r ≡ some z → outputsOf kd p q r ≡ z .2

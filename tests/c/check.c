@@ -1,0 +1,102 @@
+/* Calls both exported functions on right, wrong, damaged and too short cases, and looks that no byte outside the promise changed. */
+#include "gijpsando.h"
+
+#include <stdio.h>
+#include <string.h>
+#include <time.h>
+
+static int failures = 0, runs = 0;
+
+static void expect(int ok, const char *what) {
+    runs++;
+    if (!ok) {
+        failures++;
+        printf("FAILED: %s\n", what);
+    }
+}
+
+/* The file's reply in a buffer of `room` bytes inside a larger one whose other bytes must stay. */
+static void file_case(const char *what, const char *file, size_t file_len, size_t room, size_t reply, const char *text) {
+    enum { MARGIN = 64, MOST = 512 };
+    uint8_t page[MARGIN + MOST + MARGIN], before[sizeof page];
+    memset(page, 0xA5, sizeof page);
+    memcpy(before, page, sizeof page);
+    size_t said = gijpsando_check((const uint8_t *)file, file_len, page + MARGIN, room);
+    expect(said == reply, what);
+    if (said > GIJPSANDO_LARGEST_REFUSAL) {
+        expect(said == strlen(text) && memcmp(page + MARGIN, text, said) == 0, what);
+        memcpy(before + MARGIN, page + MARGIN, said);
+    }
+    expect(memcmp(page, before, sizeof page) == 0, what);
+}
+
+static const char RIGHT[] = "kind,p,q,r,k\npoly,2,2,0,3\na,b\n1,1\n2,2\n3,3\nrow\n1\n7\n2\n";
+static const char WRONG[] = "kind,p,q,r,k\npoly,2,2,0,3\na,b\n1,1\n2,2\n3,3\nrow\n1\n3\n2\n";
+static const char RIGHT_TEXT[] = "kind,p,q,r,k,verdict,output,adders\npoly,2,2,0,3,right,-,4\n";
+static const char WRONG_TEXT[] = "kind,p,q,r,k,verdict,output,adders\npoly,2,2,0,3,wrong,1,3\n";
+
+static void files(void) {
+    size_t n = strlen(RIGHT_TEXT);
+    file_case("right", RIGHT, strlen(RIGHT), 512, n, RIGHT_TEXT);
+    file_case("right, just room", RIGHT, strlen(RIGHT), n, n, RIGHT_TEXT);
+    for (size_t room = 0; room < n; room++) file_case("too short", RIGHT, strlen(RIGHT), room, 9, "");
+    file_case("wrong", WRONG, strlen(WRONG), 256, strlen(WRONG_TEXT), WRONG_TEXT);
+    file_case("empty", "", 0, 256, 1, "");
+    file_case("kind", "kind,p,q,r,k\nlist,2,2,1,3\n", 26, 256, 2, "");
+    file_case("sizes", "kind,p,q,r,k\npoly,9,8,0,3\n", 26, 256, 3, "");
+    /* each beginning of the file is refused by 1 or 5, and a damaged byte never makes it right */
+    for (size_t cut = 0; cut < strlen(RIGHT); cut++) file_case("cut", RIGHT, cut, 256, cut < 26 ? 1 : 5, "");
+    file_case("zero factor", "kind,p,q,r,k\npoly,1,1,0,1\na,b\n0,1\nrow\n1\n", 41, 256, 7, "");
+    file_case("bit outside", "kind,p,q,r,k\npoly,1,1,0,1\na,b\n1,2\nrow\n1\n", 41, 256, 6, "");
+}
+
+static void numbers_case(const char *what, uint64_t kind, uint64_t p, uint64_t q, uint64_t r, uint64_t k, const uint64_t *a, size_t a_len,
+                         const uint64_t *b, size_t b_len, const uint64_t *rows, size_t rows_len, size_t room, uint64_t said, uint64_t verdict,
+                         uint64_t output, uint64_t adders) {
+    uint64_t words[8] = {77, 77, 77, 77, 77, 77, 77, 77};
+    uint64_t reply = gijpsando_check_numbers(kind, p, q, r, k, a, a_len, b, b_len, rows, rows_len, words + 1, room);
+    expect(reply == said, what);
+    int wrote = said == 0;
+    expect(words[0] == 77 && words[4] == 77 && words[5] == 77, what);
+    expect(words[1] == (wrote ? verdict : 77) && words[2] == (wrote ? output : 77) && words[3] == (wrote ? adders : 77), what);
+}
+
+static void numbers(void) {
+    const uint64_t m[3] = {1, 2, 3}, right[3] = {1, 7, 2}, wrong[3] = {1, 3, 2}, wide[3] = {1, 8, 2}, zero[3] = {1, 0, 3};
+    numbers_case("right", 0, 2, 2, 0, 3, m, 3, m, 3, right, 3, 3, 0, 0, 0, 4);
+    numbers_case("right, more room", 0, 2, 2, 0, 3, m, 3, m, 3, right, 3, 4, 0, 0, 0, 4);
+    numbers_case("wrong", 0, 2, 2, 0, 3, m, 3, m, 3, wrong, 3, 3, 0, 1, 1, 3);
+    numbers_case("list", 4, 2, 2, 0, 3, m, 3, m, 3, right, 3, 3, 2, 0, 0, 0);
+    numbers_case("unknown", 5, 2, 2, 0, 3, m, 3, m, 3, right, 3, 3, 2, 0, 0, 0);
+    numbers_case("sizes", 0, 9, 8, 0, 3, m, 3, m, 3, right, 3, 3, 3, 0, 0, 0);
+    numbers_case("length", 0, 2, 2, 0, 3, m, 2, m, 3, right, 3, 3, 5, 0, 0, 0);
+    numbers_case("rows", 0, 2, 2, 0, 3, m, 3, m, 3, right, 2, 3, 5, 0, 0, 0);
+    numbers_case("wide row", 0, 2, 2, 0, 3, m, 3, m, 3, wide, 3, 3, 6, 0, 0, 0);
+    numbers_case("zero", 0, 2, 2, 0, 3, zero, 3, m, 3, right, 3, 3, 7, 0, 0, 0);
+    for (size_t room = 0; room < 3; room++) numbers_case("short reply", 0, 2, 2, 0, 3, m, 3, m, 3, right, 3, room, 9, 0, 0, 0);
+}
+
+/* The time of one Check of the schoolbook formula for poly 8,8, which has 64 products. */
+static void speed(void) {
+    uint64_t a[64], b[64], rows[15] = {0}, reply[3];
+    for (unsigned i = 0; i < 64; i++) {
+        a[i] = 1ull << (i / 8);
+        b[i] = 1ull << (i % 8);
+        rows[i / 8 + i % 8] |= 1ull << i;
+    }
+    enum { TIMES = 20000 };
+    clock_t start = clock();
+    uint64_t sum = 0;
+    for (int i = 0; i < TIMES; i++) sum += gijpsando_check_numbers(0, 8, 8, 0, 64, a, 64, b, 64, rows, 15, reply, 3) + reply[0];
+    double us = (double)(clock() - start) * 1e6 / CLOCKS_PER_SEC / TIMES;
+    expect(sum == 0 && reply[2] == 49, "poly 8,8");
+    printf("one Check of 64 products: %.1f us\n", us);
+}
+
+int main(void) {
+    files();
+    numbers();
+    speed();
+    printf("C: %d checks, %d failed\n", runs, failures);
+    return failures != 0;
+}
