@@ -1,0 +1,2 @@
+-- Worked entries.
+pub mod Table
