@@ -1,0 +1,30 @@
+-- `maps::target` meets its contract: a square poly size stands in the table. Assumes nothing.
+use mathlib.Core.Path.{sym, _∙_}
+use borrow.Author.Needs.{needs}
+use Rattle.maps.specs.Accepted.{accepted-in-table, accepted-square}
+use Rattle.maps.proofs.target.Statement.{statement}
+use Rattle.maps.proofs.target.Tie as tie
+
+enum-told : tie.Need-enum-told
+enum-told c = search needs
+
+square-requires : tie.Need-square-requires
+square-requires c κs =
+    let a = c .before .before .before .args in
+    accepted-in-table (a .kind) (a .p) (a .q) (a .r) (a .n) (a .m) (a .t) (c .before .before .before .pre) (c .before .enum-told .given .1) (c .if1 .taken)
+
+returns : tie.Need-returns
+returns c =
+    let a = c .before .before .before .before .args in
+    c .square .ensures
+    ∙ sym (accepted-square (a .kind) (a .p) (a .q) (a .r) (a .n) (a .m) (a .t) (c .before .before .before .before .pre) (c .before .before .enum-told .given .1) (c .before .if1 .taken))
+
+sum-of-pairs-requires : tie.Need-sum-of-pairs-requires
+sum-of-pairs-requires c κs = search needs
+
+returns-2 : tie.Need-returns-2
+returns-2 c = search needs
+
+pub target-spec : {M : Type 1} → statement M
+target-spec =
+    tie.close (tie.spec enum-told square-requires returns sum-of-pairs-requires returns-2)
