@@ -1,5 +1,5 @@
 #!/usr/bin/env python3
-"""Writes the formula files of the data folder, and names.txt with their names.
+"""Writes the formula files of crates/check_files/data, and their names to its file args.
 
 Each file is made with the verdict it is meant to bring: 'right', a number t
 as ('wrong', t), or a refusal's number.  check.py must agree with all of them.
@@ -14,8 +14,8 @@ import sys
 sys.dont_write_bytecode = True
 import check
 
-ROOT = os.path.join(os.path.dirname(os.path.abspath(__file__)), "..", "..")
-DATA = os.path.join(ROOT, "data")
+CRATE = os.path.join(os.path.dirname(os.path.abspath(__file__)), "..", "..", "crates", "check_files")
+DATA = os.path.join(CRATE, "data")
 HEAD = b"kind,p,q,r,k\n"
 
 files = []
@@ -519,7 +519,7 @@ def main():
         assert len(name) == 24
         with open(os.path.join(DATA, name), "wb") as file:
             file.write(data)
-    with open(os.path.join(ROOT, "names.txt"), "w") as file:
+    with open(os.path.join(CRATE, "args"), "w") as file:
         file.write("".join(name + "\n" for _, name, _, _ in files))
     print("%d files, %d bytes" % (len(files), sum(len(data) for _, _, data, _ in files)))
 
