@@ -6,6 +6,7 @@ pub mod Order
 pub mod Select
 pub mod Entry
 pub mod Rank
+pub mod Formulae
 pub mod Theorems
 pub mod Bit
 pub mod Word

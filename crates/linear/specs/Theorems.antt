@@ -3,6 +3,8 @@
 --   rising-all, rising-in-order, rising-number               rising lists of numbers: all of them, in dictionary order, not too many
 --   entry-solves, solution-listed, spaces-once, entries-in-order, extension-first, extension-greedy, entries-few   the catalogue: none missing, none twice
 --   no-fewer, computed-exactly, least-is-rank                what the catalogue says of the fewest products
+--   formulae-exactly                                         the formulae of a space
+--   rank-formula, rank-exactly, rank-above, rank-beyond      what Rank says: never one product too many, and when it says no number
 -- Assumes nothing.
 use mathlib.Core.Path.{_≡_}
 use mathlib.Core.Logic.{_⊎_, _↔_}
@@ -17,6 +19,7 @@ use Rattle.linear.specs.Order.{Before, Rising, risingLists, Ordered, fac
 use Rattle.linear.specs.Select.{Once}
 use Rattle.linear.specs.Entry.{Solution, space, entries}
 use Rattle.linear.specs.Rank.{Chosen, Computes, Rank}
+use Rattle.linear.specs.Formulae.{formula, above, beyond, formulae, fewest}
 use Rattle.linear.specs.laws.Reduce.{member}
 use Rattle.linear.specs.laws.Insert.{insert-old, insert-reduced, insert-span, insert-length-new, basisOf-reduced, basisOf-span}
 use Rattle.linear.specs.laws.Dimension as dimensions
@@ -26,6 +29,8 @@ use Rattle.linear.specs.laws.Count.{rising-count, entries-count}
 use Rattle.linear.specs.laws.Entry.{entries-sound, entries-once, entries-ordered}
 use Rattle.linear.specs.laws.Extension.{extension, entries-complete, entries-first, entries-greedy}
 use Rattle.linear.specs.laws.Rank.{solution-from, chosen-from, no-entry, rank-is}
+use Rattle.linear.specs.laws.Formulae.{Formula, formulae-are}
+use Rattle.linear.specs.laws.Fewest as rank
 
 -- ---- bases
 module _ (S : Space) where
@@ -123,3 +128,25 @@ module _ (S : Space) (gens targets : List (S .Vec)) where
   -- The least k, from ℓ on, that has an entry is the rank: that many generators compute the targets, and no choice of fewer does.
   pub least-is-rank : (r : ℕ) (es : List ℕ) → List·Memᴰ es (entries S gens targets r) → ((k : ℕ) → dim S targets ≤ k → k < r → entries S gens targets k ≡ []) → Rank S gens targets r
   least-is-rank = rank-is S gens targets
+
+  -- ---- formulae, and Rank
+  -- The formulae of a space are exactly the sets (rising lists of numbers) of as many independent generators as it has dimensions that span it.
+  pub formulae-exactly : (W : List Vec) → Reduced S W → (es : List ℕ) → List·Memᴰ es (formulae S gens W) ↔ Formula S gens W es
+  formulae-exactly = formulae-are S gens
+
+  -- Where Rank says a formula, its products are independent generators that compute the targets, it is the first formula of the first entry for
+  -- their number r, and r is the rank: every choice of generators that computes the targets has at least r.
+  pub rank-formula : (fs : List ℕ) → fewest S gens targets ≡ formula fs → rank.RankFormula S gens targets fs
+  rank-formula = rank.fewest-formula S gens targets
+
+  -- It says one exactly if some ℓ + 6 or fewer generators compute the targets,
+  pub rank-exactly : ((fs : List ℕ) × (fewest S gens targets ≡ formula fs)) ↔ ((xs : List Vec) × Chosen S gens xs × (length xs ≤ dim S targets + 6) × Computes S targets xs)
+  rank-exactly = rank.fewest-exactly S gens targets
+
+  -- above exactly if the generators compute the targets and no k from ℓ to ℓ + 6 has an entry,
+  pub rank-above : (fewest S gens targets ≡ above) ↔ (Computes S targets gens × ((k : ℕ) → dim S targets ≤ k → k ≤ dim S targets + 6 → entries S gens targets k ≡ []))
+  rank-above = rank.fewest-above S gens targets
+
+  -- and beyond exactly if the generators don't compute the targets.
+  pub rank-beyond : (fewest S gens targets ≡ beyond) ↔ (Computes S targets gens → ⊥)
+  rank-beyond = rank.fewest-beyond S gens targets

@@ -12,6 +12,8 @@ pub mod Entry
 pub mod Greedy
 pub mod Extension
 pub mod Rank
+pub mod Formulae
+pub mod Fewest
 pub mod Finite
 pub mod Bit
 pub mod Word

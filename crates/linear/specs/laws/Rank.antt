@@ -34,7 +34,7 @@ module _ (S : Space) (gens targets : List (S .Vec)) where
   abbrev Spanned : List Vec → Type 0
   Spanned C = Within S C (generatorsIn S gens C)
 
-  generatorsIn-mem : (C : List Vec) → Reduced S C → (x : Vec) → List·Memᴰ x gens → Span S C x → List·Memᴰ x (generatorsIn S gens C)
+  pub generatorsIn-mem : (C : List Vec) → Reduced S C → (x : Vec) → List·Memᴰ x gens → Span S C x → List·Memᴰ x (generatorsIn S gens C)
   unfolding generatorsIn
   generatorsIn-mem C ρ x m s = mem-only (inside S C) gens x m (yes-inside S C ρ x s)
 
@@ -113,7 +113,7 @@ module _ (S : Space) (gens targets : List (S .Vec)) where
       let r = entries-complete S gens targets k (E .0) (E .1) in
       List·Memᴰ·not-nil (subst (λ L. List·Memᴰ (r .0) L) e (r .1))
 
-  chosen-gens : (lo : ℕ) (fs : List ℕ) → Rising lo (length gens) fs → (x : Vec) → List·Memᴰ x (chosen S gens fs) → List·Memᴰ x gens
+  pub chosen-gens : (lo : ℕ) (fs : List ℕ) → Rising lo (length gens) fs → (x : Vec) → List·Memᴰ x (chosen S gens fs) → List·Memᴰ x gens
   unfolding chosen generator
   chosen-gens lo [] r = λ x m. absurd (List·Memᴰ·not-nil m)
   chosen-gens lo (f ∷ fs) r = mem-cons {P = λ x. List·Memᴰ x gens} (mem-getD gens f nul (r .1)) (chosen-gens (suc f) fs (r .2))

@@ -1,0 +1,61 @@
+-- The formulae of a space, and the fewest products that compute the targets.
+--   formulae gens W        == the formulae of the space W, each by the numbers of its products, in dictionary order
+--   leastFrom n k          == the first entry of the least number of dimensions that has one, out of k, k + 1, .., k + n - 1
+--   Fewest                 == what Rank says: the products of a formula, above, or beyond
+--   fewest gens targets    == what Rank says of the targets
+-- The theorems are in `Theorems`. Assumes nothing.
+use mathlib.Core.Bool.{Bool, not, cond}
+use mathlib.Core.List.{List, [], _∷_}
+use mathlib.Core.Option.{Option, none, some}
+use Prim.Native.Nat.{ℕ, zero, suc}
+use lib.ListN.{length}
+use Rattle.linear.specs.Space.{Space}
+use Rattle.linear.specs.Basis.{basisOf, dim}
+use Rattle.linear.specs.Order.{risingLists}
+use Rattle.linear.specs.Select.{anyOf, only}
+use Rattle.linear.specs.Entry.{sameBasis, inside, chosen, space, entries}
+
+-- the first of a list, and a second choice where there is no first
+abbrev pub first : {A : Type 0} → List A → Option A
+first [] = none
+first (x ∷ l) = some x
+
+abbrev pub orElse : {A : Type 0} → Option A → Option A → Option A
+orElse (some x) y = some x
+orElse none y = y
+
+pub data Fewest : Type 0 where
+  formula : List ℕ → Fewest
+  above : Fewest
+  beyond : Fewest
+
+module _ (S : Space) (gens : List (S .Vec)) where
+  open Space S using (Vec)
+
+  -- Document 01: "A formula of a space is a set of k independent menu forms spanning it. They are listed ascending in dictionary order".
+  -- As many generators as the space has dimensions are independent if they span it.
+  unfoldable pub formulae : List Vec → List (List ℕ)
+  formulae W = only (λ es. sameBasis S (basisOf S (chosen S gens es)) W) (risingLists (length gens) 0 (length W))
+
+  module _ (targets : List Vec) where
+    unfoldable pub leastFrom : ℕ → ℕ → Option (List ℕ)
+    leastFrom zero k = none
+    leastFrom (suc n) k = orElse (first (entries S gens targets k)) (leastFrom n (suc k))
+
+    -- some target is no combination of the generators
+    unfoldable pub missed : Bool
+    missed = anyOf (λ t. not (inside S (basisOf S gens) t)) targets
+
+    -- the first formula of an entry's space; a space that is an entry has one
+    abbrev pub firstFormula : Option (List ℕ) → Fewest
+    firstFormula none = above
+    firstFormula (some fs) = formula fs
+
+    abbrev pub ofEntry : Option (List ℕ) → Fewest
+    ofEntry none = above
+    ofEntry (some es) = firstFormula (first (formulae (space S gens targets es)))
+
+    -- Document 01: "Rank replies r with the first formula of the first entry for r. It replies Above exactly if the menu spans T but no k
+    -- from ℓ to ℓ + 6 has an entry, and Beyond exactly if the menu doesn't span T."
+    unfoldable pub fewest : Fewest
+    fewest = cond missed beyond (ofEntry (leastFrom 7 (dim S targets)))
