@@ -3,3 +3,4 @@ pub mod Bits
 pub mod Weight
 pub mod Product
 pub mod Clear
+pub mod Row

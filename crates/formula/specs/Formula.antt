@@ -1,7 +1,6 @@
 -- A formula, and what Check says of it.
 --   formulaOutput n m xs ys row k a b == what the row gives at the bits a and b; the products are the pairs of xs and ys, the first numbered k
 --   productForms n m xs ys  == the forms of the products
---   rowForm fs row k        == the sum of those forms that the row names, the first numbered k
 --   firstWrong ..           == the first output, from t on, whose row does not give the target
 --   addersOf xs             == the adders of some masks
 --   check ..                == the reply: refused by a number, or the first wrong output (none: right) and the adders
@@ -14,9 +13,7 @@ use mathlib.Core.Option.{Option, none, some}
 use Prim.Native.Nat.{ℕ, suc, _+_, _-_}
 use lib.ListN.{length}
 use lib.Dec.{eqb, ltb}
-use lib.Bits.{bitXor}
 use Rattle.linear.specs.Bit.{bit}
-use Rattle.linear.specs.Word.{scaleW}
 use Rattle.linear.specs.laws.Bit.{xorB}
 use Rattle.kinds.specs.Kinds.{kindNumbered}
 use Rattle.kinds.specs.Sizes.{sizes}
@@ -25,6 +22,7 @@ use Rattle.words.specs.Masks.{wide, zeroIn}
 use Rattle.kinds.specs.declared.Kind.{Kind}
 use Rattle.kinds.specs.declared.Kind.the-variants as kind
 use Rattle.forms.specs.Product.{productForm}
+use Rattle.forms.specs.Row.{rowForm}
 use Rattle.forms.specs.Weight.{weight}
 use Rattle.maps.specs.Textbook.{sumTo}
 use Rattle.maps.specs.Target.{targetForm}
@@ -41,10 +39,6 @@ unfoldable pub productForms : ℕ → ℕ → List ℕ → List ℕ → List ℕ
 productForms n m [] ys = []
 productForms n m (x ∷ xs) [] = []
 productForms n m (x ∷ xs) (y ∷ ys) = productForm n m x y ∷ productForms n m xs ys
-
-unfoldable pub rowForm : List ℕ → ℕ → ℕ → ℕ
-rowForm [] row k = 0
-rowForm (f ∷ fs) row k = bitXor (scaleW (bit row k) f) (rowForm fs row (suc k))
 
 unfoldable pub firstWrong : Kind → (p q r n m : ℕ) → List ℕ → List ℕ → ℕ → Option ℕ
 firstWrong kd p q r n m fs [] t = none

@@ -17,7 +17,8 @@ use Rattle.words.specs.Masks.{wide, zeroIn}
 use Rattle.forms.specs.Product.{formOf, productForm}
 use Rattle.forms.specs.Weight.{weight}
 use Rattle.maps.specs.Target.{pair, targetForm}
-use Rattle.formula.specs.Formula.{productForms, rowForm, firstWrong, addersOf, lengths, judged, check}
+use Rattle.formula.specs.Formula.{productForms, firstWrong, addersOf, lengths, judged, check}
+use Rattle.forms.specs.Row.{rowForm}
 
 pub data Line : Type 0 where
   -- a Check: the kind's number, p, q, r, k, the masks of both sides, the rows; the reply is the first wrong output and the adders

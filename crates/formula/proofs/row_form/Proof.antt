@@ -4,7 +4,7 @@ use mathlib.Core.Logic.{⊎-elim}
 use Prim.Native.Nat.{ℕ, _+_, _-_, _<_, _≤_}
 use lib.ListN.{length, getD, drop}
 use lib.Bits.{bitXor, xor-zero-l}
-use Rattle.formula.specs.Formula.{rowForm}
+use Rattle.forms.specs.Row.{rowForm}
 use Rattle.formula.specs.laws.Loops.{row-set, row-unset, row-end}
 use native.Mathlib.Omega.{arith}
 use Rattle.formula.proofs.row_form.Statement.{statement}

@@ -20,7 +20,8 @@ use Rattle.maps.specs.Target.{targetForm}
 use Rattle.forms.specs.Product.{productForm}
 use Rattle.forms.specs.Weight.{weight}
 use Rattle.forms.specs.Bits.{bit-set, bit-unset}
-use Rattle.formula.specs.Formula.{productForms, rowForm, firstWrong, addersOf}
+use Rattle.formula.specs.Formula.{productForms, firstWrong, addersOf}
+use Rattle.forms.specs.Row.{rowForm}
 
 -- the first n words of the buffer are xs, and it has 64
 pub record Filled (xs : List ℕ) (n : ℕ) (out : List ℕ) : Type 0 where

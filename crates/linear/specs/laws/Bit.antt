@@ -45,7 +45,7 @@ bit-xor a b i =
     ap (λ (x : ℕ). bitOf (x % 2)) (xor-shr a b i) ∙ ap bitOf (xor-low (a / 2 ^ i) (b / 2 ^ i))
     ∙ bitOf-differ (a / 2 ^ i % 2) (b / 2 ^ i % 2) (mod-lt (a / 2 ^ i) two-pos) (mod-lt (b / 2 ^ i) two-pos)
 
-bit-suc : (a i : ℕ) → bit a (suc i) ≡ bit (a / 2) i
+pub bit-suc : (a i : ℕ) → bit a (suc i) ≡ bit (a / 2) i
 unfolding bit
 bit-suc a i = ap (λ (x : ℕ). bitOf (x % 2)) (ap (λ (p : ℕ). a / p) (pow-succ' 2 i) ∙ sym (div-div-eq-div-mul a 2 (2 ^ i)))
 

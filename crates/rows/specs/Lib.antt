@@ -1,0 +1,3 @@
+-- The rows of a formula.
+pub mod Rows
+pub mod laws
