@@ -1,7 +1,9 @@
 // 64-bit words: lent buffers of them, and the tests on masks that a reader keeps as flags.
 ghost use mathlib.Core.Path.{_≡_};
 ghost use mathlib.Core.Bool.{_||_};
+ghost use Prim.Native.Nat.{_+_, _≤_};
 ghost use lib.ListN.{length, set, replicate};
+ghost use lib.Seq.{paste};
 ghost use lib.Dec.{eqb};
 ghost use Rattle.words.specs.Masks.{outside};
 
@@ -11,6 +13,18 @@ pub fn put_word(a: &mut [u64], i: usize, x: u64)
 {
     if i < a.len() {
         a[i] = x;
+    }
+}
+
+// Copies `src` into `out`, from place `at` on.
+pub fn copy(src: &[u64], out: &mut [u64], at: usize)
+    requires { ⌜ at + length (now src) ≤ length (now out) ⌝ }
+    ensures { λ _. ⌜ now (out .exit) ≡ paste (now (out .entry)) at (now (src .entry)) (length (now (src .entry))) ⌝ }
+{
+    let mut i = 0;
+    while i < src.len() {
+        out[at + i] = src[i];
+        i += 1;
     }
 }
 

@@ -6,7 +6,7 @@ use mathlib.Core.Bool.{Bool, true, false, cond, not, true≢false, false≢true}
 use mathlib.Core.List.{List, [], _∷_, List·Memᴰ·head, List·Memᴰ·tail}
 use Prim.Native.Nat.{ℕ, zero, suc, _+_, _-_, _*_, _/_, _%_, _^_, _<_, _≤_}
 use native.Mathlib.Omega.{arith}
-use native.Mathlib.Nat.{div-one, pow-succ', mul-zero, mul-one, mul-add, mul-assoc, mul-comm, add-zero, zero-add, add-assoc}
+use native.Mathlib.Nat.{div-one, pow-succ', mul-zero, mul-one, mul-add, mul-assoc, mul-comm, add-zero, zero-add}
 use lib.ListN.{length, getD, take, drop, drop-of-length-le}
 use borrow.Rule.Slice.PartAt.{part-to-end}
 use lib.Seq.{drop-cons}
@@ -17,7 +17,7 @@ use Rattle.linear.specs.Basis.{basisOf}
 use Rattle.linear.specs.Entry.{inside}
 use Rattle.linear.specs.Bit.{bit, bitOf}
 use Rattle.linear.specs.Word.{word, scaleW}
-use Rattle.linear.specs.laws.Space.{minus-add}
+use Rattle.linear.specs.laws.Space.{minus-add, add-assoc}
 use Rattle.linear.specs.laws.Span.{span-add, span-uncons, span-cons, span-nil, span-nul}
 use Rattle.linear.specs.laws.Insert.{basisOf-reduced, basisOf-span}
 use Rattle.linear.specs.laws.Entry.{inside-yes, yes-inside}
@@ -57,9 +57,6 @@ pub row-span : (xs : List ℕ) (row k : ℕ) → Span word xs (rowForm xs row k)
 unfolding rowForm
 row-span [] row k = span-nul word []
 row-span (x ∷ xs) row k = span-cons word (bit row k) (row-span xs row (suc k))
-
-add-assoc′ : (x y z : ℕ) → bitXor (bitXor x y) z ≡ bitXor x (bitXor y z)
-add-assoc′ x y z = linear-assoc word x y z
 
 twice : (x v : ℕ) → bitXor x (bitXor x v) ≡ v
 twice x v = minus-add word x v
@@ -144,7 +141,7 @@ row-only (x ∷ xs) v row h l e = go (split row) (row-only xs)
         at : (b : Bool) → inside word (basisOf word xs) v ≡ b → inside word (basisOf word xs) v ≡ false
         at false p = p
         at true p =
-            absurd (head-new x xs h (subst (Span word xs) (xor-comm u v ∙ ap (λ (z : ℕ). bitXor z u) q ∙ add-assoc′ x u u ∙ ap (bitXor x) (xor-self u) ∙ xor-zero-r x) (span-add word (row-span xs k 0) (in-span xs v p))))
+            absurd (head-new x xs h (subst (Span word xs) (xor-comm u v ∙ ap (λ (z : ℕ). bitXor z u) q ∙ add-assoc word x u u ∙ ap (bitXor x) (xor-self u) ∙ xor-zero-r x) (span-add word (row-span xs k 0) (in-span xs v p))))
 
     go : (c : Bool) × (row ≡ digit c + 2 * k) → ((w r : ℕ) → Independent word xs → r < 2 ^ length xs → rowForm xs r 0 ≡ w → r ≡ rowOf xs w) → row ≡ rowOf (x ∷ xs) v
     go (true, q) ih =
@@ -200,7 +197,7 @@ module _ (xs : List ℕ) (v mask left i : ℕ) (R : Rowing xs v mask left i) (l 
         is =
             R .is ∙ ap (λ (ys : List ℕ). mask + 2 ^ i * rowOf ys left) next ∙ ap (λ (y : ℕ). mask + 2 ^ i * y) (row-here (getD xs i 0) (drop (i + 1) xs) left e)
             ∙ ap (λ (y : ℕ). mask + y) (mul-add (2 ^ i) 1 (2 * y′) ∙ ap₂ _+_ (mul-one (2 ^ i)) (double (2 ^ i) y′ ∙ ap (λ (p : ℕ). p * y′) (sym power)))
-            ∙ sym (add-assoc mask (2 ^ i) (2 ^ (i + 1) * y′));
+            ∙ sym (native.Mathlib.Nat.add-assoc mask (2 ^ i) (2 ^ (i + 1) * y′));
       }
     where
       y′ : ℕ
