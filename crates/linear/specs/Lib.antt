@@ -5,6 +5,7 @@ pub mod Basis
 pub mod Order
 pub mod Select
 pub mod Entry
+pub mod Walk
 pub mod Rank
 pub mod Formulae
 pub mod Theorems

@@ -11,6 +11,10 @@ pub mod Select
 pub mod Entry
 pub mod Greedy
 pub mod Extension
+pub mod Residue
+pub mod Pruned
+pub mod Canonical
+pub mod Walk
 pub mod Rank
 pub mod Formulae
 pub mod Fewest

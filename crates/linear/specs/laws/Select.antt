@@ -1,9 +1,9 @@
--- What tests over a list choose. Of `firstOfEach`: each chosen passes (`first-mem`), no key comes twice (`first-once`), every key that passes is
+-- What tests over a list choose; the chosen of a joined and of a mapped list (`only-append`, `only-map`). Of `firstOfEach`: each chosen passes (`first-mem`), no key comes twice (`first-once`), every key that passes is
 -- there (`first-some`), and in a list in order each chosen one stands before all others with its key (`first-first`). Assumes nothing.
 use mathlib.Core.Path.{_≡_, refl, sym, ap, ap₂, _∙_, subst}
 use mathlib.Core.Logic.{_≢_, _⊎_, inl, inr}
 use mathlib.Core.Bool.{Bool, true, false, cond, not, _&&_, _||_, true≢false, false≢true}
-use mathlib.Core.List.{List, [], _∷_, List·Memᴰ, List·Memᴰ·head, List·Memᴰ·tail, List·Memᴰ·not-nil, List·Memᴰ·cases-cons}
+use mathlib.Core.List.{List, [], _∷_, _++_, map, List·Memᴰ, List·Memᴰ·head, List·Memᴰ·tail, List·Memᴰ·not-nil, List·Memᴰ·cases-cons}
 use Prim.Native.Nat.{suc, _≤_}
 use native.Mathlib.Omega.{arith}
 use lib.ListN.{length}
@@ -46,6 +46,40 @@ module _ {A : Type 0} (p : A → Bool) where
           → (x : A) → List·Memᴰ x (y ∷ l) → p x ≡ true → List·Memᴰ x (cond t (y ∷ only p l) (only p l))
       go true q ih = mem-cons {P = λ x. p x ≡ true → List·Memᴰ x (y ∷ only p l)} (λ e. List·Memᴰ·head refl) (λ x m e. List·Memᴰ·tail (ih x m e))
       go false q ih = mem-cons {P = λ x. p x ≡ true → List·Memᴰ x (only p l)} (λ e. absurd (false≢true (sym q ∙ e))) ih
+
+pub anyOf-yes : {A : Type 0} (p : A → Bool) (l : List A) → anyOf p l ≡ true → (x : A) × List·Memᴰ x l × (p x ≡ true)
+unfolding anyOf
+anyOf-yes p [] e = absurd (false≢true e)
+anyOf-yes {A} p (y ∷ l) e = go (p y) refl e (anyOf-yes p l)
+  where
+    go : (t : Bool) → p y ≡ t → t || anyOf p l ≡ true → (anyOf p l ≡ true → (x : A) × List·Memᴰ x l × (p x ≡ true)) → (x : A) × List·Memᴰ x (y ∷ l) × (p x ≡ true)
+    go true q e ih = (y, List·Memᴰ·head refl, q)
+    go false q e ih = let r = ih e in (r .0, List·Memᴰ·tail (r .1), r .2)
+
+pub only-append : {A : Type 0} (q : A → Bool) (xs ys : List A) → only q (xs ++ ys) ≡ only q xs ++ only q ys
+unfolding only
+only-append q [] ys = refl
+only-append {A} q (x ∷ xs) ys = go (q x) (only-append q xs ys)
+  where
+    go : (t : Bool) → only q (xs ++ ys) ≡ only q xs ++ only q ys → cond t (x ∷ only q (xs ++ ys)) (only q (xs ++ ys)) ≡ cond t (x ∷ only q xs) (only q xs) ++ only q ys
+    go true e = ap {B = List A} (λ r. x ∷ r) e
+    go false e = e
+
+pub only-map : {A B : Type 0} (q : B → Bool) (f : A → B) (l : List A) → only q (map f l) ≡ map f (only (λ a. q (f a)) l)
+unfolding only
+only-map q f [] = refl
+only-map {A} {B} q f (x ∷ l) = go (q (f x)) (only-map q f l)
+  where
+    go : (t : Bool) → only q (map f l) ≡ map f (only (λ a. q (f a)) l)
+        → cond t (f x ∷ only q (map f l)) (only q (map f l)) ≡ map f (cond t (x ∷ only (λ a. q (f a)) l) (only (λ a. q (f a)) l))
+    go true e = ap {B = List B} (λ r. f x ∷ r) e
+    go false e = e
+
+pub only-none : {A : Type 0} (q : A → Bool) (l : List A) → ((x : A) → List·Memᴰ x l → q x ≡ false) → only q l ≡ []
+unfolding only
+only-none q [] h = refl
+only-none {A} q (x ∷ l) h =
+    ap (λ t. cond t (x ∷ only q l) (only q l)) (h x (List·Memᴰ·head refl)) ∙ only-none q l (λ y m. h y (List·Memᴰ·tail m))
 
 -- ---- of each key that passes the first in the list
 module _ {A B : Type 0} (key : A → B) (ok : B → Bool) (same : B → B → Bool) where

@@ -1,0 +1,2 @@
+-- What the proof of the listing rests on.
+mod Root

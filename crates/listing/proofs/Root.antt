@@ -1,0 +1,43 @@
+-- The walk from the targets' space.
+-- root-node: what the walk asks is met at the start. listed-end: what it gives there is the listing.
+-- Assumes nothing.
+use mathlib.Core.Path.{_≡_, refl, ap, ap₂, _∙_}
+use mathlib.Core.List.{List, [], _∷_}
+use Prim.Native.Nat.{ℕ, _-_, _≤_}
+use native.Mathlib.Omega.{arith}
+use lib.ListN.{length, take}
+use Rattle.linear.specs.Basis.{reduce, basisOf}
+use Rattle.linear.specs.Word.{word}
+use Rattle.bases.specs.Basis.{rowsOf, Holds}
+use Rattle.bases.specs.declared.Basis.{Basis}
+use Rattle.sieve.specs.Sieve.{residues, Mapped}
+use Rattle.sieve.specs.laws.Marks.{holds-dim}
+use Rattle.walk.specs.declared.Tally.{Tally}
+use Rattle.walk.specs.Records.{run}
+use Rattle.walk.specs.Walk.{search, stateOf, Node}
+use Rattle.listing.specs.Listing.{Asked, Listed}
+use Rattle.listing.specs.laws.Listing.{start, listed-run}
+
+pub root-node : (gens targets : List ℕ) (k limit : ℕ) (buffer : List ℕ) (b : Basis) (h : List ℕ) → Asked gens targets k → Holds (basisOf word targets) b → b .len ≤ k
+    → Mapped (reduce word (rowsOf b)) gens h
+    → Node gens (take (length gens) h) 0 (k - b .len) b (record { numbers = 0 ∷ 0 ∷ 0 ∷ 0 ∷ 0 ∷ 0 ∷ 0 ∷ 0 ∷ []; len = 0 }) (record { found = 0; shown = 0; at = 0 }) limit buffer
+unfolding residues
+root-node gens targets k limit buffer b h A B l M =
+    record {
+      left = M .is;
+      small = (let z = A .small in omega arith);
+      begin = omega arith;
+      valid = B .valid;
+      tidy = record { whole = refl; room = omega (arith, A .near, holds-dim targets b B) };
+      sane = record { limited = omega arith; fewer = omega arith; inside = omega arith };
+    }
+
+pub listed-end : (gens targets : List ℕ) (k limit : ℕ) (buffer : List ℕ) (b : Basis) → Holds (basisOf word targets) b → b .len ≤ k → (t : Tally) (last : List ℕ)
+    → stateOf t last ≡ run limit (start buffer) (search gens k (rowsOf b) [] (length gens - 0) 0 (k - b .len))
+    → Listed gens targets k limit buffer last (record { ell = b .len; found = t .found; shown = t .shown })
+listed-end gens targets k limit buffer b B l t last q =
+    let e = holds-dim targets b B in
+    listed-run gens targets k limit buffer (omega (arith, e)) (b .len) e t last
+    (q
+    ∙ ap (λ (C : List ℕ). run limit (start buffer) (search gens k C [] (length gens - 0) 0 (k - b .len))) (B .is)
+    ∙ ap₂ (λ (n m : ℕ). run limit (start buffer) (search gens k (basisOf word targets) [] n 0 (k - m))) (let z : length gens - 0 ≡ length gens = omega arith in z) e)

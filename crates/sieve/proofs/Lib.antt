@@ -1,0 +1,2 @@
+-- What the proofs on residues share.
+mod Loops

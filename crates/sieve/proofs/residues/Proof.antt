@@ -1,0 +1,69 @@
+use mathlib.Core.Path.{refl}
+use lib.ListN.{length}
+use Prim.Native.Nat.{_-_}
+use Rattle.linear.specs.Basis.{reduce}
+use Rattle.linear.specs.Word.{word}
+use Rattle.bases.specs.Basis.{rowsOf}
+use Rattle.sieve.proofs.Loops.{Mapping, mapping-next, mapping-end}
+use native.Mathlib.Omega.{arith}
+use Rattle.sieve.proofs.residues.Statement.{statement}
+use Rattle.sieve.proofs.residues.Tie as tie
+use Rattle.sieve.proofs.residues.Reads as reads
+use Rattle.sieve.proofs.residues.Lts as lts
+use Rattle.bases.proofs.Basis.reduce.Reads as reduce-reads
+
+abbrev Inv-loop : tie.InvT-loop
+Inv-loop gens b out₀ i₀ out i = Mapping (reduce word (rowsOf b)) gens out i
+
+abbrev μ-loop : tie.MeasureT-loop
+μ-loop gens b out₀ i₀ out i = length gens - i
+
+loop-holds : tie.Need-loop-holds Inv-loop μ-loop
+loop-holds c = record { within = omega arith; whole = c .before .pre .2; done = refl }
+
+mul-reduce : tie.Need-mul-reduce Inv-loop μ-loop
+mul-reduce c = omega arith
+
+shared-slice-read-reduce : tie.Need-shared-slice-read-reduce Inv-loop μ-loop
+shared-slice-read-reduce c = omega arith
+
+reduce-requires : tie.Need-reduce-requires Inv-loop μ-loop
+reduce-requires c κs = c .before .before .before .before .pre .0
+
+mul-out : tie.Need-mul-out Inv-loop μ-loop
+mul-out c = omega arith
+
+element-write-out : tie.Need-element-write-out Inv-loop μ-loop
+element-write-out c = omega arith
+
+add-i : tie.Need-add-i Inv-loop μ-loop
+add-i c = omega arith
+
+loop-less : tie.Need-loop-less Inv-loop μ-loop
+loop-less c = omega arith
+
+loop-again : tie.Need-loop-again Inv-loop μ-loop
+loop-again c =
+    let s = c .before .before .before .before .before in
+    let l = c .before .before .before .loop in
+    mapping-next (reduce word (rowsOf (s .args .b))) (s .args .gens .now) (l .out) (l .i) (s .pre .1) (l .inv) (omega arith) (c .reduce .result) (c .reduce .ensures)
+
+returns : tie.Need-returns Inv-loop μ-loop
+returns c = let s = c .before .before .before in let l = c .before .loop in mapping-end (reduce word (rowsOf (s .args .b))) (s .args .gens .now) (l .out) (l .i) (l .inv) (omega arith)
+
+pub residues-spec : {M : Type 1} → statement M
+residues-spec =
+    tie.close
+    (tie.spec
+    Inv-loop
+    μ-loop
+    loop-holds
+    mul-reduce
+    shared-slice-read-reduce
+    reduce-requires
+    mul-out
+    element-write-out
+    add-i
+    loop-less
+    loop-again
+    returns)

@@ -1,0 +1,87 @@
+-- The marks of a node, one number after the other.
+--   barren-last                  with one dimension missing: a child whose generators don't make k rows is barren
+--   holds-length, holds-dim      how many rows a record has that holds a basis, and the basis of a list
+--   from-empty                   a list put into the empty basis makes its basis
+--   worth-off                    the mark of such a child
+--   judged-known, judged-worth   the mark of a known number, and of another
+--   sieved-start, sieved-next    no number is marked; one more
+-- Assumes nothing.
+use mathlib.Core.Path.{_≡_, refl, sym, ap, ap₂, _∙_, subst}
+use mathlib.Core.Logic.{_≢_, inl, inr}
+use mathlib.Core.Bool.{true, false}
+use mathlib.Core.List.{List, [], _∷_}
+use Prim.Native.Nat.{ℕ, _+_, _<_, _≤_}
+use native.Mathlib.Omega.{arith}
+use native.Mathlib.Decide.{ℕ-discrete}
+use lib.ListN.{length, getD, set, length-set}
+use lib.Seq.{getD-set-same, getD-set-other}
+use Rattle.linear.specs.Basis.{reduce, insert, inserts, basisOf, Reduced, dim}
+use Rattle.linear.specs.Entry.{generator, chosen, generatorsIn}
+use Rattle.linear.specs.Word.{word}
+use Rattle.bases.specs.Basis.{rowsOf, Holds, rows-length}
+use Rattle.bases.specs.declared.Basis.{Basis}
+use Rattle.sieve.specs.Sieve.{residues, withResidue, known, Barren, Worth, Judged, Sieved}
+use Rattle.sieve.specs.laws.Child.{residue-at, child-dim}
+
+pub barren-last : (gens h : List ℕ) (j k r : ℕ) → r ≡ length (inserts word (basisOf word (withResidue 0 gens h)) (withResidue (getD h j 0) gens h)) → (r ≡ k → ⊥)
+    → Barren gens h j k 1
+barren-last gens h j k r d ne = record { none = λ C ρ l n es c q. last C ρ l n es (c .0) q }
+  where
+    f : ℕ
+    f = generator word gens j
+
+    none : (C : List ℕ) → inserts word (insert word C f) (chosen word gens []) ≡ insert word C f
+    none C = unfold inserts chosen in refl
+
+    last : (C : List ℕ) → Reduced word C → h ≡ residues gens C → reduce word C f ≢ 0 → (es : List ℕ) → length es ≡ 0
+        → dim word (generatorsIn word gens (inserts word (insert word C f) (chosen word gens es))) ≡ k → ⊥
+    last C ρ l n [] c q =
+        ne
+        (d
+        ∙ ap₂ (λ (y : ℕ) (v : List ℕ). length (inserts word (basisOf word (withResidue 0 gens v)) (withResidue y gens v))) (ap (λ (v : List ℕ). getD v j 0) l ∙ residue-at gens C j) l
+        ∙ child-dim gens C ρ f n ∙ ap (λ (W : List ℕ). dim word (generatorsIn word gens W)) (sym (none C)) ∙ q)
+    last C ρ l n (e ∷ es) c q = absurd (omega arith)
+
+-- ---- records of bases
+pub holds-length : (B : List ℕ) (b : Basis) → Holds B b → b .len ≡ length B
+holds-length B b H = sym (rows-length b (H .valid)) ∙ ap length (H .is)
+
+pub holds-dim : (xs : List ℕ) (b : Basis) → Holds (basisOf word xs) b → b .len ≡ dim word xs
+unfolding dim
+holds-dim xs b H = holds-length (basisOf word xs) b H
+
+pub from-empty : (xs : List ℕ) (e b : Basis) → Holds [] e → Holds (inserts word (rowsOf e) xs) b → Holds (basisOf word xs) b
+unfolding basisOf
+from-empty xs e b E H = record { valid = H .valid; is = H .is ∙ ap (λ (B : List ℕ). inserts word B xs) (E .is) }
+
+-- ---- one mark
+pub worth-off : (gens h : List ℕ) (j k missing : ℕ) (s r : Basis) → Holds (basisOf word (withResidue 0 gens h)) s
+    → Holds (inserts word (rowsOf s) (withResidue (getD h j 0) gens h)) r → missing ≡ 1 → (r .len ≡ k → ⊥) → Worth gens h j k missing 0
+worth-off gens h j k missing s r H G o ne =
+    record {
+      off = λ z.
+          subst (Barren gens h j k) (sym o)
+          (barren-last gens h j k (r .len)
+          (holds-length (inserts word (rowsOf s) (withResidue (getD h j 0) gens h)) r G ∙ ap (λ (B : List ℕ). length (inserts word B (withResidue (getD h j 0) gens h))) (H .is)) ne);
+    }
+
+pub judged-known : (gens h : List ℕ) (j k missing : ℕ) → true ≡ known h j → Judged gens h j k missing 0
+judged-known gens h j k missing e = record { off = λ z. inl e; on = λ n. absurd (n refl) }
+
+pub judged-worth : (gens h : List ℕ) (j k missing r : ℕ) → false ≡ known h j → Worth gens h j k missing r → Judged gens h j k missing r
+judged-worth gens h j k missing r e W = record { off = λ z. inr (W .off z); on = λ n. e }
+
+-- ---- all marks
+pub sieved-start : (gens h : List ℕ) (start k missing : ℕ) (marks : List ℕ) → length marks ≡ 4096 → Sieved gens h start start k missing marks
+sieved-start gens h start k missing marks w = record { whole = w; judged = λ j a b. absurd (omega arith) }
+
+pub sieved-next : (gens h : List ℕ) (start hi k missing : ℕ) (marks : List ℕ) → Sieved gens h start hi k missing marks → hi < 4096 → (r : ℕ) → Judged gens h hi k missing r
+    → Sieved gens h start (hi + 1) k missing (set marks hi r)
+sieved-next gens h start hi k missing marks S l r J =
+    record { whole = length-set marks hi r ∙ S .whole; judged = λ j a b. go j a b (ℕ-discrete j hi) }
+  where
+    go : (j : ℕ) → start ≤ j → j < hi + 1 → Dec (j ≡ hi) → Judged gens h j k missing (getD (set marks hi r) j 0)
+    go j a b (yes e) =
+        subst (λ (i : ℕ). Judged gens h i k missing (getD (set marks hi r) i 0)) (sym e)
+        (subst (λ (x : ℕ). Judged gens h hi k missing x) (sym (getD-set-same marks hi r 0 (omega (arith, S .whole)))) J)
+    go j a b (no e) = subst (λ (x : ℕ). Judged gens h j k missing x) (sym (getD-set-other marks hi j r 0 e)) (S .judged j a (omega arith))

@@ -1,0 +1,54 @@
+-- One entry kept, and one number pushed.
+-- pushed: the chain with one number more. chain-length: how many numbers it has.
+-- keep-full, keep-fits, keep-short: the limit is reached; the record fits; it doesn't.
+-- Assumes nothing.
+use mathlib.Core.Path.{_≡_, refl, sym, ap, ap₂, _∙_}
+use mathlib.Core.List.{List, _++_, append-assoc}
+use Prim.Native.Nat.{ℕ, _+_, _<_, _≤_}
+use native.Mathlib.Omega.{arith}
+use native.Mathlib.Numerals.{add-one}
+use lib.ListN.{length, take, drop, set, length-append, length-set}
+use lib.Seq.{paste, take-paste, drop-paste, take-length, drop-drop, take-suc-set, length-take-le}
+use Rattle.walk.specs.declared.Chain.{Chain}
+use Rattle.walk.specs.declared.Tally.{Tally}
+use Rattle.walk.specs.Records.{State, note}
+use Rattle.walk.specs.Walk.{chainOf, stateOf, Tidy, Pushed}
+use Rattle.walk.specs.laws.Records.{note-full, note-fits, note-short}
+
+pub pushed : (c : Chain) (j m : ℕ) → Tidy c m → 0 < m → Pushed c j (record { numbers = set (c .numbers) (c .len) j; len = c .len + 1 })
+pushed c j m T h =
+    record {
+      whole = length-set (c .numbers) (c .len) j ∙ T .whole;
+      more = refl;
+      is = ap (λ (k : ℕ). take k (set (c .numbers) (c .len) j)) (add-one (c .len)) ∙ take-suc-set (c .numbers) (c .len) j (omega (arith, T .whole, T .room));
+    }
+
+pub chain-length : (c : Chain) (m : ℕ) → Tidy c m → length (chainOf c) ≡ c .len
+chain-length c m T = length-take-le (c .len) (c .numbers) (omega (arith, T .whole, T .room))
+
+paste-paste : (d : List ℕ) (at : ℕ) (p q : List ℕ) → at + length p ≤ length d
+    → paste (paste d at p (length p)) (at + length p) q (length q) ≡ paste d at (p ++ q) (length (p ++ q))
+paste-paste d at p q h =
+    ap₂ (λ (x y : List ℕ). x ++ take (length q) q ++ y) (take-paste d at p (length p) (omega arith) (omega arith) ∙ ap (λ (x : List ℕ). take at d ++ x) (take-length p))
+    (sym (drop-drop (length q) (at + length p) (paste d at p (length p))) ∙ ap (drop (length q)) (drop-paste d at p (length p) (omega arith) (omega arith)) ∙ drop-drop (length q) (at + length p) d)
+    ∙ ap (λ (x : List ℕ). take at d ++ p ++ x ++ drop (at + length p + length q) d) (take-length q)
+    ∙ ap₂ (λ (x : List ℕ) (n : ℕ). x ++ drop n d) (append-assoc (take at d) p q ∙ ap (λ (x : List ℕ). take at d ++ x) (sym (take-length (p ++ q)))) (let e : at + length p + length q ≡ at + length (p ++ q) = omega (arith, length-append p q) in e)
+
+module _ (limit : ℕ) (t : Tally) (out p q : List ℕ) where
+  pub keep-full : t .found ≡ limit → stateOf t out ≡ note limit (stateOf t out) (p ++ q)
+  keep-full e = sym (note-full limit (stateOf t out) (p ++ q) e)
+
+  pub keep-fits : (cl bl : ℕ) (mid last : List ℕ) → cl ≡ length p → bl ≡ length q → (t .found ≡ limit → ⊥) → t .at + (cl + bl) ≤ length out
+      → mid ≡ paste out (t .at) p (length p) → last ≡ paste mid (t .at + cl) q (length q)
+      → stateOf (record { found = t .found + 1; shown = t .shown + 1; at = t .at + (cl + bl) }) last ≡ note limit (stateOf t out) (p ++ q)
+  keep-fits cl bl mid last ec eb n h em el =
+      let la : length (p ++ q) ≡ length p + length q = length-append p q in
+      let e : last ≡ paste out (t .at) (p ++ q) (length (p ++ q)) =
+      el ∙ ap₂ (λ (x : List ℕ) (y : ℕ). paste x (t .at + y) q (length q)) em ec ∙ paste-paste out (t .at) p q (omega arith) in
+      let a : t .at + (cl + bl) ≡ t .at + length (p ++ q) = omega arith in
+      ap₂ (λ (x : ℕ) (y : List ℕ). stateOf (record { found = t .found + 1; shown = t .shown + 1; at = x }) y) a e
+      ∙ sym (note-fits limit (stateOf t out) (p ++ q) n (omega arith))
+
+  pub keep-short : (cl bl : ℕ) → cl ≡ length p → bl ≡ length q → (t .found ≡ limit → ⊥) → length out < t .at + (cl + bl)
+      → stateOf (record { found = t .found + 1; shown = t .shown; at = t .at }) out ≡ note limit (stateOf t out) (p ++ q)
+  keep-short cl bl ec eb n h = sym (note-short limit (stateOf t out) (p ++ q) n (omega (arith, length-append p q)))

@@ -1,0 +1,3 @@
+-- What the proofs of the walk share.
+mod Keeping
+mod Going

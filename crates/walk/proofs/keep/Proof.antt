@@ -1,0 +1,134 @@
+-- `walk::keep` meets its contract: the entry is counted up to the limit, and written where it fits. Assumes nothing.
+use native.Mathlib.Omega.{arith}
+use mathlib.Core.Path.{_≡_, refl, sym, ap, ap₂, _∙_, subst}
+use mathlib.Core.Logic.{_≢_, ⊎-elim}
+use mathlib.Core.List.{List}
+use Prim.Native.Nat.{ℕ, _+_, _-_, _<_, _≤_, _^_}
+use lib.ListN.{length, getD, take, drop, set, length-set}
+use Rattle.bases.specs.Basis.{rowsOf, rows-length}
+use Rattle.walk.specs.Walk.{chainOf}
+use Rattle.walk.proofs.Keeping.{chain-length, keep-full, keep-fits, keep-short}
+use borrow.Author.Needs.{needs}
+use Rattle.walk.proofs.keep.Statement.{statement}
+use Rattle.walk.proofs.keep.Tie as tie
+use Rattle.walk.proofs.keep.Reads as reads
+use Rattle.walk.proofs.keep.Lts as lts
+use Rattle.walk.proofs.copy.Reads as copy-reads
+
+returns : tie.Need-returns
+returns c = keep-full (c .before .before .before .args .limit) (c .before .before .before .args .t) (c .before .before .before .args .out .now) (chainOf (c .before .before .before .args .c)) (rowsOf (c .before .before .before .args .b)) (c .if1 .taken)
+
+sub-if2 : tie.Need-sub-if2
+sub-if2 c = search needs
+
+add-if2 : tie.Need-add-if2
+add-if2 c = search needs
+
+add-t15 : tie.Need-add-t15
+add-t15 c = search needs
+
+returns-2 : tie.Need-returns-2
+returns-2 c =
+    let s = c .before .before .before .before .before in
+    let t = s .args .t in
+    let o = s .args .out .now in
+    let p = chainOf (s .args .c) in
+    let q = rowsOf (s .args .b) in
+    let ec : s .args .c .len ≡ length p = sym (chain-length (s .args .c) 0 (s .pre .tidy)) in
+    let eb : s .args .b .len ≡ length q = sym (rows-length (s .args .b) (s .pre .valid)) in
+    let i : t .at ≤ length o = s .pre .sane .inside in
+    keep-short (s .args .limit) t o p q (s .args .c .len) (s .args .b .len) ec eb (c .before .before .if1 .left) (omega (arith, c .before .if2 .taken))
+
+array-share-prefix-numbers : tie.Need-array-share-prefix-numbers
+array-share-prefix-numbers c = search needs
+
+slice-aggregate-copy : tie.Need-slice-aggregate-copy
+slice-aggregate-copy c = sym (chain-length (c .before .before .before .before .before .before .args .c) 0 (c .before .before .before .before .before .before .pre .tidy))
+
+copy-requires : tie.Need-copy-requires
+copy-requires c κs =
+    let s = c .before .before .before .before .before .before .before in
+    let t = s .args .t in
+    let o = s .args .out .now in
+    let p = chainOf (s .args .c) in
+    let q = rowsOf (s .args .b) in
+    let ec : s .args .c .len ≡ length p = sym (chain-length (s .args .c) 0 (s .pre .tidy)) in
+    let eb : s .args .b .len ≡ length q = sym (rows-length (s .args .b) (s .pre .valid)) in
+    let i : t .at ≤ length o = s .pre .sane .inside in
+    let k : s .args .c .len + s .args .b .len ≤ length o - t .at = c .before .before .before .if2 .left in
+    omega (arith, ec, k, i)
+
+array-share-prefix-rows : tie.Need-array-share-prefix-rows
+array-share-prefix-rows c = search needs
+
+slice-aggregate-copy-2 : tie.Need-slice-aggregate-copy-2
+slice-aggregate-copy-2 c = sym (rows-length (c .before .before .before .before .before .before .before .before .before .before .before .before .args .b) (c .before .before .before .before .before .before .before .before .before .before .before .before .pre .valid))
+
+add-copy : tie.Need-add-copy
+add-copy c = search needs
+
+copy-requires-2 : tie.Need-copy-requires-2
+copy-requires-2 c κs =
+    let s = c .before .before .before .before .before .before .before .before .before .before .before .before .before in
+    let t = s .args .t in
+    let o = s .args .out .now in
+    let p = chainOf (s .args .c) in
+    let q = rowsOf (s .args .b) in
+    let ec : s .args .c .len ≡ length p = sym (chain-length (s .args .c) 0 (s .pre .tidy)) in
+    let eb : s .args .b .len ≡ length q = sym (rows-length (s .args .b) (s .pre .valid)) in
+    let i : t .at ≤ length o = s .pre .sane .inside in
+    let k : s .args .c .len + s .args .b .len ≤ length o - t .at = c .before .before .before .before .before .before .before .before .before .if2 .left in
+    let z = c .before .before .before .before .before .copy .kept .1 .0 in
+    omega (arith, eb, k, i, z)
+
+add-t25 : tie.Need-add-t25
+add-t25 c = search needs
+
+add-t13 : tie.Need-add-t13
+add-t13 c = search needs
+
+add-t12 : tie.Need-add-t12
+add-t12 c = search needs
+
+add-t14 : tie.Need-add-t14
+add-t14 c = search needs
+
+same-length : tie.Need-same-length
+same-length c = search needs
+
+returns-3 : tie.Need-returns-3
+returns-3 c =
+    let s = c .before .before .before .before .before .before .before .before .before .before .before .before .before .before .before .before .before .before in
+    let t = s .args .t in
+    let o = s .args .out .now in
+    let p = chainOf (s .args .c) in
+    let q = rowsOf (s .args .b) in
+    let ec : s .args .c .len ≡ length p = sym (chain-length (s .args .c) 0 (s .pre .tidy)) in
+    let eb : s .args .b .len ≡ length q = sym (rows-length (s .args .b) (s .pre .valid)) in
+    let i : t .at ≤ length o = s .pre .sane .inside in
+    let k : s .args .c .len + s .args .b .len ≤ length o - t .at = c .before .before .before .before .before .before .before .before .before .before .before .before .before .before .if2 .left in
+    keep-fits (s .args .limit) t o p q (s .args .c .len) (s .args .b .len) (c .before .before .before .before .before .before .before .before .before .before .copy .last .1 .0) (c .before .before .before .before .copy2 .last .1 .0) ec eb (c .before .before .before .before .before .before .before .before .before .before .before .before .before .before .before .if1 .left)
+    (omega (arith, k, i)) (c .before .before .before .before .before .before .before .before .before .before .copy .ensures) (c .before .before .before .before .copy2 .ensures)
+
+pub keep-spec : {M : Type 1} → statement M
+keep-spec =
+    tie.close
+    (tie.spec
+    returns
+    sub-if2
+    add-if2
+    add-t15
+    returns-2
+    array-share-prefix-numbers
+    slice-aggregate-copy
+    copy-requires
+    array-share-prefix-rows
+    slice-aggregate-copy-2
+    add-copy
+    copy-requires-2
+    add-t25
+    add-t13
+    add-t12
+    add-t14
+    same-length
+    returns-3)

@@ -1,0 +1,4 @@
+-- The walk that finds every entry.
+pub mod Records
+pub mod Walk
+pub mod laws

@@ -1,0 +1,11 @@
+pub use Rattle.walk.proofs.Chain.Laws.{
+  mir,
+  lowered,
+  the-laws,
+  the-copy,
+  the-plain,
+  lowers,
+  the-field-laws,
+  the-field-copy,
+  the-field-plain,
+}

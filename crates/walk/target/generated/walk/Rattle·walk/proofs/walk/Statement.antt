@@ -1,0 +1,1 @@
+pub use Rattle.walk.proofs.walk.Statement.{statement}

@@ -1,0 +1,1 @@
+pub use Rattle.walk.specs.declared.Tally.{Tally}
