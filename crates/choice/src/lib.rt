@@ -5,7 +5,7 @@ ghost use Prim.Native.Nat.{_+_, _<_, _≤_};
 ghost use lib.ListN.{length};
 ghost use lib.Seq.{paste};
 ghost use Rattle.linear.specs.Word.{word};
-ghost use Rattle.linear.specs.Formulae.{missed};
+ghost use Rattle.linear.specs.Select.{anyOf};
 ghost use mathlib.Core.Bool.{not, _&&_};
 ghost use Rattle.linear.specs.Entry.{inside};
 ghost use Rattle.linear.specs.laws.Extension.{extension};
@@ -23,11 +23,11 @@ pub struct Choice {
     pub len: usize,
 }
 
-// Whether some target is no sum of generators.
-pub fn misses(gens: &[u64], targets: &[u64]) -> bool
-    ensures { λ r. ⌜ r ≡ missed word (now (gens .entry)) (now (targets .entry)) ⌝ }
+// Whether some target is not in the span of `b`.
+pub fn misses(b: Basis, targets: &[u64]) -> bool
+    requires { ⌜ Valid b ⌝ }
+    ensures { λ r. ⌜ r ≡ anyOf (λ t. not (inside word (rowsOf b) t)) (now (targets .entry)) ⌝ }
 {
-    let b = bases::basis_of(gens);
     let mut i = 0;
     while i < targets.len() {
         if !b.contains(targets[i]) {

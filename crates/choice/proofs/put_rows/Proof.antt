@@ -3,7 +3,7 @@ use native.Mathlib.Omega.{arith}
 use Prim.Native.Nat.{_-_}
 use lib.ListN.{length}
 use Rattle.rows.specs.Rows.{rowOf}
-use Rattle.choice.specs.laws.Missing.{Writing, writing-start, writing-next, writing-end}
+use Rattle.choice.specs.laws.Writing.{Writing, writing-start, writing-next, writing-end}
 use Rattle.choice.proofs.put_rows.Statement.{statement}
 use Rattle.choice.proofs.put_rows.Tie as tie
 use Rattle.choice.proofs.put_rows.Reads as reads

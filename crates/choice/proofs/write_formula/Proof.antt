@@ -1,7 +1,7 @@
 -- `choice::write_formula` meets its contract. Assumes nothing.
 use borrow.Author.Needs.{needs}
 use native.Mathlib.Omega.{arith}
-use Rattle.choice.specs.laws.Missing.{numbers-length, forms-length, record-written}
+use Rattle.choice.specs.laws.Writing.{numbers-length, forms-length, record-written}
 use Rattle.choice.proofs.write_formula.Statement.{statement}
 use Rattle.choice.proofs.write_formula.Tie as tie
 use Rattle.choice.proofs.write_formula.Reads as reads

@@ -1,0 +1,3 @@
+-- The fewest products, on forms.
+pub mod Fewest
+pub mod laws
