@@ -3,9 +3,8 @@ ghost use mathlib.Core.Path.{_≡_};
 ghost use Prim.Native.Nat.{_≤_};
 ghost use lib.ListN.{length, take};
 ghost use Rattle.kinds.specs.Kinds.{kindNumbered, seenKind};
-ghost use Rattle.words.specs.Masks.{wide, zeroIn};
-ghost use Rattle.formula.specs.Formula.{known, productForms, firstWrong, addersOf, judged, check};
 ghost use Rattle.forms.specs.Row.{rowForm};
+ghost use Rattle.formula.specs.Formula.{known, productForms, firstWrong, addersOf, judged, check};
 ghost use Rattle.formula.specs.Replies.{seenVerdict, seenReply, Judging, Fitting, Matching};
 ghost use Rattle.formula.specs.laws.Loops.{Filled};
 use kinds::Kind;
@@ -26,34 +25,6 @@ fn map_kind(number: u64) -> Known
         Kind::Circ => Known::Is(Kind::Circ),
         Kind::Mat => Known::Is(Kind::Mat),
     }
-}
-
-// Whether some mask has a bit outside its n bits.
-fn any_wide(masks: &[u64], n: u64) -> bool
-    ensures { λ r. ⌜ r ≡ wide n (now (masks .entry)) ⌝ }
-{
-    let mut i = 0;
-    while i < masks.len() {
-        if words::wider(false, masks[i], n as usize) {
-            return true;
-        }
-        i += 1;
-    }
-    false
-}
-
-// Whether some mask is zero.
-fn any_zero(masks: &[u64]) -> bool
-    ensures { λ r. ⌜ r ≡ zeroIn (now (masks .entry)) ⌝ }
-{
-    let mut i = 0;
-    while i < masks.len() {
-        if masks[i] == 0 {
-            return true;
-        }
-        i += 1;
-    }
-    false
 }
 
 // The adders of some masks: of w ones w - 1, of none 0.
@@ -174,19 +145,19 @@ fn judge(
     ensures { λ x. ⌜ judged kind p q r n m (length (now (rows .entry))) (length (now (a .entry))) (now (a .entry)) (now (b .entry)) (now (rows .entry)) ≡ seenReply x ⌝ }
 {
     let k = a.len();
-    if any_wide(a, n) {
+    if words::any_wide(a, n) {
         return Reply::Refused(6);
     }
-    if any_wide(b, m) {
+    if words::any_wide(b, m) {
         return Reply::Refused(6);
     }
-    if any_wide(rows, k as u64) {
+    if words::any_wide(rows, k as u64) {
         return Reply::Refused(6);
     }
-    if any_zero(a) {
+    if words::any_zero(a) {
         return Reply::Refused(7);
     }
-    if any_zero(b) {
+    if words::any_zero(b) {
         return Reply::Refused(7);
     }
     if 64 < k {

@@ -3,6 +3,7 @@
 --   firstMask m j, secondMask m j == the masks A and B of the generator number j
 --   numbered m A B        == the number of the generator with the masks A and B
 --   generatorForm n m j   == the form of the generator number j
+--   listOf f i c          == f i, f (i + 1), .., c of them
 --   generatorForms n m    == the forms of all of them, in order
 --   countOf n m           == their number, if it is at most 4095
 -- Document 01: "Except for list, the menu is every product of a nonzero sum of a's and a nonzero sum of b's. With those sums as bit masks A
@@ -12,6 +13,7 @@
 --   masks-in-range    the masks of a number below the count are nonzero and have n and m bits
 --   number-in-range   the number of such masks is below the count
 --   generator-below   a generator has n × m bits
+--   length-listOf, at-listOf   a list so made has c members, and f (i + j) at j
 --   forms-length, forms-at   the list has as many forms as there are generators, and the form of generator j at j
 -- Assumes nothing.
 use mathlib.Core.Path.{_≡_, refl, sym, ap, ap₂, _∙_, subst}
@@ -44,7 +46,6 @@ numbered m A B = (A - 1) * (2 ^ m - 1) + (B - 1)
 unfoldable pub generatorForm : ℕ → ℕ → ℕ → ℕ
 generatorForm n m j = productForm n m (firstMask m j) (secondMask m j)
 
--- f i, f (i + 1), .., c of them
 unfoldable pub listOf : (ℕ → ℕ) → ℕ → ℕ → List ℕ
 listOf f i zero = []
 listOf f i (suc c) = f i ∷ listOf f (suc i) c
@@ -124,12 +125,12 @@ unfolding generatorForm
 generator-below n m j = product-below n m (firstMask m j) (secondMask m j)
 
 -- ---- the list
-length-listOf : (f : ℕ → ℕ) (i c : ℕ) → length (listOf f i c) ≡ c
+pub length-listOf : (f : ℕ → ℕ) (i c : ℕ) → length (listOf f i c) ≡ c
 unfolding listOf
 length-listOf f i zero = refl
 length-listOf f i (suc c) = ap suc (length-listOf f (suc i) c)
 
-at-listOf : (f : ℕ → ℕ) (i c j : ℕ) → j < c → getD (listOf f i c) j 0 ≡ f (i + j)
+pub at-listOf : (f : ℕ → ℕ) (i c j : ℕ) → j < c → getD (listOf f i c) j 0 ≡ f (i + j)
 unfolding listOf
 at-listOf f i zero j h = absurd (omega arith)
 at-listOf f i (suc c) zero h = ap f (sym (add-zero i))

@@ -1,3 +1,4 @@
 -- Proofs about masks and buffers.
 pub mod Masks
 pub mod Buffers
+pub mod Scan

@@ -5,7 +5,7 @@ ghost use Prim.Native.Nat.{_+_, _≤_};
 ghost use lib.ListN.{length, set, replicate};
 ghost use lib.Seq.{paste};
 ghost use lib.Dec.{eqb};
-ghost use Rattle.words.specs.Masks.{outside};
+ghost use Rattle.words.specs.Masks.{outside, wide, zeroIn};
 
 // The word x at place i, where there is one.
 pub fn put_word(a: &mut [u64], i: usize, x: u64)
@@ -60,4 +60,32 @@ pub fn nil(z: bool, x: u64) -> bool
         return true;
     }
     x == 0
+}
+
+// Whether some mask has a bit outside its n bits.
+pub fn any_wide(masks: &[u64], n: u64) -> bool
+    ensures { λ r. ⌜ r ≡ wide n (now (masks .entry)) ⌝ }
+{
+    let mut i = 0;
+    while i < masks.len() {
+        if wider(false, masks[i], n as usize) {
+            return true;
+        }
+        i += 1;
+    }
+    false
+}
+
+// Whether some mask is zero.
+pub fn any_zero(masks: &[u64]) -> bool
+    ensures { λ r. ⌜ r ≡ zeroIn (now (masks .entry)) ⌝ }
+{
+    let mut i = 0;
+    while i < masks.len() {
+        if masks[i] == 0 {
+            return true;
+        }
+        i += 1;
+    }
+    false
 }

@@ -1,15 +1,15 @@
--- `formula::any_wide` meets its contract. Assumes nothing.
+-- `words::any_wide` meets its contract. Assumes nothing.
 use mathlib.Core.Path.{_≡_, refl, sym, _∙_}
 use Prim.Native.Nat.{_-_, _≤_}
 use lib.ListN.{length, drop}
 use borrow.Author.Needs.{needs}
 use Rattle.words.specs.Masks.{wide}
-use Rattle.formula.specs.laws.Loops.{wide-here, wide-later, wide-end}
+use Rattle.words.specs.laws.Scan.{wide-here, wide-later, wide-end}
 use native.Mathlib.Omega.{arith}
-use Rattle.formula.proofs.any_wide.Statement.{statement}
-use Rattle.formula.proofs.any_wide.Tie as tie
-use Rattle.formula.proofs.any_wide.Reads as reads
-use Rattle.formula.proofs.any_wide.Lts as lts
+use Rattle.words.proofs.any_wide.Statement.{statement}
+use Rattle.words.proofs.any_wide.Tie as tie
+use Rattle.words.proofs.any_wide.Reads as reads
+use Rattle.words.proofs.any_wide.Lts as lts
 
 abbrev Inv-loop : tie.InvT-loop
 Inv-loop masks n i₀ i = (i ≤ length masks) × (wide n (drop i masks) ≡ wide n masks)

@@ -1,14 +1,14 @@
--- `formula::any_zero` meets its contract. Assumes nothing.
+-- `words::any_zero` meets its contract. Assumes nothing.
 use mathlib.Core.Path.{_≡_, refl}
 use Prim.Native.Nat.{_-_, _≤_}
 use lib.ListN.{length, drop}
 use Rattle.words.specs.Masks.{zeroIn}
-use Rattle.formula.specs.laws.Loops.{zero-here, zero-later, zero-end}
+use Rattle.words.specs.laws.Scan.{zero-here, zero-later, zero-end}
 use native.Mathlib.Omega.{arith}
-use Rattle.formula.proofs.any_zero.Statement.{statement}
-use Rattle.formula.proofs.any_zero.Tie as tie
-use Rattle.formula.proofs.any_zero.Reads as reads
-use Rattle.formula.proofs.any_zero.Lts as lts
+use Rattle.words.proofs.any_zero.Statement.{statement}
+use Rattle.words.proofs.any_zero.Tie as tie
+use Rattle.words.proofs.any_zero.Reads as reads
+use Rattle.words.proofs.any_zero.Lts as lts
 
 abbrev Inv-loop : tie.InvT-loop
 Inv-loop masks i₀ i = (i ≤ length masks) × (zeroIn (drop i masks) ≡ zeroIn masks)

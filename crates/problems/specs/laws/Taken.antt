@@ -1,0 +1,112 @@
+-- What an accepted problem is like, kind by kind.
+--   ListTaken ..     == the list's forms have the right numbers and widths, and no generator is zero or stands twice
+--   MapTaken ..      == the map has at most 4,095 generators, no list was handed in, and the further forms have n × m bits
+--   listed-taken, mapped-taken   an accepted list or map is such, and is the problem that the definition says
+--   posed-kind       an accepted problem has a kind and sizes
+-- Assumes nothing.
+use mathlib.Core.Path.{_≡_, refl, sym, ap, _∙_}
+use mathlib.Core.Bool.{Bool, true, false, not, _||_, true≢false}
+use mathlib.Core.List.{List}
+use mathlib.Core.Option.{Option, some}
+use Prim.Native.Nat.{ℕ, _*_, _≤_}
+use native.Mathlib.Omega.{arith}
+use lib.ListN.{length}
+use lib.Dec.{eqb, ltb}
+use borrow.Author.Tests.{ltb-false, eqb-true, not-false}
+use Rattle.kinds.specs.Kinds.{kindNumbered}
+use Rattle.kinds.specs.Sizes.{sizes}
+use Rattle.kinds.specs.Refusal.{Answer, accepted, need, refuse}
+use Rattle.kinds.specs.RefusalLaws.{accepted-inj, need-inv, refuse-inv}
+use Rattle.kinds.specs.declared.Kind.{Kind}
+use Rattle.words.specs.Masks.{wide, zeroIn}
+use Rattle.maps.specs.Generators.{generatorForms, generatorCount, countOf}
+use Rattle.problems.specs.Problem.{Problem, problem, targetForms, repeats, unlike, listed, mapped, sorted, posed}
+use Rattle.problems.specs.laws.Refusals.{counted}
+
+neither : (a b : Bool) → a || b ≡ false → (a ≡ false) × (b ≡ false)
+neither true b e = absurd (true≢false e)
+neither false b e = (refl, e)
+
+like : (c u : ℕ) (gs ts : List ℕ) → unlike c u gs ts ≡ false → (length gs ≡ c) × (length ts ≡ u)
+like c u gs ts e =
+    let n = neither (not (eqb (length gs) c)) (not (eqb (length ts) u)) e in
+    (eqb-true (length gs) c (not-false (eqb (length gs) c) (n .0)), eqb-true (length ts) u (not-false (eqb (length ts) u) (n .1)))
+
+pub record ListTaken (p q r : ℕ) (gs ts others : List ℕ) (P : Problem) : Type 0 where
+  pub is : P ≡ problem gs ts
+  pub few : q ≤ 4095
+  pub generators : length gs ≡ q
+  pub targets : length ts ≡ r
+  pub generators-fit : wide p gs ≡ false
+  pub targets-fit : wide p ts ≡ false
+  pub others-fit : wide p others ≡ false
+  pub no-zero : zeroIn gs ≡ false
+  pub no-repeat : repeats gs ≡ false
+
+pub listed-taken : (p q r : ℕ) (gs ts others : List ℕ) (P : Problem) → listed p q r gs ts others ≡ accepted P → ListTaken p q r gs ts others P
+unfolding listed
+listed-taken p q r gs ts others P e =
+    let seven : Answer Problem = refuse 7 (zeroIn gs || repeats gs) (accepted (problem gs ts)) in
+    let six : Answer Problem = refuse 6 (wide p gs || (wide p ts || wide p others)) seven in
+    let a = refuse-inv 4 (ltb 4095 q) (refuse 5 (unlike q r gs ts) six) P e in
+    let b = refuse-inv 5 (unlike q r gs ts) six P (a .1) in
+    let c = refuse-inv 6 (wide p gs || (wide p ts || wide p others)) seven P (b .1) in
+    let d = refuse-inv 7 (zeroIn gs || repeats gs) (accepted (problem gs ts)) P (c .1) in
+    let l = like q r gs ts (b .0) in
+    let w = neither (wide p gs) (wide p ts || wide p others) (c .0) in
+    let v = neither (wide p ts) (wide p others) (w .1) in
+    let z = neither (zeroIn gs) (repeats gs) (d .0) in
+    record {
+      is = sym (accepted-inj (problem gs ts) P (d .1));
+      few = ltb-false 4095 q (a .0);
+      generators = l .0;
+      targets = l .1;
+      generators-fit = w .0;
+      targets-fit = v .0;
+      others-fit = v .1;
+      no-zero = z .0;
+      no-repeat = z .1;
+    }
+
+pub record MapTaken (kd : Kind) (p q r n m u : ℕ) (gs ts others : List ℕ) (P : Problem) : Type 0 where
+  pub is : P ≡ problem (generatorForms n m) (targetForms kd p q r n m u)
+  pub few : generatorCount n m ≤ 4095
+  pub no-generators : length gs ≡ 0
+  pub no-targets : length ts ≡ 0
+  pub others-fit : wide (n * m) others ≡ false
+
+pub mapped-taken : (kd : Kind) (p q r n m u : ℕ) (gs ts others : List ℕ) (P : Problem) → mapped kd p q r n m u gs ts others ≡ accepted P
+    → MapTaken kd p q r n m u gs ts others P
+unfolding mapped
+mapped-taken kd p q r n m u gs ts others P e =
+    let made : Problem = problem (generatorForms n m) (targetForms kd p q r n m u) in
+    let six : Answer Problem = refuse 6 (wide (n * m) others) (accepted made) in
+    let a = need-inv 4 (countOf n m) (λ c. refuse 5 (unlike 0 0 gs ts) six) P e in
+    let b = refuse-inv 5 (unlike 0 0 gs ts) six P (a .2) in
+    let c = refuse-inv 6 (wide (n * m) others) (accepted made) P (b .1) in
+    let l = like 0 0 gs ts (b .0) in
+    let f = counted n m (a .0) (a .1) in
+    record {
+      is = sym (accepted-inj made P (c .1));
+      few = (let g = f .0 in let h = f .1 in omega arith);
+      no-generators = l .0;
+      no-targets = l .1;
+      others-fit = c .0;
+    }
+
+pub record Kinded (number p q r : ℕ) (gs ts others : List ℕ) (P : Problem) : Type 0 where
+  pub kd : Kind
+  pub n : ℕ
+  pub m : ℕ
+  pub u : ℕ
+  pub named : kindNumbered number ≡ some kd
+  pub sized : sizes kd p q r ≡ some (n, m, u)
+  pub rest : sorted kd p q r n m u gs ts others ≡ accepted P
+
+pub posed-kind : (number p q r : ℕ) (gs ts others : List ℕ) (P : Problem) → posed number p q r gs ts others ≡ accepted P → Kinded number p q r gs ts others P
+unfolding posed
+posed-kind number p q r gs ts others P e =
+    let after : Kind → ℕ × ℕ × ℕ → Answer Problem = λ kd z. sorted kd p q r (z .0) (z .1) (z .2) gs ts others in
+    let a = need-inv 2 (kindNumbered number) (λ kd. need 3 (sizes kd p q r) (after kd)) P e in
+    let b = need-inv 3 (sizes (a .0) p q r) (after (a .0)) P (a .2) in
+    record { kd = a .0; n = b .0 .0; m = b .0 .1; u = b .0 .2; named = a .1; sized = b .1; rest = b .2 }
