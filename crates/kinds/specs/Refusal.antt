@@ -2,6 +2,7 @@
 --   Answer A        == refused by a number of the list, or accepted with a value
 --   need e o f      == refused by e where there is no value, else what f says of it
 --   refuse e b o    == refused by e where the test holds, else o
+--   follow o f      == refused as o is, else what f says of its value
 -- The list, by number:
 --   1 the first two lines are not as they should be      7 a generator is zero or repeats one, or a factor is zero
 --   2 the kind is unknown, or is list in a formula       8 k exceeds what is allowed
@@ -25,3 +26,7 @@ need e (some a) f = f a
 abbrev pub refuse : {A : Type 0} → ℕ → Bool → Answer A → Answer A
 refuse e true o = refused e
 refuse e false o = o
+
+abbrev pub follow : {A B : Type 0} → Answer A → (A → Answer B) → Answer B
+follow (refused e) f = refused e
+follow (accepted a) f = f a

@@ -11,7 +11,7 @@ use lib.ListN.{length, take, drop, set, length-append, length-set}
 use lib.Seq.{paste, take-paste, drop-paste, take-length, drop-drop, take-suc-set, length-take-le}
 use Rattle.walk.specs.declared.Chain.{Chain}
 use Rattle.walk.specs.declared.Tally.{Tally}
-use Rattle.walk.specs.Records.{State, note}
+use Rattle.walk.specs.Records.{note}
 use Rattle.walk.specs.Walk.{chainOf, stateOf, Tidy, Pushed}
 use Rattle.walk.specs.laws.Records.{note-full, note-fits, note-short}
 

@@ -2,9 +2,8 @@
 use bases::Basis;
 ghost use mathlib.Core.Path.{_≡_};
 ghost use mathlib.Core.List.{_++_};
-ghost use Prim.Native.Nat.{_+_, _-_, _≤_};
+ghost use Prim.Native.Nat.{_+_, _-_};
 ghost use lib.ListN.{length};
-ghost use lib.Seq.{paste};
 ghost use Rattle.bases.specs.Basis.{rowsOf};
 ghost use Rattle.walk.specs.Records.{note, run};
 ghost use Rattle.walk.specs.Walk.{search, chainOf, stateOf, Tidy, Pushed, Keeping, Node};
@@ -20,18 +19,6 @@ pub struct Tally {
     pub found: u64,
     pub shown: usize,
     pub at: usize,
-}
-
-// Copies `src` into `out`, from `at` on.
-fn copy(src: &[u64], out: &mut [u64], at: usize)
-    requires { ⌜ at + length (now src) ≤ length (now out) ⌝ }
-    ensures { λ _. ⌜ now (out .exit) ≡ paste (now (out .entry)) at (now (src .entry)) (length (now (src .entry))) ⌝ }
-{
-    let mut i = 0;
-    while i < src.len() {
-        out[at + i] = src[i];
-        i += 1;
-    }
 }
 
 // One number more.
@@ -67,9 +54,9 @@ fn keep(b: Basis, c: Chain, t: Tally, limit: u64, out: &mut [u64]) -> Tally
         };
     }
     let numbers = c.numbers;
-    copy(&numbers[..cl], out, at);
+    words::copy(&numbers[..cl], out, at);
     let rows = b.rows;
-    copy(&rows[..bl], out, at + cl);
+    words::copy(&rows[..bl], out, at + cl);
     Tally {
         found: t.found + 1,
         shown: t.shown + 1,

@@ -12,11 +12,10 @@ use mathlib.Core.Logic.{_⊎_, inl, inr}
 use mathlib.Core.Bool.{Bool, true, false, cond, _&&_, false≢true, and-eq-true-iff}
 use mathlib.Core.List.{List, [], _∷_, _++_, map, List·Memᴰ, List·Memᴰ·head, List·Memᴰ·tail, List·Memᴰ·not-nil, List·Memᴰ·cases-cons, append-nil, append-assoc}
 use Prim.Native.Nat.{ℕ, zero, suc, _-_}
-use native.Mathlib.Omega.{arith}
 use lib.ListN.{length}
 use lib.Dec.{eqb}
 use borrow.Author.Tests.{eqb-true, eq-eqb}
-use Rattle.linear.specs.Space.{Field, Space}
+use Rattle.linear.specs.Space.{Space}
 use Rattle.linear.specs.Span.{Span}
 use Rattle.linear.specs.Basis.{insert, inserts, basisOf, Reduced, dim}
 use Rattle.linear.specs.Order.{Before, risingLists, Ordered}

@@ -14,9 +14,7 @@ use lib.ListN.{length, length-append}
 use lib.Dec.{eqb}
 use borrow.Author.Tests.{eq-eqb, eqb-true, eqb-false}
 use Rattle.linear.specs.Space.{Field, Space}
-use Rattle.linear.specs.Span.{Span}
 use Rattle.linear.specs.Basis.{reduce, insert, inserts, basisOf, Reduced, dim}
-use Rattle.linear.specs.Order.{Rising}
 use Rattle.linear.specs.Entry.{generatorsIn, generator, chosen, space, fits, entries}
 use Rattle.linear.specs.Walk.{Next, spans, walk}
 use Rattle.linear.specs.laws.Space.{scale-nul}

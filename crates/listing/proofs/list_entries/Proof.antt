@@ -9,11 +9,6 @@ use Rattle.listing.proofs.Root.{root-node, listed-end}
 use borrow.Author.Needs.{needs}
 use Rattle.listing.proofs.list_entries.Statement.{statement}
 use Rattle.listing.proofs.list_entries.Tie as tie
-use Rattle.listing.proofs.list_entries.Reads as reads
-use Rattle.listing.proofs.list_entries.Lts as lts
-use Rattle.bases.proofs.basis_of.Reads as basis-of-reads
-use Rattle.sieve.proofs.residues.Reads as residues-reads
-use Rattle.walk.proofs.walk.Reads as walk-reads
 
 basis-of-requires : tie.Need-basis-of-requires
 basis-of-requires c κs = search needs

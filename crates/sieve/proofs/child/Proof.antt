@@ -1,3 +1,4 @@
+-- `sieve::child` meets its contract: the words so far are the residues, cleared. Assumes nothing.
 use mathlib.Core.Path.{refl}
 use lib.ListN.{length}
 use Prim.Native.Nat.{_-_}
@@ -7,9 +8,6 @@ use Rattle.sieve.proofs.Loops.{Mapping, mapping-next, mapping-end}
 use native.Mathlib.Omega.{arith}
 use Rattle.sieve.proofs.child.Statement.{statement}
 use Rattle.sieve.proofs.child.Tie as tie
-use Rattle.sieve.proofs.child.Reads as reads
-use Rattle.sieve.proofs.child.Lts as lts
-use Rattle.forms.proofs.clear.Reads as clear-reads
 
 abbrev Inv-loop : tie.InvT-loop
 Inv-loop h x out₀ i₀ out i = Mapping (clear word x) h out i

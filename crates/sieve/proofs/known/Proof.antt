@@ -1,3 +1,4 @@
+-- `sieve::known` meets its contract: no residue so far is the one looked for. Assumes nothing.
 use mathlib.Core.Path.{_≡_, refl}
 use mathlib.Core.Logic.{_≢_}
 use Prim.Native.Nat.{ℕ, _-_, _<_, _≤_}
@@ -7,8 +8,6 @@ use Rattle.sieve.specs.laws.Known.{known-zero, known-found, known-none}
 use native.Mathlib.Omega.{arith}
 use Rattle.sieve.proofs.known.Statement.{statement}
 use Rattle.sieve.proofs.known.Tie as tie
-use Rattle.sieve.proofs.known.Reads as reads
-use Rattle.sieve.proofs.known.Lts as lts
 
 abbrev Inv-loop : tie.InvT-loop
 Inv-loop h j v i₀ i = (i ≤ j) × (v ≡ getD h j 0) × ((k : ℕ) → k < i → getD h k 0 ≢ v)

@@ -1,3 +1,4 @@
+-- `sieve::residues` meets its contract: the words so far are the residues. Assumes nothing.
 use mathlib.Core.Path.{refl}
 use lib.ListN.{length}
 use Prim.Native.Nat.{_-_}
@@ -8,9 +9,6 @@ use Rattle.sieve.proofs.Loops.{Mapping, mapping-next, mapping-end}
 use native.Mathlib.Omega.{arith}
 use Rattle.sieve.proofs.residues.Statement.{statement}
 use Rattle.sieve.proofs.residues.Tie as tie
-use Rattle.sieve.proofs.residues.Reads as reads
-use Rattle.sieve.proofs.residues.Lts as lts
-use Rattle.bases.proofs.Basis.reduce.Reads as reduce-reads
 
 abbrev Inv-loop : tie.InvT-loop
 Inv-loop gens b out₀ i₀ out i = Mapping (reduce word (rowsOf b)) gens out i

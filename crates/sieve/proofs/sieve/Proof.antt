@@ -1,19 +1,13 @@
+-- `sieve::sieve` meets its contract: the numbers so far are marked. Assumes nothing.
 use mathlib.Core.Path.{_≡_, sym, _∙_, subst}
 use mathlib.Core.Logic.{⊎-elim}
-use mathlib.Core.List.{List}
 use Prim.Native.Nat.{ℕ, _+_, _-_, _<_, _≤_}
-use lib.ListN.{length, set}
+use lib.ListN.{length}
 use Rattle.sieve.specs.Sieve.{withResidue, Sieved}
 use Rattle.sieve.specs.laws.Marks.{from-empty, judged-known, judged-worth, sieved-start, sieved-next}
 use native.Mathlib.Omega.{arith}
 use Rattle.sieve.proofs.sieve.Statement.{statement}
 use Rattle.sieve.proofs.sieve.Tie as tie
-use Rattle.sieve.proofs.sieve.Reads as reads
-use Rattle.sieve.proofs.sieve.Lts as lts
-use Rattle.bases.proofs.Basis.empty.Reads as empty-reads
-use Rattle.sieve.proofs.known.Reads as known-reads
-use Rattle.sieve.proofs.with_residue.Reads as with-residue-reads
-use Rattle.sieve.proofs.worth.Reads as worth-reads
 
 abbrev Inv-loop : tie.InvT-loop
 Inv-loop gens h start k missing marks₀ s j₀ marks j = (start ≤ j) × (j ≤ length gens) × Sieved gens h start j k missing marks

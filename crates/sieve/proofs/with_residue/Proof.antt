@@ -1,3 +1,4 @@
+-- `sieve::with_residue` meets its contract: the generators to come, put into the basis so far, make the basis of all. Assumes nothing.
 use mathlib.Core.Path.{sym, subst}
 use mathlib.Core.Logic.{⊎-elim}
 use lib.ListN.{length}
@@ -8,9 +9,6 @@ use Rattle.sieve.proofs.Loops.{Putting, putting-start, putting-in, putt
 use native.Mathlib.Omega.{arith}
 use Rattle.sieve.proofs.with_residue.Statement.{statement}
 use Rattle.sieve.proofs.with_residue.Tie as tie
-use Rattle.sieve.proofs.with_residue.Reads as reads
-use Rattle.sieve.proofs.with_residue.Lts as lts
-use Rattle.bases.proofs.Basis.insert.Reads as insert-reads
 
 abbrev Inv-loop : tie.InvT-loop
 Inv-loop gens h x b₀ i₀ b i = Putting gens h x (rowsOf b₀) b i

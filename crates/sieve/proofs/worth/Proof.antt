@@ -1,11 +1,8 @@
+-- `sieve::worth` meets its contract: with one dimension missing the rows are those of the child. Assumes nothing.
 use native.Mathlib.Omega.{arith}
 use Rattle.sieve.specs.laws.Marks.{worth-off}
-use borrow.Author.Needs.{needs}
 use Rattle.sieve.proofs.worth.Statement.{statement}
 use Rattle.sieve.proofs.worth.Tie as tie
-use Rattle.sieve.proofs.worth.Reads as reads
-use Rattle.sieve.proofs.worth.Lts as lts
-use Rattle.sieve.proofs.with_residue.Reads as with-residue-reads
 
 returns : tie.Need-returns
 returns c = record { off = λ z. absurd (omega arith) }

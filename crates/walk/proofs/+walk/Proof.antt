@@ -36,13 +36,32 @@ walk-at t = and 3 walk-kinds.ps (is 3 walk-kinds.ps μ-walk t) walk.Pre
 abbrev walk-below : ℕ → In 3 walk-kinds.ps
 walk-below t = and 3 walk-kinds.ps (falls 3 walk-kinds.ps _<_ μ-walk t) walk.Pre
 
+-- what the calls ask and promise; the walk's own call is for fewer missing dimensions
+abbrev claims : ℕ → walk-lts.Claims
+claims t = (
+  spanned-reads.Asked,
+  spanned-reads.Learnt,
+  keep-reads.Asked,
+  keep-reads.Learnt,
+  sieve-reads.Asked,
+  sieve-reads.Learnt,
+  child-reads.Asked,
+  child-reads.Learnt,
+  insert-reads.Asked,
+  insert-reads.Learnt,
+  push-reads.Asked,
+  push-reads.Learnt,
+  walk-below t,
+  walk.Post,
+)
+
 abbrev walk-Inv-loop : walk-lts.InvT-loop
 walk-Inv-loop gens h start missing k b c limit out₀ n marks mine₀ u₀ j₀ out mine u j = (start ≤ j) × Going gens k (rowsOf b) (chainOf c) missing limit (run limit (stateOf u₀ out₀) (search gens k (rowsOf b) (chainOf c) (length gens - start) start missing)) (length out₀) j u out mine
 
 abbrev walk-μ-loop : walk-lts.MeasureT-loop
 walk-μ-loop gens h start missing k b c limit out₀ n marks mine₀ u₀ j₀ out mine u j = length gens - j
 
-walk-spanned-requires : (t : ℕ) → walk-lts.Need-spanned-requires (spanned-reads.Asked, spanned-reads.Learnt, keep-reads.Asked, keep-reads.Learnt, sieve-reads.Asked, sieve-reads.Learnt, child-reads.Asked, child-reads.Learnt, insert-reads.Asked, insert-reads.Learnt, push-reads.Asked, push-reads.Learnt, walk-below t, walk.Post) (walk-at t) walk.Post walk-Inv-loop walk-μ-loop
+walk-spanned-requires : (t : ℕ) → walk-lts.Need-spanned-requires (claims t) (walk-at t) walk.Post walk-Inv-loop walk-μ-loop
 walk-spanned-requires t c κs =
     let s = c .before .before .before .before in
     let N = s .pre .1 in
@@ -51,37 +70,34 @@ walk-spanned-requires t c κs =
     let eh : length h ≡ length m = ap length (N .left) ∙ residues-length m (rowsOf (s .args .b)) in
     sym eh
 
-walk-keep-requires : (t : ℕ) → walk-lts.Need-keep-requires (spanned-reads.Asked, spanned-reads.Learnt, keep-reads.Asked, keep-reads.Learnt, sieve-reads.Asked, sieve-reads.Learnt, child-reads.Asked, child-reads.Learnt, insert-reads.Asked, insert-reads.Learnt, push-reads.Asked, push-reads.Learnt, walk-below t, walk.Post) (walk-at t) walk.Post walk-Inv-loop walk-μ-loop
+walk-keep-requires : (t : ℕ) → walk-lts.Need-keep-requires (claims t) (walk-at t) walk.Post walk-Inv-loop walk-μ-loop
 walk-keep-requires t c κs =
     let s = c .before .before .before .before .before .before .before in
     let N = s .pre .1 in
     record { valid = N .valid; tidy = record { whole = N .tidy .whole; room = omega (arith, N .tidy .room) }; sane = N .sane }
 
-walk-same-length : (t : ℕ) → walk-lts.Need-same-length (spanned-reads.Asked, spanned-reads.Learnt, keep-reads.Asked, keep-reads.Learnt, sieve-reads.Asked, sieve-reads.Learnt, child-reads.Asked, child-reads.Learnt, insert-reads.Asked, insert-reads.Learnt, push-reads.Asked, push-reads.Learnt, walk-below t, walk.Post) (walk-at t) walk.Post walk-Inv-loop walk-μ-loop
+walk-same-length : (t : ℕ) → walk-lts.Need-same-length (claims t) (walk-at t) walk.Post walk-Inv-loop walk-μ-loop
 walk-same-length t c = c .before .before .keep .kept .1 .1 .1 .1 .0
 
-walk-returns : (t : ℕ) → walk-lts.Need-returns (spanned-reads.Asked, spanned-reads.Learnt, keep-reads.Asked, keep-reads.Learnt, sieve-reads.Asked, sieve-reads.Learnt, child-reads.Asked, child-reads.Learnt, insert-reads.Asked, insert-reads.Learnt, push-reads.Asked, push-reads.Learnt, walk-below t, walk.Post) (walk-at t) walk.Post walk-Inv-loop walk-μ-loop
+walk-returns : (t : ℕ) → walk-lts.Need-returns (claims t) (walk-at t) walk.Post walk-Inv-loop walk-μ-loop
 walk-returns t c =
     let s = c .before .before .before .before .before .before .before .before .before .before in
     let N = s .pre .1 in
     let m = s .args .gens .now in
     let h = s .args .h .now in
-    c .before .before .keep .ensures
-    ∙ sym
     (leaf-yes m (s .args .k) (rowsOf (s .args .b)) (chainOf (s .args .c)) h (length m - s .args .start) (s .args .start) (s .args .missing) (s .args .limit)
-    (stateOf (s .args .t) (s .args .out .now)) (c .before .before .before .before .before .spanned .result) (c .before .before .before .before .before .before .if1 .taken) (N .left) (c .before .before .before .before .before .spanned .ensures) (c .before .before .before .before .if2 .taken))
+    (stateOf (s .args .t) (s .args .out .now)) (c .before .before .before .before .before .spanned .result) (c .before .before .before .before .before .before .if1 .taken) (N .left) (c .before .before .before .before .before .spanned .ensures) (c .before .before .before .before .if2 .taken) _ (c .before .before .keep .ensures))
 
-walk-returns-2 : (t : ℕ) → walk-lts.Need-returns-2 (spanned-reads.Asked, spanned-reads.Learnt, keep-reads.Asked, keep-reads.Learnt, sieve-reads.Asked, sieve-reads.Learnt, child-reads.Asked, child-reads.Learnt, insert-reads.Asked, insert-reads.Learnt, push-reads.Asked, push-reads.Learnt, walk-below t, walk.Post) (walk-at t) walk.Post walk-Inv-loop walk-μ-loop
+walk-returns-2 : (t : ℕ) → walk-lts.Need-returns-2 (claims t) (walk-at t) walk.Post walk-Inv-loop walk-μ-loop
 walk-returns-2 t c =
     let s = c .before .before .before .before .before .before in
     let N = s .pre .1 in
     let m = s .args .gens .now in
     let h = s .args .h .now in
-    sym
     (leaf-no m (s .args .k) (rowsOf (s .args .b)) (chainOf (s .args .c)) h (length m - s .args .start) (s .args .start) (s .args .missing) (s .args .limit)
     (stateOf (s .args .t) (s .args .out .now)) (c .before .spanned .result) (c .before .before .if1 .taken) (N .left) (c .before .spanned .ensures) (c .if2 .left))
 
-walk-sieve-requires : (t : ℕ) → walk-lts.Need-sieve-requires (spanned-reads.Asked, spanned-reads.Learnt, keep-reads.Asked, keep-reads.Learnt, sieve-reads.Asked, sieve-reads.Learnt, child-reads.Asked, child-reads.Learnt, insert-reads.Asked, insert-reads.Learnt, push-reads.Asked, push-reads.Learnt, walk-below t, walk.Post) (walk-at t) walk.Post walk-Inv-loop walk-μ-loop
+walk-sieve-requires : (t : ℕ) → walk-lts.Need-sieve-requires (claims t) (walk-at t) walk.Post walk-Inv-loop walk-μ-loop
 walk-sieve-requires t c κs =
     let s = c .before .before .before .before .before in
     let N = s .pre .1 in
@@ -90,16 +106,16 @@ walk-sieve-requires t c κs =
     let eh : length h ≡ length m = ap length (N .left) ∙ residues-length m (rowsOf (s .args .b)) in
     (sym eh, omega (arith, eh, N .small), refl, N .begin)
 
-walk-loop-holds : (t : ℕ) → walk-lts.Need-loop-holds (spanned-reads.Asked, spanned-reads.Learnt, keep-reads.Asked, keep-reads.Learnt, sieve-reads.Asked, sieve-reads.Learnt, child-reads.Asked, child-reads.Learnt, insert-reads.Asked, insert-reads.Learnt, push-reads.Asked, push-reads.Learnt, walk-below t, walk.Post) (walk-at t) walk.Post walk-Inv-loop walk-μ-loop
+walk-loop-holds : (t : ℕ) → walk-lts.Need-loop-holds (claims t) (walk-at t) walk.Post walk-Inv-loop walk-μ-loop
 walk-loop-holds t c =
     let s = c .before .before .before .before .before .before in
     let N = s .pre .1 in
     (omega arith, record { within = N .begin; rest = refl; sane = N .sane; same = refl; whole = refl })
 
-walk-same-length-2 : (t : ℕ) → walk-lts.Need-same-length-2 (spanned-reads.Asked, spanned-reads.Learnt, keep-reads.Asked, keep-reads.Learnt, sieve-reads.Asked, sieve-reads.Learnt, child-reads.Asked, child-reads.Learnt, insert-reads.Asked, insert-reads.Learnt, push-reads.Asked, push-reads.Learnt, walk-below t, walk.Post) (walk-at t) walk.Post walk-Inv-loop walk-μ-loop
+walk-same-length-2 : (t : ℕ) → walk-lts.Need-same-length-2 (claims t) (walk-at t) walk.Post walk-Inv-loop walk-μ-loop
 walk-same-length-2 t c = c .before .before .before .loop .inv .1 .same
 
-walk-returns-3 : (t : ℕ) → walk-lts.Need-returns-3 (spanned-reads.Asked, spanned-reads.Learnt, keep-reads.Asked, keep-reads.Learnt, sieve-reads.Asked, sieve-reads.Learnt, child-reads.Asked, child-reads.Learnt, insert-reads.Asked, insert-reads.Learnt, push-reads.Asked, push-reads.Learnt, walk-below t, walk.Post) (walk-at t) walk.Post walk-Inv-loop walk-μ-loop
+walk-returns-3 : (t : ℕ) → walk-lts.Need-returns-3 (claims t) (walk-at t) walk.Post walk-Inv-loop walk-μ-loop
 walk-returns-3 t c =
     let s = c .before .before .before .before .before .before .before .before .before .before in
     let N = s .pre .1 in
@@ -109,19 +125,19 @@ walk-returns-3 t c =
     let ne = c .before .before .before .before .before .before .if1 .left in
     going-full m (s .args .k) (s .args .b) (s .args .c) (s .args .missing) (s .args .limit) _ _ h (N .left) (N .valid) (N .tidy) ne (l .j) (l .u) (l .out) (l .mine) (l .inv .1) (c .if3 .taken)
 
-walk-array-read-if4 : (t : ℕ) → walk-lts.Need-array-read-if4 (spanned-reads.Asked, spanned-reads.Learnt, keep-reads.Asked, keep-reads.Learnt, sieve-reads.Asked, sieve-reads.Learnt, child-reads.Asked, child-reads.Learnt, insert-reads.Asked, insert-reads.Learnt, push-reads.Asked, push-reads.Learnt, walk-below t, walk.Post) (walk-at t) walk.Post walk-Inv-loop walk-μ-loop
+walk-array-read-if4 : (t : ℕ) → walk-lts.Need-array-read-if4 (claims t) (walk-at t) walk.Post walk-Inv-loop walk-μ-loop
 walk-array-read-if4 t c =
     let s = c .before .before .before .before .before .before .before .before .before .before in
     let N = s .pre .1 in
     omega (arith, N .small, c .before .before .loop-test .taken)
 
-walk-add-j : (t : ℕ) → walk-lts.Need-add-j (spanned-reads.Asked, spanned-reads.Learnt, keep-reads.Asked, keep-reads.Learnt, sieve-reads.Asked, sieve-reads.Learnt, child-reads.Asked, child-reads.Learnt, insert-reads.Asked, insert-reads.Learnt, push-reads.Asked, push-reads.Learnt, walk-below t, walk.Post) (walk-at t) walk.Post walk-Inv-loop walk-μ-loop
+walk-add-j : (t : ℕ) → walk-lts.Need-add-j (claims t) (walk-at t) walk.Post walk-Inv-loop walk-μ-loop
 walk-add-j t c = omega arith
 
-walk-loop-less : (t : ℕ) → walk-lts.Need-loop-less (spanned-reads.Asked, spanned-reads.Learnt, keep-reads.Asked, keep-reads.Learnt, sieve-reads.Asked, sieve-reads.Learnt, child-reads.Asked, child-reads.Learnt, insert-reads.Asked, insert-reads.Learnt, push-reads.Asked, push-reads.Learnt, walk-below t, walk.Post) (walk-at t) walk.Post walk-Inv-loop walk-μ-loop
+walk-loop-less : (t : ℕ) → walk-lts.Need-loop-less (claims t) (walk-at t) walk.Post walk-Inv-loop walk-μ-loop
 walk-loop-less t c = omega arith
 
-walk-loop-again : (t : ℕ) → walk-lts.Need-loop-again (spanned-reads.Asked, spanned-reads.Learnt, keep-reads.Asked, keep-reads.Learnt, sieve-reads.Asked, sieve-reads.Learnt, child-reads.Asked, child-reads.Learnt, insert-reads.Asked, insert-reads.Learnt, push-reads.Asked, push-reads.Learnt, walk-below t, walk.Post) (walk-at t) walk.Post walk-Inv-loop walk-μ-loop
+walk-loop-again : (t : ℕ) → walk-lts.Need-loop-again (claims t) (walk-at t) walk.Post walk-Inv-loop walk-μ-loop
 walk-loop-again t c =
     let s = c .before .before .before .before .before .before .before .before .before .before .before in
     let N = s .pre .1 in
@@ -132,10 +148,10 @@ walk-loop-again t c =
     let g : l .j < length m = c .before .before .before .loop-test .taken in
     (omega (arith, l .inv .0), going-off m (s .args .k) (s .args .b) (s .args .c) (s .args .missing) (s .args .limit) _ _ h (N .left) (N .valid) (N .tidy) ne (l .j) (l .u) (l .out) (l .mine) (l .inv .1) g _ (c .before .before .before .before .before .sieve .ensures .judged (l .j) (l .inv .0) g) (c .if4 .taken))
 
-walk-mul-x : (t : ℕ) → walk-lts.Need-mul-x (spanned-reads.Asked, spanned-reads.Learnt, keep-reads.Asked, keep-reads.Learnt, sieve-reads.Asked, sieve-reads.Learnt, child-reads.Asked, child-reads.Learnt, insert-reads.Asked, insert-reads.Learnt, push-reads.Asked, push-reads.Learnt, walk-below t, walk.Post) (walk-at t) walk.Post walk-Inv-loop walk-μ-loop
+walk-mul-x : (t : ℕ) → walk-lts.Need-mul-x (claims t) (walk-at t) walk.Post walk-Inv-loop walk-μ-loop
 walk-mul-x t c = omega arith
 
-walk-shared-slice-read-x : (t : ℕ) → walk-lts.Need-shared-slice-read-x (spanned-reads.Asked, spanned-reads.Learnt, keep-reads.Asked, keep-reads.Learnt, sieve-reads.Asked, sieve-reads.Learnt, child-reads.Asked, child-reads.Learnt, insert-reads.Asked, insert-reads.Learnt, push-reads.Asked, push-reads.Learnt, walk-below t, walk.Post) (walk-at t) walk.Post walk-Inv-loop walk-μ-loop
+walk-shared-slice-read-x : (t : ℕ) → walk-lts.Need-shared-slice-read-x (claims t) (walk-at t) walk.Post walk-Inv-loop walk-μ-loop
 walk-shared-slice-read-x t c =
     let s = c .before .before .before .before .before .before .before .before .before .before .before .before in
     let N = s .pre .1 in
@@ -144,36 +160,36 @@ walk-shared-slice-read-x t c =
     let eh : length h ≡ length m = ap length (N .left) ∙ residues-length m (rowsOf (s .args .b)) in
     omega (arith, eh, c .before .before .before .before .loop-test .taken)
 
-walk-child-requires : (t : ℕ) → walk-lts.Need-child-requires (spanned-reads.Asked, spanned-reads.Learnt, keep-reads.Asked, keep-reads.Learnt, sieve-reads.Asked, sieve-reads.Learnt, child-reads.Asked, child-reads.Learnt, insert-reads.Asked, insert-reads.Learnt, push-reads.Asked, push-reads.Learnt, walk-below t, walk.Post) (walk-at t) walk.Post walk-Inv-loop walk-μ-loop
+walk-child-requires : (t : ℕ) → walk-lts.Need-child-requires (claims t) (walk-at t) walk.Post walk-Inv-loop walk-μ-loop
 walk-child-requires t c κs =
     let s = c .before .before .before .before .before .before .before .before .before .before .before .before .before in
     let N = s .pre .1 in
     let eh : length (s .args .h .now) ≡ length (s .args .gens .now) = ap length (N .left) ∙ residues-length (s .args .gens .now) (rowsOf (s .args .b)) in
     (omega (arith, eh, N .small), c .before .before .before .before .before .before .loop .inv .1 .whole)
 
-walk-array-share-prefix-mine : (t : ℕ) → walk-lts.Need-array-share-prefix-mine (spanned-reads.Asked, spanned-reads.Learnt, keep-reads.Asked, keep-reads.Learnt, sieve-reads.Asked, sieve-reads.Learnt, child-reads.Asked, child-reads.Learnt, insert-reads.Asked, insert-reads.Learnt, push-reads.Asked, push-reads.Learnt, walk-below t, walk.Post) (walk-at t) walk.Post walk-Inv-loop walk-μ-loop
+walk-array-share-prefix-mine : (t : ℕ) → walk-lts.Need-array-share-prefix-mine (claims t) (walk-at t) walk.Post walk-Inv-loop walk-μ-loop
 walk-array-share-prefix-mine t c = omega (arith, c .before .before .before .before .before .before .before .before .before .before .before .before .before .before .pre .1 .small, c .child .ensures .whole)
 
-walk-slice-aggregate-walk : (t : ℕ) → walk-lts.Need-slice-aggregate-walk (spanned-reads.Asked, spanned-reads.Learnt, keep-reads.Asked, keep-reads.Learnt, sieve-reads.Asked, sieve-reads.Learnt, child-reads.Asked, child-reads.Learnt, insert-reads.Asked, insert-reads.Learnt, push-reads.Asked, push-reads.Learnt, walk-below t, walk.Post) (walk-at t) walk.Post walk-Inv-loop walk-μ-loop
+walk-slice-aggregate-walk : (t : ℕ) → walk-lts.Need-slice-aggregate-walk (claims t) (walk-at t) walk.Post walk-Inv-loop walk-μ-loop
 walk-slice-aggregate-walk t c = sym (length-take-le (length (c .before .before .before .before .before .before .before .before .before .before .before .before .before .before .before .args .gens .now)) (c .before .child .last .1 .1 .0) (omega (arith, c .before .before .before .before .before .before .before .before .before .before .before .before .before .before .before .pre .1 .small, c .before .child .ensures .whole)))
 
-walk-add-walk : (t : ℕ) → walk-lts.Need-add-walk (spanned-reads.Asked, spanned-reads.Learnt, keep-reads.Asked, keep-reads.Learnt, sieve-reads.Asked, sieve-reads.Learnt, child-reads.Asked, child-reads.Learnt, insert-reads.Asked, insert-reads.Learnt, push-reads.Asked, push-reads.Learnt, walk-below t, walk.Post) (walk-at t) walk.Post walk-Inv-loop walk-μ-loop
+walk-add-walk : (t : ℕ) → walk-lts.Need-add-walk (claims t) (walk-at t) walk.Post walk-Inv-loop walk-μ-loop
 walk-add-walk t c = omega (arith, c .before .before .before .before .before .before .before .loop-test .taken, c .before .before .before .before .before .before .before .before .before .before .before .before .before .before .before .pre .1 .small)
 
-walk-sub-walk : (t : ℕ) → walk-lts.Need-sub-walk (spanned-reads.Asked, spanned-reads.Learnt, keep-reads.Asked, keep-reads.Learnt, sieve-reads.Asked, sieve-reads.Learnt, child-reads.Asked, child-reads.Learnt, insert-reads.Asked, insert-reads.Learnt, push-reads.Asked, push-reads.Learnt, walk-below t, walk.Post) (walk-at t) walk.Post walk-Inv-loop walk-μ-loop
+walk-sub-walk : (t : ℕ) → walk-lts.Need-sub-walk (claims t) (walk-at t) walk.Post walk-Inv-loop walk-μ-loop
 walk-sub-walk t c = omega (arith, c .before .before .before .before .before .before .before .before .before .before .before .if1 .left)
 
-walk-insert-requires : (t : ℕ) → walk-lts.Need-insert-requires (spanned-reads.Asked, spanned-reads.Learnt, keep-reads.Asked, keep-reads.Learnt, sieve-reads.Asked, sieve-reads.Learnt, child-reads.Asked, child-reads.Learnt, insert-reads.Asked, insert-reads.Learnt, push-reads.Asked, push-reads.Learnt, walk-below t, walk.Post) (walk-at t) walk.Post walk-Inv-loop walk-μ-loop
+walk-insert-requires : (t : ℕ) → walk-lts.Need-insert-requires (claims t) (walk-at t) walk.Post walk-Inv-loop walk-μ-loop
 walk-insert-requires t c κs = c .before .before .before .before .before .before .before .before .before .before .before .before .before .before .before .pre .1 .valid
 
-walk-push-requires : (t : ℕ) → walk-lts.Need-push-requires (spanned-reads.Asked, spanned-reads.Learnt, keep-reads.Asked, keep-reads.Learnt, sieve-reads.Asked, sieve-reads.Learnt, child-reads.Asked, child-reads.Learnt, insert-reads.Asked, insert-reads.Learnt, push-reads.Asked, push-reads.Learnt, walk-below t, walk.Post) (walk-at t) walk.Post walk-Inv-loop walk-μ-loop
+walk-push-requires : (t : ℕ) → walk-lts.Need-push-requires (claims t) (walk-at t) walk.Post walk-Inv-loop walk-μ-loop
 walk-push-requires t c κs =
     let s = c .before .before .before .before .before .before .before .before .before .before .before .before .before .before .before .before in
     let N = s .pre .1 in
     let ne = c .before .before .before .before .before .before .before .before .before .before .before .before .if1 .left in
     record { whole = N .tidy .whole; room = omega (arith, N .tidy .room, ne) }
 
-walk-walk-requires : (t : ℕ) → walk-lts.Need-walk-requires (spanned-reads.Asked, spanned-reads.Learnt, keep-reads.Asked, keep-reads.Learnt, sieve-reads.Asked, sieve-reads.Learnt, child-reads.Asked, child-reads.Learnt, insert-reads.Asked, insert-reads.Learnt, push-reads.Asked, push-reads.Learnt, walk-below t, walk.Post) (walk-at t) walk.Post walk-Inv-loop walk-μ-loop
+walk-walk-requires : (t : ℕ) → walk-lts.Need-walk-requires (claims t) (walk-at t) walk.Post walk-Inv-loop walk-μ-loop
 walk-walk-requires t c κs =
     let s = c .before .before .before .before .before .before .before .before .before .before .before .before .before .before .before .before .before .before in
     let N = s .pre .1 in
@@ -188,13 +204,13 @@ walk-walk-requires t c κs =
       node-down m (s .args .k) (s .args .b) (s .args .c) (s .args .missing) (s .args .limit) _ _ h (N .left) (N .valid) (N .tidy) ne (l .j) (l .u) (l .out) (l .mine) (l .inv .1) g e (N .small) (c .before .before .insert .result) (c .before .before .insert .ensures) (c .before .push .result) (c .before .push .ensures) (c .before .before .before .before .child .last .1 .1 .0) (c .before .before .before .before .child .ensures),
     )
 
-walk-add-j-2 : (t : ℕ) → walk-lts.Need-add-j-2 (spanned-reads.Asked, spanned-reads.Learnt, keep-reads.Asked, keep-reads.Learnt, sieve-reads.Asked, sieve-reads.Learnt, child-reads.Asked, child-reads.Learnt, insert-reads.Asked, insert-reads.Learnt, push-reads.Asked, push-reads.Learnt, walk-below t, walk.Post) (walk-at t) walk.Post walk-Inv-loop walk-μ-loop
+walk-add-j-2 : (t : ℕ) → walk-lts.Need-add-j-2 (claims t) (walk-at t) walk.Post walk-Inv-loop walk-μ-loop
 walk-add-j-2 t c = omega (arith, c .before .before .before .before .before .before .before .before .before .before .before .before .before .loop-test .taken, c .before .before .before .before .before .before .before .before .before .before .before .before .before .before .before .before .before .before .before .before .before .pre .1 .small)
 
-walk-loop-less-2 : (t : ℕ) → walk-lts.Need-loop-less-2 (spanned-reads.Asked, spanned-reads.Learnt, keep-reads.Asked, keep-reads.Learnt, sieve-reads.Asked, sieve-reads.Learnt, child-reads.Asked, child-reads.Learnt, insert-reads.Asked, insert-reads.Learnt, push-reads.Asked, push-reads.Learnt, walk-below t, walk.Post) (walk-at t) walk.Post walk-Inv-loop walk-μ-loop
+walk-loop-less-2 : (t : ℕ) → walk-lts.Need-loop-less-2 (claims t) (walk-at t) walk.Post walk-Inv-loop walk-μ-loop
 walk-loop-less-2 t c = omega (arith, c .before .before .before .before .before .before .before .before .before .before .before .before .before .loop-test .taken)
 
-walk-loop-again-2 : (t : ℕ) → walk-lts.Need-loop-again-2 (spanned-reads.Asked, spanned-reads.Learnt, keep-reads.Asked, keep-reads.Learnt, sieve-reads.Asked, sieve-reads.Learnt, child-reads.Asked, child-reads.Learnt, insert-reads.Asked, insert-reads.Learnt, push-reads.Asked, push-reads.Learnt, walk-below t, walk.Post) (walk-at t) walk.Post walk-Inv-loop walk-μ-loop
+walk-loop-again-2 : (t : ℕ) → walk-lts.Need-loop-again-2 (claims t) (walk-at t) walk.Post walk-Inv-loop walk-μ-loop
 walk-loop-again-2 t c =
     let s = c .before .before .before .before .before .before .before .before .before .before .before .before .before .before .before .before .before .before .before .before .before in
     let N = s .pre .1 in
@@ -209,10 +225,10 @@ walk-loop-again-2 t c =
           (c .before .before .before .before .before .before .before .child .ensures .whole) (c .before .before .walk .ensures),
     )
 
-walk-same-length-3 : (t : ℕ) → walk-lts.Need-same-length-3 (spanned-reads.Asked, spanned-reads.Learnt, keep-reads.Asked, keep-reads.Learnt, sieve-reads.Asked, sieve-reads.Learnt, child-reads.Asked, child-reads.Learnt, insert-reads.Asked, insert-reads.Learnt, push-reads.Asked, push-reads.Learnt, walk-below t, walk.Post) (walk-at t) walk.Post walk-Inv-loop walk-μ-loop
+walk-same-length-3 : (t : ℕ) → walk-lts.Need-same-length-3 (claims t) (walk-at t) walk.Post walk-Inv-loop walk-μ-loop
 walk-same-length-3 t c = c .before .loop .inv .1 .same
 
-walk-returns-4 : (t : ℕ) → walk-lts.Need-returns-4 (spanned-reads.Asked, spanned-reads.Learnt, keep-reads.Asked, keep-reads.Learnt, sieve-reads.Asked, sieve-reads.Learnt, child-reads.Asked, child-reads.Learnt, insert-reads.Asked, insert-reads.Learnt, push-reads.Asked, push-reads.Learnt, walk-below t, walk.Post) (walk-at t) walk.Post walk-Inv-loop walk-μ-loop
+walk-returns-4 : (t : ℕ) → walk-lts.Need-returns-4 (claims t) (walk-at t) walk.Post walk-Inv-loop walk-μ-loop
 walk-returns-4 t c =
     let s = c .before .before .before .before .before .before .before .before in
     let N = s .pre .1 in
@@ -223,7 +239,7 @@ walk-returns-4 t c =
     going-end m (s .args .k) (s .args .b) (s .args .c) (s .args .missing) (s .args .limit) _ _ h (N .left) (N .valid) (N .tidy) ne (l .j) (l .u) (l .out) (l .mine) (l .inv .1) (c .loop-test .left)
 
 pub +walk-spec : {M : Type 1} → statement M
-+walk-spec = close μ-walk λ t. walk-lts.spec (spanned-reads.Asked, spanned-reads.Learnt, keep-reads.Asked, keep-reads.Learnt, sieve-reads.Asked, sieve-reads.Learnt, child-reads.Asked, child-reads.Learnt, insert-reads.Asked, insert-reads.Learnt, push-reads.Asked, push-reads.Learnt, walk-below t, walk.Post)
++walk-spec = close μ-walk λ t. walk-lts.spec (claims t)
     (walk-at t)
     walk.Post
     walk-Inv-loop

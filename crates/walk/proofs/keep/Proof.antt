@@ -1,19 +1,14 @@
 -- `walk::keep` meets its contract: the entry is counted up to the limit, and written where it fits. Assumes nothing.
 use native.Mathlib.Omega.{arith}
-use mathlib.Core.Path.{_≡_, refl, sym, ap, ap₂, _∙_, subst}
-use mathlib.Core.Logic.{_≢_, ⊎-elim}
-use mathlib.Core.List.{List}
-use Prim.Native.Nat.{ℕ, _+_, _-_, _<_, _≤_, _^_}
-use lib.ListN.{length, getD, take, drop, set, length-set}
+use mathlib.Core.Path.{_≡_, sym}
+use Prim.Native.Nat.{_+_, _-_, _≤_}
+use lib.ListN.{length}
 use Rattle.bases.specs.Basis.{rowsOf, rows-length}
 use Rattle.walk.specs.Walk.{chainOf}
 use Rattle.walk.proofs.Keeping.{chain-length, keep-full, keep-fits, keep-short}
 use borrow.Author.Needs.{needs}
 use Rattle.walk.proofs.keep.Statement.{statement}
 use Rattle.walk.proofs.keep.Tie as tie
-use Rattle.walk.proofs.keep.Reads as reads
-use Rattle.walk.proofs.keep.Lts as lts
-use Rattle.walk.proofs.copy.Reads as copy-reads
 
 returns : tie.Need-returns
 returns c = keep-full (c .before .before .before .args .limit) (c .before .before .before .args .t) (c .before .before .before .args .out .now) (chainOf (c .before .before .before .args .c)) (rowsOf (c .before .before .before .args .b)) (c .if1 .taken)

@@ -1,16 +1,9 @@
 -- `walk::push` meets its contract: the number stands after the others. Assumes nothing.
 use native.Mathlib.Omega.{arith}
-use mathlib.Core.Path.{_≡_, refl, sym, ap, ap₂, _∙_, subst}
-use mathlib.Core.Logic.{_≢_, ⊎-elim}
-use mathlib.Core.List.{List}
-use Prim.Native.Nat.{ℕ, _+_, _-_, _<_, _≤_, _^_}
-use lib.ListN.{length, getD, take, drop, set, length-set}
 use Rattle.walk.proofs.Keeping.{pushed}
 use borrow.Author.Needs.{needs}
 use Rattle.walk.proofs.push.Statement.{statement}
 use Rattle.walk.proofs.push.Tie as tie
-use Rattle.walk.proofs.push.Reads as reads
-use Rattle.walk.proofs.push.Lts as lts
 
 mul-numbers : tie.Need-mul-numbers
 mul-numbers c = search needs

@@ -3,7 +3,7 @@
 --   run-append, run-full               two lists of records; the limit is reached
 --   note-sane, run-sane                the counts stay in range, and the buffer its length
 -- Assumes nothing.
-use mathlib.Core.Path.{_≡_, refl, sym, ap, _∙_}
+use mathlib.Core.Path.{_≡_, refl, ap, _∙_}
 use mathlib.Core.Logic.{_≢_}
 use mathlib.Core.Bool.{Bool, true, false, cond}
 use mathlib.Core.List.{List, [], _∷_, _++_}

@@ -59,15 +59,15 @@ module _ (gens : List ℕ) (k : ℕ) (C p : List ℕ) where
   leaf h n j zero limit st r z l d = ap (λ (t : Bool). run limit st (cond t ((p ++ C) ∷ []) [])) (sym (d ∙ leaf-test h l))
   leaf h n j (suc m) limit st r z l d = absurd (omega arith)
 
-  pub leaf-yes : (h : List ℕ) (n j m limit : ℕ) (st : State) (r : Bool) → m ≡ 0 → h ≡ residues gens C → r ≡ eqb (dim word (withResidue 0 gens h)) k → r ≡ true
-      → run limit st (search gens k C p n j m) ≡ note limit st (p ++ C)
-  unfolding run
-  leaf-yes h n j m limit st r z l d e = leaf h n j m limit st r z l d ∙ ap (λ (t : Bool). run limit st (cond t ((p ++ C) ∷ []) [])) e
+  -- no number is missing, and the test's result is r
+  module _ (h : List ℕ) (n j m limit : ℕ) (st : State) (r : Bool) (z : m ≡ 0) (l : h ≡ residues gens C) (d : r ≡ eqb (dim word (withResidue 0 gens h)) k) where
+    pub leaf-yes : r ≡ true → (end : State) → end ≡ note limit st (p ++ C) → end ≡ run limit st (search gens k C p n j m)
+    unfolding run
+    leaf-yes e end q = q ∙ sym (leaf h n j m limit st r z l d ∙ ap (λ (t : Bool). run limit st (cond t ((p ++ C) ∷ []) [])) e)
 
-  pub leaf-no : (h : List ℕ) (n j m limit : ℕ) (st : State) (r : Bool) → m ≡ 0 → h ≡ residues gens C → r ≡ eqb (dim word (withResidue 0 gens h)) k → r ≡ false
-      → run limit st (search gens k C p n j m) ≡ st
-  unfolding run
-  leaf-no h n j m limit st r z l d e = leaf h n j m limit st r z l d ∙ ap (λ (t : Bool). run limit st (cond t ((p ++ C) ∷ []) [])) e
+    pub leaf-no : r ≡ false → st ≡ run limit st (search gens k C p n j m)
+    unfolding run
+    leaf-no e = sym (leaf h n j m limit st r z l d ∙ ap (λ (t : Bool). run limit st (cond t ((p ++ C) ∷ []) [])) e)
 
   module _ (h : List ℕ) (j m : ℕ) (l : h ≡ residues gens C) (ne : m ≢ 0) where
     pub turn-end : length gens ≤ j → search gens k C p (length gens - j) j m ≡ []

@@ -1,0 +1,3 @@
+-- The laws behind Catalogue and Rank.
+pub mod Replies
+pub mod Lookup
