@@ -8,24 +8,57 @@ use mathlib.Core.Path.{_≡_, refl}
 use mathlib.Core.List.{List, [], _∷_, List·Memᴰ, List·Memᴰ·not-nil}
 use mathlib.Core.Option.{Option, none, some}
 use Prim.Native.Nat.{ℕ}
-use Rattle.linear.specs.Bit.{bit}
+use Rattle.linear.specs.Bit.{bit, digitsOf, top}
+use Rattle.linear.specs.Basis.{clear, reduce, norm, place, insert, inserts, basisOf, dim}
+use Rattle.linear.specs.Order.{risingLists}
+use Rattle.linear.specs.Select.{anyOf, only, firstOfEach}
+use Rattle.linear.specs.Entry.{sameVec, sameBasis, inside, generator, chosen, generatorsIn, fits, space, entries}
+use Rattle.linear.specs.Formulae.{formulae, leastFrom, missed, fewest}
 use Rattle.linear.specs.laws.Span.{mem-cons}
 use Rattle.kinds.specs.Kinds.{kindNumbered}
-use Rattle.kinds.specs.Sizes.{within, polySizes}
+use Rattle.kinds.specs.Sizes.{within, polySizes, listSizes}
 use Rattle.kinds.specs.Refusal.{Answer, accepted}
 use Rattle.words.specs.Masks.{wide, zeroIn}
 use Rattle.forms.specs.Product.{formOf, productForm}
 use Rattle.forms.specs.Weight.{weight}
 use Rattle.maps.specs.Target.{pair, targetForm}
+use Rattle.maps.specs.Generators.{generatorCount, firstMask, secondMask, generatorForm, listOf, generatorForms, countOf}
+use Rattle.problems.specs.Problem.{targetForms, repeats, listed, mapped, posed}
+use Rattle.rows.specs.Rows.{rowOf}
+use Rattle.choice.specs.Choice.{formulaRecord}
+use Rattle.listing.specs.Listing.{records, flat, fitting}
+use Rattle.fewest.specs.Fewest.{Ranking, is, above, beyond, ranking}
+use Rattle.search.specs.Catalogue.{Catalogued, listing, catalogue}
+use Rattle.search.specs.Rank.{rank}
 use Rattle.formula.specs.Formula.{productForms, firstWrong, addersOf, lengths, judged, check}
 use Rattle.forms.specs.Row.{rowForm}
 
 pub data Line : Type 0 where
   -- a Check: the kind's number, p, q, r, k, the masks of both sides, the rows; the reply is the first wrong output and the adders
   checked : (number p q r k : ℕ) (xs ys rows : List ℕ) → Answer (Option ℕ × ℕ) → Line
+  -- a Catalogue: the kind's number, p, q, r, k, the generators and targets of a list, the buffer; the reply is ℓ, found, shown and the buffer
+  catalogued : (number p q r k : ℕ) (gs ts old : List ℕ) → Answer Catalogued → Line
+  -- a Rank: the same with k = 0; the reply is the rank with the buffer, above or beyond
+  ranked : (number p q r : ℕ) (gs ts old : List ℕ) → Answer Ranking → Line
 
 abbrev pub Holds : Line → Type 0
 Holds (checked number p q r k xs ys rows reply) = check number p q r k xs ys rows ≡ reply
+Holds (catalogued number p q r k gs ts old reply) = catalogue number p q r k gs ts old ≡ reply
+Holds (ranked number p q r gs ts old reply) = rank number p q r 0 gs ts old ≡ reply
+
+abbrev pub entriesOf : (ell found shown : ℕ) (buffer : List ℕ) → Answer Catalogued
+entriesOf ell found shown buffer = accepted (record { ell = ell; found = found; shown = shown; buffer = buffer })
+
+-- P: "poly 2,2: k = 3 finds one entry, extension `-`, basis `8 6 1`"
+abbrev pub three : Line
+three = catalogued 0 2 2 0 3 [] [] (0 ∷ 0 ∷ 0 ∷ 5 ∷ []) (entriesOf 3 1 1 (8 ∷ 6 ∷ 1 ∷ 5 ∷ []))
+
+-- P: "poly 2,2: k = 4 finds one, extension 1; k = 5 finds none."
+abbrev pub four : Line
+four = catalogued 0 2 2 0 4 [] [] (0 ∷ 0 ∷ 0 ∷ 0 ∷ 0 ∷ []) (entriesOf 3 1 1 (1 ∷ 8 ∷ 4 ∷ 2 ∷ 1 ∷ []))
+
+abbrev pub five : Line
+five = catalogued 0 2 2 0 5 [] [] (0 ∷ []) (entriesOf 3 0 0 (0 ∷ []))
 
 -- P: "Check of poly 2,2, products (1,1), (2,2), (3,3): rows 1, 7, 2 right, 4 adders; rows 1, 3, 2 wrong at output 1."
 abbrev pub right : Line
@@ -34,8 +67,38 @@ right = checked 0 2 2 0 3 (1 ∷ 2 ∷ 3 ∷ []) (1 ∷ 2 ∷ 3 ∷ []) (1 ∷ 7
 abbrev pub wrong : Line
 wrong = checked 0 2 2 0 3 (1 ∷ 2 ∷ 3 ∷ []) (1 ∷ 2 ∷ 3 ∷ []) (1 ∷ 3 ∷ 2 ∷ []) (accepted (some 1, 3))
 
+-- P: "list of 2 bits, menu 1, 2, 3, target 3: k = 1 finds one, basis `3`; k = 2 finds one, extension 0"
+abbrev pub listOne : Line
+listOne = catalogued 4 2 3 1 1 (1 ∷ 2 ∷ 3 ∷ []) (3 ∷ []) (0 ∷ []) (entriesOf 1 1 1 (3 ∷ []))
+
+abbrev pub listTwo : Line
+listTwo = catalogued 4 2 3 1 2 (1 ∷ 2 ∷ 3 ∷ []) (3 ∷ []) (7 ∷ 7 ∷ 7 ∷ 7 ∷ []) (entriesOf 1 1 1 (0 ∷ 2 ∷ 1 ∷ 7 ∷ []))
+
+-- P: "list of 2 bits, menu 1, target 2: Beyond. Target 0 instead: Rank 0."
+abbrev pub far : Line
+far = ranked 4 2 1 1 (1 ∷ []) (2 ∷ []) [] (accepted beyond)
+
+abbrev pub nothing : Line
+nothing = ranked 4 2 1 1 (1 ∷ []) (0 ∷ []) (7 ∷ []) (accepted (is 0 (0 ∷ [])))
+
+-- P: "poly 1,1 has Rank 1."
+abbrev pub one : Line
+one = ranked 0 1 1 0 [] [] (7 ∷ 7 ∷ 7 ∷ []) (accepted (is 1 (0 ∷ 1 ∷ 7 ∷ [])))
+
 abbrev pub table : List Line
-table = right ∷ wrong ∷ []
+table = three ∷ four ∷ five ∷ right ∷ wrong ∷ listOne ∷ listTwo ∷ far ∷ nothing ∷ one ∷ []
+
+holds-three : Holds three
+unfolding bit digitsOf top clear reduce norm place insert inserts basisOf dim risingLists anyOf only firstOfEach sameVec sameBasis inside generator chosen generatorsIn fits space entries kindNumbered within polySizes listSizes wide zeroIn formOf productForm pair targetForm generatorCount firstMask secondMask generatorForm listOf generatorForms countOf targetForms repeats listed mapped posed records flat fitting listing catalogue
+holds-three = refl
+
+holds-four : Holds four
+unfolding bit digitsOf top clear reduce norm place insert inserts basisOf dim risingLists anyOf only firstOfEach sameVec sameBasis inside generator chosen generatorsIn fits space entries kindNumbered within polySizes listSizes wide zeroIn formOf productForm pair targetForm generatorCount firstMask secondMask generatorForm listOf generatorForms countOf targetForms repeats listed mapped posed records flat fitting listing catalogue
+holds-four = refl
+
+holds-five : Holds five
+unfolding bit digitsOf top clear reduce norm place insert inserts basisOf dim risingLists anyOf only firstOfEach sameVec sameBasis inside generator chosen generatorsIn fits space entries kindNumbered within polySizes listSizes wide zeroIn formOf productForm pair targetForm generatorCount firstMask secondMask generatorForm listOf generatorForms countOf targetForms repeats listed mapped posed records flat fitting listing catalogue
+holds-five = refl
 
 holds-right : Holds right
 unfolding bit kindNumbered within polySizes wide zeroIn formOf productForm weight pair targetForm productForms rowForm firstWrong addersOf lengths judged check
@@ -45,5 +108,25 @@ holds-wrong : Holds wrong
 unfolding bit kindNumbered within polySizes wide zeroIn formOf productForm weight pair targetForm productForms rowForm firstWrong addersOf lengths judged check
 holds-wrong = refl
 
+holds-listOne : Holds listOne
+unfolding bit digitsOf top clear reduce norm place insert inserts basisOf dim risingLists anyOf only firstOfEach sameVec sameBasis inside generator chosen generatorsIn fits space entries kindNumbered within polySizes listSizes wide zeroIn formOf productForm pair targetForm generatorCount firstMask secondMask generatorForm listOf generatorForms countOf targetForms repeats listed mapped posed records flat fitting listing catalogue
+holds-listOne = refl
+
+holds-listTwo : Holds listTwo
+unfolding bit digitsOf top clear reduce norm place insert inserts basisOf dim risingLists anyOf only firstOfEach sameVec sameBasis inside generator chosen generatorsIn fits space entries kindNumbered within polySizes listSizes wide zeroIn formOf productForm pair targetForm generatorCount firstMask secondMask generatorForm listOf generatorForms countOf targetForms repeats listed mapped posed records flat fitting listing catalogue
+holds-listTwo = refl
+
+holds-far : Holds far
+unfolding bit digitsOf top clear reduce norm place insert inserts basisOf dim risingLists anyOf only firstOfEach sameVec sameBasis inside generator chosen generatorsIn fits space entries formulae leastFrom missed fewest kindNumbered within polySizes listSizes wide zeroIn formOf productForm pair targetForm generatorCount firstMask secondMask generatorForm listOf generatorForms countOf targetForms repeats listed mapped posed rowOf formulaRecord ranking rank
+holds-far = refl
+
+holds-nothing : Holds nothing
+unfolding bit digitsOf top clear reduce norm place insert inserts basisOf dim risingLists anyOf only firstOfEach sameVec sameBasis inside generator chosen generatorsIn fits space entries formulae leastFrom missed fewest kindNumbered within polySizes listSizes wide zeroIn formOf productForm pair targetForm generatorCount firstMask secondMask generatorForm listOf generatorForms countOf targetForms repeats listed mapped posed rowOf formulaRecord ranking rank
+holds-nothing = refl
+
+holds-one : Holds one
+unfolding bit digitsOf top clear reduce norm place insert inserts basisOf dim risingLists anyOf only firstOfEach sameVec sameBasis inside generator chosen generatorsIn fits space entries formulae leastFrom missed fewest kindNumbered within polySizes listSizes wide zeroIn formOf productForm pair targetForm generatorCount firstMask secondMask generatorForm listOf generatorForms countOf targetForms repeats listed mapped posed rowOf formulaRecord ranking rank
+holds-one = refl
+
 pub worked : (l : Line) → List·Memᴰ l table → Holds l
-worked = mem-cons {P = Holds} holds-right (mem-cons {P = Holds} holds-wrong (λ l m. absurd (List·Memᴰ·not-nil m)))
+worked = mem-cons {P = Holds} holds-three (mem-cons {P = Holds} holds-four (mem-cons {P = Holds} holds-five (mem-cons {P = Holds} holds-right (mem-cons {P = Holds} holds-wrong (mem-cons {P = Holds} holds-listOne (mem-cons {P = Holds} holds-listTwo (mem-cons {P = Holds} holds-far (mem-cons {P = Holds} holds-nothing (mem-cons {P = Holds} holds-one (λ l m. absurd (List·Memᴰ·not-nil m)))))))))))
