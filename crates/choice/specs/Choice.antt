@@ -1,11 +1,13 @@
 -- Chosen generators in the code, and the record of a formula.
 --   numbersOf c, formsOf c == the numbers and the forms in use of the record c
 --   Chose gens es c        == c holds the generators with the numbers es
+--   recordOf c targets     == the record of the formula whose products c holds
 --   formulaRecord gens targets es == the record of a formula: the numbers of its products, then a row for every target
 --        [ product 0 | .. | product k − 1 | row of target 0 | .. | row of the last target ]
 -- Document 01: "Each is recorded as its k menu numbers, then its rows: for every target, the mask of those products that sum to it".
+--   chose-record   a choice of the generators numbered es has the record of es
 -- Assumes nothing.
-use mathlib.Core.Path.{_≡_}
+use mathlib.Core.Path.{_≡_, ap₂}
 use mathlib.Core.List.{List, _++_, map}
 use Prim.Native.Nat.{ℕ, _≤_}
 use lib.ListN.{length, take}
@@ -33,3 +35,10 @@ pub record Chose (gens es : List ℕ) (c : Choice) : Type 0 where
 
 unfoldable pub formulaRecord : (gens targets es : List ℕ) → List ℕ
 formulaRecord gens targets es = es ++ map (rowOf (chosen word gens es)) targets
+
+abbrev pub recordOf : Choice → List ℕ → List ℕ
+recordOf c targets = numbersOf c ++ map (rowOf (formsOf c)) targets
+
+pub chose-record : (gens es targets : List ℕ) (c : Choice) → Chose gens es c → recordOf c targets ≡ formulaRecord gens targets es
+unfolding formulaRecord
+chose-record gens es targets c C = ap₂ (λ (ns fs : List ℕ). ns ++ map (rowOf fs) targets) (C .numbers) (C .forms)

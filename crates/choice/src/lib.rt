@@ -1,6 +1,6 @@
 // The first formula of a space, and its record in a buffer.
 ghost use mathlib.Core.Path.{_≡_};
-ghost use mathlib.Core.List.{[], _++_, map};
+ghost use mathlib.Core.List.{[], map};
 ghost use Prim.Native.Nat.{_+_, _<_, _≤_};
 ghost use lib.ListN.{length};
 ghost use lib.Seq.{paste};
@@ -10,9 +10,8 @@ ghost use mathlib.Core.Bool.{not, _&&_};
 ghost use Rattle.linear.specs.Entry.{inside};
 ghost use Rattle.linear.specs.laws.Extension.{extension};
 ghost use Rattle.bases.specs.Basis.{rowsOf, Valid};
-ghost use Rattle.words.specs.Buffers.{filled};
 ghost use Rattle.rows.specs.Rows.{rowOf};
-ghost use Rattle.choice.specs.Choice.{Whole, Chose, numbersOf, formsOf};
+ghost use Rattle.choice.specs.Choice.{Whole, Chose, recordOf};
 ghost use Rattle.choice.specs.laws.Choosing.{Added};
 use bases::Basis;
 
@@ -104,14 +103,14 @@ fn put_rows(products: &[u64], targets: &[u64], out: &mut [u64], at: usize)
     }
 }
 
-// The formula's record: the numbers of its products, then a row for every target.
-pub fn write_formula(c: Choice, targets: &[u64], out: &mut [u64])
-    requires { ⌜ (Whole c) × (c .len + length (now targets) ≤ length (now out)) ⌝ }
-    ensures { λ _. ⌜ now (out .exit) ≡ filled (numbersOf c ++ map (rowOf (formsOf c)) (now (targets .entry))) (now (out .entry)) ⌝ }
+// The formula's record, from place `at` on: the numbers of its products, then a row for every target.
+pub fn write_formula(c: Choice, targets: &[u64], out: &mut [u64], at: usize)
+    requires { ⌜ (Whole c) × (at + (c .len + length (now targets)) ≤ length (now out)) ⌝ }
+    ensures { λ _. ⌜ now (out .exit) ≡ paste (now (out .entry)) at (recordOf c (now (targets .entry))) (c .len + length (now (targets .entry))) ⌝ }
 {
     let n = c.len;
     let numbers = c.numbers;
     let products = c.forms;
-    words::copy(&numbers[..n], out, 0);
-    put_rows(&products[..n], targets, out, n);
+    words::copy(&numbers[..n], out, at);
+    put_rows(&products[..n], targets, out, at + n);
 }

@@ -46,7 +46,7 @@ fn finish(gens: &[u64], targets: &[u64], w: &[u64], out: &mut [u64]) -> Ranked
     if out.len() < n + targets.len() {
         return Ranked::Refused(9);
     }
-    choice::write_formula(c, targets, out);
+    choice::write_formula(c, targets, out, 0);
     Ranked::Is(n)
 }
 

@@ -24,6 +24,9 @@ array-share-prefix-products c = search needs
 slice-aggregate-put-rows : tie.Need-slice-aggregate-put-rows
 slice-aggregate-put-rows c = forms-length (c .before .before .before .before .before .before .before .before .before .before .args .c) (c .before .before .before .before .before .before .before .before .before .before .pre .0)
 
+add-put-rows : tie.Need-add-put-rows
+add-put-rows c = search needs
+
 put-rows-requires : tie.Need-put-rows-requires
 put-rows-requires c κs = let e = forms-length (c .before .before .before .before .before .before .before .before .before .before .before .args .c) (c .before .before .before .before .before .before .before .before .before .before .before .pre .0) in let W = c .before .before .before .before .before .before .before .before .before .before .before .pre .0 in let r = W .room in let h = c .before .before .before .before .before .before .before .before .before .before .before .pre .1 in (omega arith, omega (arith, c .before .before .before .before .copy .kept .1 .0))
 
@@ -31,7 +34,7 @@ same-length : tie.Need-same-length
 same-length c = search needs
 
 returns : tie.Need-returns
-returns c = record-written (c .before .before .before .before .before .before .before .before .before .before .before .before .before .before .args .c) (c .before .before .before .before .before .before .before .before .before .before .before .before .before .before .args .targets .now) (c .before .before .before .before .before .before .before .before .before .before .before .before .before .before .args .out .now) _ _ (c .before .before .before .before .before .before .before .before .before .before .before .before .before .before .pre .0) (c .before .before .before .before .before .before .before .before .before .before .before .before .before .before .pre .1) (c .before .before .before .before .before .before .before .copy .ensures) (c .before .before .put-rows .ensures)
+returns c = record-written (c .before .before .before .before .before .before .before .before .before .before .before .before .before .before .args .c) (c .before .before .before .before .before .before .before .before .before .before .before .before .before .before .args .targets .now) (c .before .before .before .before .before .before .before .before .before .before .before .before .before .before .args .out .now) _ _ (c .before .before .before .before .before .before .before .before .before .before .before .before .before .before .args .at) (c .before .before .before .before .before .before .before .before .before .before .before .before .before .before .pre .0) (c .before .before .before .before .before .before .before .before .before .before .before .before .before .before .pre .1) (c .before .before .before .before .before .before .before .copy .ensures) (c .before .before .put-rows .ensures)
 
 pub write-formula-spec : {M : Type 1} → statement M
 write-formula-spec =
@@ -42,6 +45,7 @@ write-formula-spec =
     copy-requires
     array-share-prefix-products
     slice-aggregate-put-rows
+    add-put-rows
     put-rows-requires
     same-length
     returns)

@@ -3,16 +3,16 @@
 --   record-written                 the record of a formula, its numbers written first and then its rows
 -- Assumes nothing.
 use mathlib.Core.Path.{_≡_, refl, sym, ap, ap₂, _∙_}
-use mathlib.Core.List.{List, _++_, map}
+use mathlib.Core.List.{List, _++_, map, append-assoc}
 use Prim.Native.Nat.{ℕ, suc, _+_, _<_, _≤_}
 use native.Mathlib.Omega.{arith}
 use lib.ListN.{length, getD, take, drop, set, length-append, length-set, length-map, List·getD-map}
-use lib.Seq.{length-take-le, drop-drop, take-length, take-append-seam, drop-append-seam, paste, paste-zero, paste-suc}
+use lib.Seq.{take-paste, drop-paste, length-take-le, drop-drop, take-length, paste, paste-zero, paste-suc}
 use native.Mathlib.Nat.{zero-add}
 use Rattle.words.specs.Buffers.{filled}
 use Rattle.rows.specs.Rows.{rowOf}
 use Rattle.choice.specs.declared.Choice.{Choice}
-use Rattle.choice.specs.Choice.{numbersOf, formsOf, Whole}
+use Rattle.choice.specs.Choice.{numbersOf, formsOf, Whole, recordOf}
 
 -- ---- values of a function, written one after the other
 module _ (f : ℕ → ℕ) (xs before : List ℕ) (at : ℕ) where
@@ -40,22 +40,21 @@ module _ (f : ℕ → ℕ) (xs before : List ℕ) (at : ℕ) where
   pub writing-end : (after : List ℕ) (i : ℕ) → Writing after i → length xs ≤ i → after ≡ paste before at (map f xs) (length xs)
   writing-end after i W l = W .is ∙ ap (paste before at (map f xs)) (let a = W .within in let e : i ≡ length xs = omega arith in e)
 
--- ---- two lists written one after the other from the start
-pub two-written : (xs ys d : List ℕ) (u : ℕ) → u ≡ length ys → length xs + u ≤ length d → paste (paste d 0 xs (length xs)) (length xs) ys u ≡ filled (xs ++ ys) d
-two-written xs ys d u e h =
-    let n : ℕ = length xs in
-    ap₂ (λ (a b : List ℕ). a ++ b ++ drop (n + u) (paste d 0 xs n)) front (ap (λ (k : ℕ). take k ys) e ∙ take-length ys) ∙ ap (λ (r : List ℕ). xs ++ ys ++ r) back
+-- ---- two lists written one after the other
+pub two-written : (xs ys d : List ℕ) (at u : ℕ) → u ≡ length ys → at + (length xs + u) ≤ length d
+    → paste (paste d at xs (length xs)) (at + length xs) ys u ≡ paste d at (xs ++ ys) (length xs + u)
+two-written xs ys d at u e h =
+    ap₂ (λ (a b : List ℕ). a ++ take u ys ++ b) (take-paste d at xs (length xs) (omega arith) (omega arith))
+    (sym (drop-drop u (at + length xs) (paste d at xs (length xs))) ∙ ap (drop u) (drop-paste d at xs (length xs) (omega arith) (omega arith)) ∙ drop-drop u (at + length xs) d)
+    ∙ ap₂ (λ (a : List ℕ) (n : ℕ). a ++ drop n d) inner (let z : at + length xs + u ≡ at + (length xs + u) = omega arith in z)
   where
-    zero-cut : paste d 0 xs (length xs) ≡ xs ++ drop (length xs) d
-    zero-cut = ap₂ (λ (a b : List ℕ). a ++ b) (take-length xs) (ap (λ (k : ℕ). drop k d) (zero-add (length xs)))
+    whole : take (length xs + u) (xs ++ ys) ≡ xs ++ ys
+    whole = ap (λ (n : ℕ). take n (xs ++ ys)) (let z : length xs + u ≡ length (xs ++ ys) = omega (arith, e, length-append xs ys) in z) ∙ take-length (xs ++ ys)
 
-    front : take (length xs) (paste d 0 xs (length xs)) ≡ xs
-    front = ap (take (length xs)) zero-cut ∙ take-append-seam xs (drop (length xs) d)
-
-    back : drop (length xs + u) (paste d 0 xs (length xs)) ≡ drop (length (xs ++ ys)) d
-    back =
-        ap (drop (length xs + u)) zero-cut ∙ sym (drop-drop u (length xs) (xs ++ drop (length xs) d)) ∙ ap (drop u) (drop-append-seam xs (drop (length xs) d))
-        ∙ drop-drop u (length xs) d ∙ ap (λ (k : ℕ). drop k d) (let a = length-append xs ys in let z : length xs + u ≡ length (xs ++ ys) = omega arith in z)
+    inner : (take at d ++ take (length xs) xs) ++ take u ys ≡ take at d ++ take (length xs + u) (xs ++ ys)
+    inner =
+        append-assoc (take at d) (take (length xs) xs) (take u ys)
+        ∙ ap (λ (r : List ℕ). take at d ++ r) (ap₂ _++_ (take-length xs) (ap (λ (n : ℕ). take n ys) e ∙ take-length ys) ∙ sym whole)
 
 pub numbers-length : (c : Choice) → Whole c → c .len ≡ length (numbersOf c)
 numbers-length c W = sym (length-take-le (c .len) (c .numbers) (let a = W .room in let b = W .numbers in omega arith))
@@ -63,8 +62,13 @@ numbers-length c W = sym (length-take-le (c .len) (c .numbers) (let a = W .room 
 pub forms-length : (c : Choice) → Whole c → c .len ≡ length (formsOf c)
 forms-length c W = sym (length-take-le (c .len) (c .forms) (let a = W .room in let b = W .forms in omega arith))
 
-pub record-written : (c : Choice) (targets d after last : List ℕ) → Whole c → c .len + length targets ≤ length d → after ≡ paste d 0 (numbersOf c) (length (numbersOf c))
-    → last ≡ paste after (c .len) (map (rowOf (formsOf c)) targets) (length targets) → last ≡ filled (numbersOf c ++ map (rowOf (formsOf c)) targets) d
-record-written c targets d after last W h e f =
-    f ∙ ap₂ (λ (a : List ℕ) (n : ℕ). paste a n (map (rowOf (formsOf c)) targets) (length targets)) e (numbers-length c W)
-    ∙ two-written (numbersOf c) (map (rowOf (formsOf c)) targets) d (length targets) (sym (length-map targets (rowOf (formsOf c)))) (omega (arith, h, numbers-length c W))
+pub record-written : (c : Choice) (targets d after last : List ℕ) (at : ℕ) → Whole c → at + (c .len + length targets) ≤ length d → after ≡ paste d at (numbersOf c) (length (numbersOf c))
+    → last ≡ paste after (at + c .len) (map (rowOf (formsOf c)) targets) (length targets) → last ≡ paste d at (recordOf c targets) (c .len + length targets)
+record-written c targets d after last at W h e f =
+    f ∙ ap₂ (λ (a : List ℕ) (n : ℕ). paste a (at + n) (map (rowOf (formsOf c)) targets) (length targets)) e (numbers-length c W)
+    ∙ two-written (numbersOf c) (map (rowOf (formsOf c)) targets) d at (length targets) (sym (length-map targets (rowOf (formsOf c)))) (omega (arith, h, numbers-length c W))
+    ∙ ap (λ (n : ℕ). paste d at (recordOf c targets) (n + length targets)) (sym (numbers-length c W))
+
+-- from the start of the buffer
+pub written-first : (xs d : List ℕ) (n : ℕ) → n ≡ length xs → paste d 0 xs n ≡ filled xs d
+written-first xs d n e = ap (λ (k : ℕ). paste d 0 xs k) e ∙ ap₂ (λ (a b : List ℕ). a ++ b) (take-length xs) (ap (λ (k : ℕ). drop k d) (zero-add (length xs)))

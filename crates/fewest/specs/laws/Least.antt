@@ -12,14 +12,14 @@ use mathlib.Core.Option.{Option, none, some}
 use Prim.Native.Nat.{ℕ, zero, suc, _+_, _-_, _*_, _/_, _<_, _≤_, min}
 use native.Mathlib.Omega.{arith}
 use native.Mathlib.Nat.{le-div-iff-mul-le, one-mul}
-use lib.ListN.{length, take, drop, length-append}
-use lib.Seq.{take-append-seam, drop-append-seam}
+use lib.ListN.{length, take, drop, length-append, length-map}
+use lib.Seq.{take-append-seam, drop-append-seam, paste}
 use lib.Dec.{ltb}
 use borrow.Author.Tests.{lt-ltb, le-ltb}
 use Rattle.kinds.specs.Refusal.{refused, accepted, refuse}
 use Rattle.words.specs.Buffers.{filled}
 use Rattle.linear.specs.Basis.{basisOf, dim}
-use Rattle.linear.specs.Entry.{inside, chosen, Solution, space, entries}
+use Rattle.linear.specs.Entry.{inside, Solution, space, entries}
 use Rattle.linear.specs.Select.{anyOf}
 use Rattle.linear.specs.Formulae.{first, orElse, formula, leastFrom, missed, fewest}
 use Rattle.linear.specs.Word.{word}
@@ -34,8 +34,8 @@ use Rattle.listing.specs.declared.Listing.{Listing}
 use Rattle.listing.specs.Listing.{records, recordLength, flat, fitting, Listed}
 use Rattle.listing.specs.laws.Listing.{record-length}
 use Rattle.choice.specs.declared.Choice.{Choice}
-use Rattle.choice.specs.Choice.{numbersOf, formsOf, Chose, formulaRecord}
-use Rattle.choice.specs.laws.Writing.{numbers-length}
+use Rattle.choice.specs.Choice.{numbersOf, formsOf, Chose, recordOf, chose-record, formulaRecord}
+use Rattle.choice.specs.laws.Writing.{numbers-length, written-first}
 use Rattle.rows.specs.Rows.{rowOf}
 use Rattle.fewest.specs.declared.Least.{Least as Answered}
 use Rattle.fewest.specs.declared.Least.the-variants as answered
@@ -219,16 +219,18 @@ module _ (gens targets : List ℕ) where
         ∙ ap (λ (b : Bool). refuse 9 b (accepted (is (length (numbersOf c)) (filled (formulaRecord gens targets (numbersOf c)) old))))
         (lt-ltb (length old) (length (numbersOf c) + length targets) (let e = numbers-length c (C .whole) in omega arith))
 
-    pub finished : c .len + length targets ≤ length old → (last : List ℕ) → last ≡ filled (numbersOf c ++ map (rowOf (formsOf c)) targets) old
-        → ranking gens targets old ≡ accepted (is (c .len) last)
+    pub finished : c .len + length targets ≤ length old → (last : List ℕ) → last ≡ paste old 0 (recordOf c targets) (c .len + length targets) → ranking gens targets old ≡ accepted (is (c .len) last)
     finished h last e =
         answer
         ∙ ap (λ (b : Bool). refuse 9 b (accepted (is (length (numbersOf c)) (filled (formulaRecord gens targets (numbersOf c)) old))))
         (le-ltb (length old) (length (numbersOf c) + length targets) (let e = numbers-length c (C .whole) in omega arith))
-        ∙ ap₂ (λ (n : ℕ) (x : List ℕ). accepted (is n x)) (sym (numbers-length c (C .whole))) (sym (e ∙ ap (λ (fs : List ℕ). filled (numbersOf c ++ map (rowOf fs) targets) old) (C .forms ∙ ap (chosen word gens) (sym (C .numbers))) ∙ (unfold-record)))
+        ∙ ap₂ (λ (n : ℕ) (x : List ℕ). accepted (is n x)) (sym (numbers-length c (C .whole))) (sym (e ∙ written-first (recordOf c targets) old (c .len + length targets) size ∙ ap (λ (x : List ℕ). filled x old) same))
       where
-        unfold-record : filled (numbersOf c ++ map (rowOf (chosen word gens (numbersOf c))) targets) old ≡ filled (formulaRecord gens targets (numbersOf c)) old
-        unfold-record = unfold formulaRecord in refl
+        size : c .len + length targets ≡ length (recordOf c targets)
+        size = omega (arith, numbers-length c (C .whole), length-append (numbersOf c) (map (rowOf (formsOf c)) targets), length-map targets (rowOf (formsOf c)))
+
+        same : recordOf c targets ≡ formulaRecord gens targets (numbersOf c)
+        same = chose-record gens (extension word gens [] w) targets c C ∙ ap (formulaRecord gens targets) (sym (C .numbers))
 
   -- ---- no formula
   pub says-above : (old : List ℕ) → missed word gens targets ≡ false → leastFrom word gens targets 7 (dim word targets) ≡ none → ranking gens targets old ≡ accepted above
