@@ -13,7 +13,7 @@ use kinds::Sized;
 use maps::Count;
 
 // Whether x stands in xs at `from` or later.
-fn stands_from(x: u64, xs: &[u64], from: usize) -> bool
+pub fn stands_from(x: u64, xs: &[u64], from: usize) -> bool
     ensures { λ r. ⌜ r ≡ anyOf (eqb x) (drop from (now (xs .entry))) ⌝ }
 {
     let mut i = from;
@@ -27,7 +27,7 @@ fn stands_from(x: u64, xs: &[u64], from: usize) -> bool
 }
 
 // Whether some form stands twice.
-fn repeats(xs: &[u64]) -> bool
+pub fn repeats(xs: &[u64]) -> bool
     ensures { λ r. ⌜ r ≡ repeats (now (xs .entry)) ⌝ }
 {
     let mut i = 0;

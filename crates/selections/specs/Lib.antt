@@ -1,0 +1,4 @@
+-- Questions on a selection of generators.
+pub mod Selections
+pub mod Theorems
+pub mod laws

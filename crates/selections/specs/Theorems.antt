@@ -1,0 +1,105 @@
+-- What the answers on a selection mean, in words of sums. To be read from top to bottom.
+--   Fits            == each selected number is one of a generator, and none stands twice
+--   sum-means       yes exactly if the form is a sum of selected generators
+--   redundant-means yes exactly if each target is a sum of the selected generators other than j; and all of them span the targets, and j is one of them
+-- Assumes nothing.
+use mathlib.Core.Path.{_≡_, refl, sym, ap, _∙_, subst}
+use mathlib.Core.Logic.{_≢_, _↔_}
+use mathlib.Core.Bool.{Bool, true, false, not, _||_, true≢false, false≢true}
+use mathlib.Core.List.{List, [], _∷_, List·Memᴰ}
+use Prim.Native.Nat.{ℕ, _<_}
+use native.Mathlib.Omega.{arith}
+use lib.ListN.{length}
+use lib.Dec.{eqb, ltb}
+use borrow.Author.Tests.{eqb-true, eq-eqb, ltb-true}
+use Rattle.kinds.specs.Refusal.{Answer, accepted, refuse, follow}
+use Rattle.kinds.specs.RefusalLaws.{accepted-inj, follow-inv, refuse-inv}
+use Rattle.problems.specs.Problem.{Problem, posed, repeats}
+use Rattle.linear.specs.Span.{Span}
+use Rattle.linear.specs.Basis.{basisOf}
+use Rattle.linear.specs.Select.{anyOf, only}
+use Rattle.linear.specs.Entry.{inside, chosen}
+use Rattle.linear.specs.Rank.{Computes}
+use Rattle.linear.specs.Word.{word}
+use Rattle.linear.specs.laws.Insert.{basisOf-reduced, basisOf-span}
+use Rattle.linear.specs.laws.Entry.{inside-yes, yes-inside}
+use Rattle.linear.specs.laws.Select.{anyOf-no, no-anyOf, anyOf-yes}
+use Rattle.selections.specs.Selections.{misfit, without, missedBy, sumAnswer, redundantAnswer, isSum, isRedundant}
+
+pub record Fits (n : ℕ) (sel : List ℕ) : Type 0 where
+  pub numbers : (e : ℕ) → List·Memᴰ e sel → e < n
+  pub once : repeats sel ≡ false
+
+-- ---- a form, and the targets, in the span of selected generators
+pub in-span : (xs : List ℕ) (v : ℕ) → (inside word (basisOf word xs) v ≡ true) ↔ Span word xs v
+in-span xs v = (
+  λ e. basisOf-span word xs v .0 (inside-yes word (basisOf word xs) v e),
+  λ s. yes-inside word (basisOf word xs) (basisOf-reduced word xs) v (basisOf-span word xs v .1 s),
+)
+
+false-not : (b : Bool) → not b ≡ false → b ≡ true
+false-not true e = refl
+false-not false e = absurd (true≢false e)
+
+pub not-missed : (gens targets sel : List ℕ) → (missedBy gens targets sel ≡ false) ↔ Computes word targets (chosen word gens sel)
+unfolding missedBy
+not-missed gens targets sel = (
+  λ e t m. in-span (chosen word gens sel) t .0 (false-not (inside word (basisOf word (chosen word gens sel)) t) (anyOf-no (λ t. not (inside word (basisOf word (chosen word gens sel)) t)) targets e t m)),
+  λ h. no-anyOf (λ t. not (inside word (basisOf word (chosen word gens sel)) t)) targets (λ t m. ap not (in-span (chosen word gens sel) t .1 (h t m))),
+)
+
+or-false : (a b : Bool) → a || b ≡ false → (a ≡ false) × (b ≡ false)
+or-false true b e = absurd (true≢false e)
+or-false false b e = (refl, e)
+
+pub fits : (n : ℕ) (sel : List ℕ) → misfit n sel ≡ false → Fits n sel
+unfolding misfit
+fits n sel e =
+    let o = or-false (anyOf (λ e. not (ltb e n)) sel) (repeats sel) e in
+    record { numbers = λ x m. ltb-true x n (false-not (ltb x n) (anyOf-no (λ e. not (ltb e n)) sel (o .0) x m)); once = o .1 }
+
+-- ---- the two answers
+pub record SumMeans (x : Problem) (sel : List ℕ) (form : ℕ) (b : Bool) : Type 0 where
+  pub fits : Fits (length (x .generators)) sel
+  pub exactly : (b ≡ true) ↔ Span word (chosen word (x .generators) sel) form
+
+pub sum-means : (number p q r : ℕ) (gs ts sel : List ℕ) (form : ℕ) (b : Bool) → isSum number p q r gs ts sel form ≡ accepted b
+    → (x : Problem) × (posed number p q r gs ts (form ∷ []) ≡ accepted x) × SumMeans x sel form b
+unfolding isSum sumAnswer
+sum-means number p q r gs ts sel form b e =
+    let i = follow-inv (posed number p q r gs ts (form ∷ [])) (λ x. sumAnswer x sel form) b e in
+    let j = refuse-inv 11 (misfit (length (i .0 .generators)) sel) (accepted (inside word (basisOf word (chosen word (i .0 .generators) sel)) form)) b (i .2) in
+    let q : inside word (basisOf word (chosen word (i .0 .generators) sel)) form ≡ b = accepted-inj (inside word (basisOf word (chosen word (i .0 .generators) sel)) form) b (j .1) in
+    (i .0, i .1, record { fits = fits (length (i .0 .generators)) sel (j .0); exactly = (λ t. in-span (chosen word (i .0 .generators) sel) form .0 (q ∙ t), λ s. sym q ∙ in-span (chosen word (i .0 .generators) sel) form .1 s) })
+
+pub record RedundantMeans (x : Problem) (sel : List ℕ) (j : ℕ) (b : Bool) : Type 0 where
+  pub fits : Fits (length (x .generators)) sel
+  pub spans : Computes word (x .targets) (chosen word (x .generators) sel)
+  pub selected : List·Memᴰ j sel
+  pub exactly : (b ≡ true) ↔ Computes word (x .targets) (chosen word (x .generators) (without j sel))
+
+member : (j : ℕ) (sel : List ℕ) → anyOf (eqb j) sel ≡ true → List·Memᴰ j sel
+member j sel e = let r = anyOf-yes (eqb j) sel e in subst (λ (y : ℕ). List·Memᴰ y sel) (sym (eqb-true j (r .0) (r .2))) (r .1)
+
+not-true : (b : Bool) → not b ≡ true → b ≡ false
+not-true true e = absurd (false≢true e)
+not-true false e = refl
+
+pub redundant-means : (number p q r : ℕ) (gs ts sel : List ℕ) (j : ℕ) (b : Bool) → isRedundant number p q r gs ts sel j ≡ accepted b
+    → (x : Problem) × (posed number p q r gs ts [] ≡ accepted x) × RedundantMeans x sel j b
+unfolding isRedundant redundantAnswer
+redundant-means number p q r gs ts sel j b e =
+    let i = follow-inv (posed number p q r gs ts []) (λ x. redundantAnswer x sel j) b e in
+    let G = i .0 .generators in
+    let T = i .0 .targets in
+    let last = accepted (not (missedBy G T (without j sel))) in
+    let a = refuse-inv 11 (misfit (length G) sel) (refuse 11 (missedBy G T sel) (refuse 11 (not (anyOf (eqb j) sel)) last)) b (i .2) in
+    let c = refuse-inv 11 (missedBy G T sel) (refuse 11 (not (anyOf (eqb j) sel)) last) b (a .1) in
+    let d = refuse-inv 11 (not (anyOf (eqb j) sel)) last b (c .1) in
+    let q : not (missedBy G T (without j sel)) ≡ b = accepted-inj (not (missedBy G T (without j sel))) b (d .1) in
+    (i .0, i .1, record {
+      fits = fits (length G) sel (a .0);
+      spans = not-missed G T sel .0 (c .0);
+      selected = member j sel (false-not (anyOf (eqb j) sel) (d .0));
+      exactly = (λ t. not-missed G T (without j sel) .0 (not-true (missedBy G T (without j sel)) (q ∙ t)), λ h. sym q ∙ ap not (not-missed G T (without j sel) .1 h));
+    })

@@ -1,0 +1,137 @@
+// Questions on a selection of generators: is a form a sum of them, and is one of them redundant.
+ghost use mathlib.Core.Path.{_≡_};
+ghost use mathlib.Core.Bool.{Bool, false, not};
+ghost use lib.ListN.{length};
+ghost use lib.Dec.{ltb};
+ghost use Rattle.linear.specs.Basis.{basisOf};
+ghost use Rattle.linear.specs.Select.{anyOf};
+ghost use Rattle.linear.specs.Entry.{chosen};
+ghost use Rattle.linear.specs.Word.{word};
+ghost use Rattle.bases.specs.Basis.{Holds};
+ghost use Rattle.problems.specs.Problem.{problem};
+ghost use Rattle.selections.specs.Selections.{misfit, without, sumAnswer, redundantAnswer, isSum, isRedundant, seenSaid};
+use bases::Basis;
+use problems::Posed;
+
+// A refusal's number, or yes or no.
+pub enum Said {
+    Refused(u64),
+    Yes,
+    No,
+}
+
+// Whether some number is not below n.
+fn any_outside(sel: &[u64], n: usize) -> bool
+    ensures { λ r. ⌜ r ≡ anyOf (λ e. not (ltb e n)) (now (sel .entry)) ⌝ }
+{
+    let mut i = 0;
+    while i < sel.len() {
+        if sel[i] >= n as u64 {
+            return true;
+        }
+        i += 1;
+    }
+    false
+}
+
+// Whether a selection out of n generators has a number outside, or one twice.
+fn misfits(sel: &[u64], n: usize) -> bool
+    ensures { λ r. ⌜ r ≡ misfit n (now (sel .entry)) ⌝ }
+{
+    if any_outside(sel, n) {
+        return true;
+    }
+    problems::repeats(sel)
+}
+
+// The span of the selected generators but the one with the number `skip`.
+fn span_without(gens: &[u64], sel: &[u64], skip: u64) -> Basis
+    requires { ⌜ misfit (length (now gens)) (now sel) ≡ false ⌝ }
+    ensures { λ r. ⌜ Holds (basisOf word (chosen word (now (gens .entry)) (without skip (now (sel .entry))))) r ⌝ }
+{
+    let mut b = Basis::empty();
+    let mut i = 0;
+    while i < sel.len() {
+        let e = sel[i];
+        if e == skip {
+            i += 1;
+        } else {
+            b = b.insert(gens[e as usize]);
+            i += 1;
+        }
+    }
+    b
+}
+
+// Whether the form is a sum of the selected generators; refusal 11.
+fn say_sum(gens: &[u64], targets: &[u64], sel: &[u64], form: u64) -> Said
+    ensures { λ r. ⌜ sumAnswer (problem (now (gens .entry)) (now (targets .entry))) (now (sel .entry)) form ≡ seenSaid r ⌝ }
+{
+    let n = gens.len();
+    if misfits(sel, n) {
+        return Said::Refused(11);
+    }
+    // no selected number is n
+    let b = span_without(gens, sel, n as u64);
+    if b.contains(form) { Said::Yes } else { Said::No }
+}
+
+// Whether the selected generators but number j still span the targets; refusal 11.
+fn say_redundant(gens: &[u64], targets: &[u64], sel: &[u64], j: u64) -> Said
+    ensures { λ r. ⌜ redundantAnswer (problem (now (gens .entry)) (now (targets .entry))) (now (sel .entry)) j ≡ seenSaid r ⌝ }
+{
+    let n = gens.len();
+    if misfits(sel, n) {
+        return Said::Refused(11);
+    }
+    if choice::misses(span_without(gens, sel, n as u64), targets) {
+        return Said::Refused(11);
+    }
+    if !problems::stands_from(j, sel, 0) {
+        return Said::Refused(11);
+    }
+    if choice::misses(span_without(gens, sel, j), targets) { Said::No } else { Said::Yes }
+}
+
+// Is the form a sum of the generators with the numbers `sel`? The problem is handed in as to Catalogue.
+pub fn is_sum(
+    number: u64,
+    p: u64,
+    q: u64,
+    r: u64,
+    gs: &[u64],
+    ts: &[u64],
+    sel: &[u64],
+    form: u64,
+) -> Said
+    ensures { λ x. ⌜ isSum number p q r (now (gs .entry)) (now (ts .entry)) (now (sel .entry)) form ≡ seenSaid x ⌝ }
+{
+    let mut g = [0u64; 4095];
+    let mut t = [0u64; 64];
+    let one = [form];
+    match problems::pose(number, p, q, r, gs, ts, &one, &mut g, &mut t) {
+        Posed::Refused(e) => Said::Refused(e),
+        Posed::Are(n, u) => say_sum(&g[..n], &t[..u], sel, form),
+    }
+}
+
+// Is the selected product with the generator number j redundant (document 01: spare), the others still spanning the targets?
+pub fn is_redundant(
+    number: u64,
+    p: u64,
+    q: u64,
+    r: u64,
+    gs: &[u64],
+    ts: &[u64],
+    sel: &[u64],
+    j: u64,
+) -> Said
+    ensures { λ x. ⌜ isRedundant number p q r (now (gs .entry)) (now (ts .entry)) (now (sel .entry)) j ≡ seenSaid x ⌝ }
+{
+    let mut g = [0u64; 4095];
+    let mut t = [0u64; 64];
+    match problems::pose(number, p, q, r, gs, ts, &gs[..0], &mut g, &mut t) {
+        Posed::Refused(e) => Said::Refused(e),
+        Posed::Are(n, u) => say_redundant(&g[..n], &t[..u], sel, j),
+    }
+}
