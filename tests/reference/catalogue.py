@@ -307,12 +307,12 @@ def rank_program(data):
 # The self-test.
 
 def random_list(chance):
-    p = chance.randint(1, 6)
+    p = chance.choice((1, 2, 3, 3, 4, 4, 4, 5, 5, 6))
     words = list(range(1, 2 ** p))
     chance.shuffle(words)
-    gs = words[:chance.randint(1, min(8, len(words)))]
-    ts = [chance.choice([0] + words) if chance.random() < 0.3 else
-          sum_of(chance.sample(gs, chance.randint(0, len(gs)))) for _ in range(chance.randint(1, 4))]
+    gs = words[:chance.choice((2, 4, 6, 7, 8, 8))]
+    ts = [chance.choice([0] + words) if chance.random() < 0.2 else
+          sum_of(chance.sample(gs, chance.randint(1, len(gs)))) for _ in range(chance.choice((1, 1, 2, 2, 3, 4)))]
     return p, gs, ts
 
 
