@@ -1,9 +1,10 @@
 #!/usr/bin/env python3
 """Writes the problems of a program that runs Catalogue and Rank on numbers, and the replies expected of it.
 
-    make_problems.py DIRECTORY
+    make_problems.py DIRECTORY            for a program that runs the calls
+    make_problems.py --posed DIRECTORY    for one that poses each problem once
 
-writes DIRECTORY/data/*.txt, their names to DIRECTORY/args and the replies to
+write DIRECTORY/data/*.txt, their names to DIRECTORY/args and the replies to
 DIRECTORY/stdout.  A problem is one line of decimal numbers:
 
     call number p q r k w  c g_0 .. g_(c-1)  u t_0 .. t_(u-1)
@@ -13,6 +14,11 @@ of w words, of which word i holds 1000000 + i before the call.  The reply is
 one line as well, and ends with the buffer after the call, behind ` :`:
 
     found F shown S :..    rank R :..    above :..    beyond :..    refused E :..
+
+A problem that is only posed is answered by `refused E`, or by the number of its
+generators, the generators and the targets:
+
+    posed C : g_0 .. : t_0 ..
 
 Where a problem is made for a reply, the reply is written beside it and must
 agree with catalogue.py.  The random lists come from a fixed seed.
@@ -177,10 +183,33 @@ def ranks():
     listed("ranks", RANK, 3, [1, 2, 3, 4, 5], [3, 3, 0, 6, 5], 0, 16)     # dependent targets
 
 
+def only_posed():
+    """Each problem once, with no call and no k."""
+    seen = {}
+    for name, lines in list(files.items()):
+        for asked, _ in lines:
+            call, number, p, q, r, k, w, c, *rest = map(int, asked.split())
+            gs, ts = rest[:c], rest[c + 1:]
+            seen.setdefault((number, p, q, r, tuple(gs), tuple(ts)))
+    files.clear()
+    for number, p, q, r, gs, ts in seen:
+        kind = KINDS[number] if number < 5 else b"?"
+        try:
+            generators, targets = catalogue.posed(kind, p, q, r, list(gs), list(ts))
+            line = " ".join(["posed %d :" % len(generators), *map(str, generators), ":", *map(str, targets)])
+        except Refused as refusal:
+            line = "refused %d" % refusal.args[0]
+        asked = [0, number, p, q, r, 0, 0, len(gs), *gs, len(ts), *ts]
+        files.setdefault("posed", []).append((" ".join(map(str, asked)), line))
+
+
 def main():
-    home = sys.argv[1]
-    for make in (worked, limits, refusals, tables, lists, ranks):
+    home = sys.argv[-1]
+    posed = sys.argv[1] == "--posed"
+    for make in (worked, limits, refusals, lists, ranks) if posed else (worked, limits, refusals, tables, lists, ranks):
         make()
+    if posed:
+        only_posed()
     os.makedirs(os.path.join(home, "data"), exist_ok=True)
     with open(os.path.join(home, "args"), "w") as args, open(os.path.join(home, "stdout"), "w") as out:
         for name, lines in files.items():

@@ -1,0 +1,78 @@
+-- `problem_values::pose_all`: each problem takes at least a word. Assumes nothing.
+use native.Mathlib.Omega.{arith}
+use borrow.Author.Needs.{needs}
+use Prim.Native.Nat.{_-_, _≤_}
+use mathlib.Core.Path.{_≡_, ap, _∙_}
+use lib.ListN.{length, drop, take, length-drop}
+use borrow.Rule.Slice.PartAt.{part-to-end}
+use Rattle.problem_values.proofs.pose_all.Statement.{statement}
+use Rattle.problem_values.proofs.pose_all.Tie as tie
+
+abbrev Inv-loop : tie.InvT-loop
+Inv-loop words at₀ at = at ≤ length words
+
+abbrev μ-loop : tie.MeasureT-loop
+μ-loop words at₀ at = length words - at
+
+loop-holds : tie.Need-loop-holds Inv-loop μ-loop
+loop-holds c = omega arith
+
+mul-pose-at : tie.Need-mul-pose-at Inv-loop μ-loop
+mul-pose-at c = omega arith
+
+sub-pose-at : tie.Need-sub-pose-at Inv-loop μ-loop
+sub-pose-at c = omega arith
+
+part-pose-at-start : tie.Need-part-pose-at-start Inv-loop μ-loop
+part-pose-at-start c = search needs
+
+part-pose-at-end : tie.Need-part-pose-at-end Inv-loop μ-loop
+part-pose-at-end c = search needs
+
+pose-at-requires : tie.Need-pose-at-requires Inv-loop μ-loop
+pose-at-requires c κs = search needs
+
+add-at : tie.Need-add-at Inv-loop μ-loop
+add-at c =
+    let w = c .before .before .before .before .before .args .words .now in
+    let at = c .before .before .before .loop .at in
+    let e : length (take (length w - at) (drop at w)) ≡ length w - at = ap length (part-to-end w at) ∙ length-drop at w in
+    let f = c .pose-at .ensures .1 in
+    omega arith
+
+loop-less : tie.Need-loop-less Inv-loop μ-loop
+loop-less c =
+    let w = c .before .before .before .before .before .args .words .now in
+    let at = c .before .before .before .loop .at in
+    let e : length (take (length w - at) (drop at w)) ≡ length w - at = ap length (part-to-end w at) ∙ length-drop at w in
+    let f = c .pose-at .ensures .1 in
+    let g = c .pose-at .ensures .0 (omega arith) in
+    omega arith
+
+loop-again : tie.Need-loop-again Inv-loop μ-loop
+loop-again c =
+    let w = c .before .before .before .before .before .args .words .now in
+    let at = c .before .before .before .loop .at in
+    let e : length (take (length w - at) (drop at w)) ≡ length w - at = ap length (part-to-end w at) ∙ length-drop at w in
+    let f = c .pose-at .ensures .1 in
+    omega arith
+
+returns : tie.Need-returns Inv-loop μ-loop
+returns c = search needs
+
+pub pose-all-spec : {M : Type 1} → statement M
+pose-all-spec =
+    tie.close
+    (tie.spec
+    Inv-loop
+    μ-loop
+    loop-holds
+    mul-pose-at
+    sub-pose-at
+    part-pose-at-start
+    part-pose-at-end
+    pose-at-requires
+    add-at
+    loop-less
+    loop-again
+    returns)
