@@ -1,0 +1,225 @@
+#!/usr/bin/env python3
+"""Writes the problems of a program that runs Catalogue and Rank on numbers, and the replies expected of it.
+
+    make_problems.py DIRECTORY            for a program that runs the calls
+    make_problems.py --posed DIRECTORY    for one that poses each problem once
+
+write DIRECTORY/data/*.txt, their names to DIRECTORY/args and the replies to
+DIRECTORY/stdout.  A problem is one line of decimal numbers:
+
+    call number p q r k w  c g_0 .. g_(c-1)  u t_0 .. t_(u-1)
+
+with call 0 for Catalogue and 1 for Rank, the kind by its number, and a buffer
+of w words, of which word i holds 1000000 + i before the call.  The reply is
+one line as well, and ends with the buffer after the call, behind ` :`:
+
+    found F shown S :..    rank R :..    above :..    beyond :..    refused E :..
+
+A problem that is only posed is answered by `refused E`, or by the number of its
+generators, the generators and the targets:
+
+    posed C : g_0 .. : t_0 ..
+
+Where a problem is made for a reply, the reply is written beside it and must
+agree with catalogue.py.  The random lists come from a fixed seed.
+"""
+
+import os
+import random
+import sys
+
+sys.dont_write_bytecode = True
+import catalogue
+from catalogue import KINDS, Refused, random_list, reduced
+
+CATALOGUE, RANK = 0, 1
+POLY, SHORT, CIRC, MAT, LIST = range(5)
+HUGE = 2 ** 64 - 1
+files = {}
+
+
+def reply(call, number, p, q, r, k, w, gs, ts):
+    before = [1000000 + i for i in range(w)]
+    kind = KINDS[number] if number < 5 else b"?"
+    try:
+        if call == CATALOGUE:
+            ell, found, shown, after, listed = catalogue.catalogue(kind, p, q, r, k, gs, ts, before)
+            said = "found %d shown %d" % (found, shown)
+        else:
+            ell, least, products, masks, after = catalogue.rank(kind, p, q, r, k, gs, ts, before)
+            said = least if isinstance(least, str) else "rank %d" % least
+    except Refused as refusal:
+        said, after = "refused %d" % refusal.args[0], before
+    return said, " ".join([said, ":"] + list(map(str, after)))
+
+
+def add(name, call, number, p, q, r, k, w, gs=(), ts=(), want=None):
+    gs, ts = list(gs), list(ts)
+    said, line = reply(call, number, p, q, r, k, w, gs, ts)
+    assert want is None or said == want or said.startswith(want + " "), (name, call, number, p, q, r, k, gs, ts, said, want)
+    asked = [call, number, p, q, r, k, w, len(gs)] + gs + [len(ts)] + ts
+    files.setdefault(name, []).append((" ".join(map(str, asked)), line))
+
+
+def listed(name, call, p, gs, ts, k, w, want=None):
+    add(name, call, LIST, p, len(gs), len(ts), k, w, gs, ts, want)
+
+
+def worked():
+    """Document 01's worked entries, poly 2,2 for every k, and buffers of every length."""
+    for k in range(10):
+        add("worked", CATALOGUE, POLY, 2, 2, 0, k, 12, want="found %d" % (k in (3, 4)))
+    add("worked", CATALOGUE, POLY, 2, 2, 0, 10, 12, want="refused 8")
+    for w in range(21):
+        add("worked", CATALOGUE, POLY, 2, 3, 0, 5, w, want="found 3 shown %d" % min(3, w // 6))
+    listed("worked", CATALOGUE, 2, [1, 2, 3], [3], 1, 8, "found 1 shown 1")
+    listed("worked", CATALOGUE, 2, [1, 2, 3], [3], 2, 8, "found 1 shown 1")
+    for w in (0, 3):        # a record of length 0 needs no room
+        listed("worked", CATALOGUE, 2, [1, 2], [0, 0], 0, w, "found 1 shown 1")
+    add("worked", RANK, POLY, 2, 2, 0, 0, 6, want="rank 3")
+    add("worked", RANK, POLY, 1, 1, 0, 0, 2, want="rank 1")
+    listed("worked", RANK, 2, [1], [2], 0, 4, "beyond")
+    listed("worked", RANK, 2, [1], [0], 0, 4, "rank 0")
+
+
+def limits():
+    """What is just taken and just refused."""
+    add("limits", CATALOGUE, POLY, 6, 6, 0, 11, 8, want="found")
+    add("limits", CATALOGUE, POLY, 6, 6, 0, 12, 8, want="found")
+    add("limits", CATALOGUE, POLY, 12, 1, 0, 12, 14, want="found 1 shown 1")
+    add("limits", CATALOGUE, POLY, 12, 1, 0, 18, 14, want="found 0")
+    add("limits", CATALOGUE, POLY, 12, 1, 0, 19, 14, want="refused 8")
+    add("limits", RANK, POLY, 12, 1, 0, 0, 24, want="rank 12")
+    add("limits", RANK, POLY, 1, 12, 0, 0, 24, want="rank 12")
+    for call in (CATALOGUE, RANK):
+        for p, q in ((7, 6), (13, 1), (1, 13), (8, 8), (64, 1), (1, 64), (2, 32)):
+            add("limits", call, POLY, p, q, 0, 0, 2, want="refused 4")
+        for p, q in ((9, 8), (65, 1), (1, 65), (0, 1), (1, 0), (HUGE, 1), (HUGE, HUGE), (2 ** 32, 2 ** 32)):
+            add("limits", call, POLY, p, q, 0, 0, 2, want="refused 3")
+        for kind in (SHORT, CIRC):
+            add("limits", call, kind, 8, 8, 0, 0, 2, want="refused 4")
+            for p, q, r in ((2, 3, 0), (9, 9, 0), (0, 0, 0), (2, 2, 1)):
+                add("limits", call, kind, p, q, r, 0, 2, want="refused 3")
+        for p, q, r in ((3, 3, 3), (0, 1, 1), (1, 0, 1), (1, 1, 0), (2 ** 32, 1, 2 ** 32), (HUGE, HUGE, HUGE)):
+            add("limits", call, MAT, p, q, r, 0, 2, want="refused 3")
+        add("limits", call, MAT, 4, 1, 16, 0, 2, want="refused 4")
+        for p, q, r in ((0, 1, 1), (65, 1, 1), (1, 0, 1), (1, 1, 0), (1, 1, 65), (HUGE, 1, 1)):
+            add("limits", call, LIST, p, q, r, 0, 2, [1], [1], "refused 3")
+        for q in (4096, HUGE):
+            add("limits", call, LIST, 12, q, 1, 0, 2, [1], [1], "refused 4")
+        add("limits", call, LIST, 12, 4095, 1, 0, 2, [1], [1], "refused 5")
+
+
+def refusals():
+    """Each refusal, and two that apply at once."""
+    for call in (CATALOGUE, RANK):
+        many = 99           # a k that 8 refuses
+        for number in (5, 6, HUGE):
+            add("refusals", call, number, 2, 2, 0, 0, 2, want="refused 2")
+            add("refusals", call, number, 0, 0, 9, many, 2, [1], [1], "refused 2")
+        add("refusals", call, POLY, 9, 8, 0, many, 2, [1], [1], "refused 3")
+        add("refusals", call, POLY, 7, 6, 0, many, 2, [1], [], "refused 4")
+        add("refusals", call, POLY, 2, 2, 0, many, 2, [1], [], "refused 5")
+        add("refusals", call, POLY, 2, 2, 0, many, 2, [], [HUGE], "refused 5")
+        add("refusals", call, LIST, 2, 4096, 1, many, 2, [0], [9], "refused 4")
+        add("refusals", call, LIST, 2, 2, 1, many, 2, [0], [1], "refused 5")
+        add("refusals", call, LIST, 2, 1, 1, many, 2, [1, 2], [1], "refused 5")
+        add("refusals", call, LIST, 2, 1, 2, many, 2, [4], [1], "refused 5")
+        add("refusals", call, LIST, 2, 1, 1, many, 2, [1], [], "refused 5")
+        listed("refusals", call, 2, [4, 0], [1], many, 2, "refused 6")
+        listed("refusals", call, 2, [1, 1], [4], many, 2, "refused 6")
+        listed("refusals", call, 63, [2 ** 63], [1], many, 2, "refused 6")
+        listed("refusals", call, 2, [1, 0], [1], many, 2, "refused 7")
+        for gs in ([1, 1], [3, 3, 1], [3, 1, 3], [1, 3, 3], [0]):
+            listed("refusals", call, 2, gs, [1], many, 2, "refused 7")
+        listed("refusals", call, 2, [1], [1], many, 2, "refused 8")
+        listed("refusals", call, 64, [HUGE, 2 ** 63], [2 ** 63], many, 2, "refused 8")
+    add("refusals", RANK, POLY, 2, 2, 0, 1, 6, want="refused 8")
+    add("refusals", RANK, POLY, 2, 2, 0, 1, 0, want="refused 8")
+
+
+def tables():
+    """The numbers of spaces in document 000, Tables 1 and 4; and mat 2,2,2 for 7."""
+    for p, q, k, found in ((2, 2, 3, 1), (3, 2, 5, 3), (3, 3, 6, 3), (4, 2, 6, 4), (4, 3, 8, 33), (4, 4, 9, 4), (5, 2, 8, 28), (5, 3, 10, 366), (6, 2, 9, 64), (6, 3, 11, 3)):
+        add("tables", CATALOGUE, POLY, p, q, 0, k, 48, want="found %d" % found)
+    for kind, p, k, found in ((SHORT, 2, 3, 3), (SHORT, 3, 5, 12), (CIRC, 2, 3, 3), (CIRC, 3, 4, 3)):
+        add("tables", CATALOGUE, kind, p, p, 0, k, 48, want="found %d" % found)
+    add("tables", CATALOGUE, MAT, 2, 2, 2, 7, 48, want="found 36")
+
+
+def lists():
+    """Random lists, for every k from 0 to one that is refused."""
+    chance = random.Random(2)
+    for _ in range(100):
+        p, gs, ts = random_list(chance)
+        ell, most = len(reduced(ts)), len(reduced(gs))
+        for k in sorted({0, max(ell - 1, 0), *range(ell, most + 2), ell + 6, ell + 7}):
+            listed("lists", CATALOGUE, p, gs, ts, k, chance.randint(0, 3 * max(2 * k - ell, 1)), "refused 8" if k > ell + 6 else "found")
+        listed("lists", RANK, p, gs, ts, 0, 16)
+
+
+def ranks():
+    """Rank of small problems of every kind, with exactly enough room, a word more and a word less; above, beyond and 0."""
+    for number, p, q, r, least, outputs in (
+            (POLY, 1, 1, 0, 1, 1), (POLY, 1, 4, 0, 4, 4), (POLY, 2, 2, 0, 3, 3), (POLY, 2, 3, 0, 5, 4), (POLY, 3, 2, 0, 5, 4), (POLY, 3, 3, 0, 6, 5),
+            (SHORT, 1, 1, 0, 1, 1), (SHORT, 2, 2, 0, 3, 2), (SHORT, 3, 3, 0, 5, 3), (CIRC, 1, 1, 0, 1, 1), (CIRC, 2, 2, 0, 3, 2), (CIRC, 3, 3, 0, 4, 3),
+            (MAT, 1, 1, 1, 1, 1), (MAT, 1, 2, 1, 2, 1), (MAT, 2, 1, 2, 4, 4), (MAT, 1, 2, 2, 4, 2), (MAT, 2, 2, 1, 4, 2), (MAT, 2, 2, 2, 7, 4)):
+        need = least + outputs
+        add("ranks", RANK, number, p, q, r, 0, need, want="rank %d" % least)
+        if number != MAT or p * q * r < 8:
+            add("ranks", RANK, number, p, q, r, 0, need + 1, want="rank %d" % least)
+            add("ranks", RANK, number, p, q, r, 0, need - 1, want="refused 9")
+            add("ranks", RANK, number, p, q, r, 0, 0, want="refused 9")
+    for w in (0, 1, 2):     # rank 0 has no products, and a row for each target
+        listed("ranks", RANK, 3, [1, 2], [0, 0], 0, w, "rank 0" if w == 2 else "refused 9")
+    ones = [1 << i for i in range(9)]
+    for w in (0, 12):       # the sum of 7 and of 8 words, with no other way to it; above and beyond need no room
+        listed("ranks", RANK, 9, ones, [2 ** 7 - 1], 0, w, "rank 7" if w else "refused 9")
+        listed("ranks", RANK, 9, ones, [2 ** 8 - 1], 0, w, "above")
+        listed("ranks", RANK, 9, ones, [2 ** 9 - 1], 0, w, "above")
+        listed("ranks", RANK, 9, ones[:8], [2 ** 9 - 1], 0, w, "beyond")
+        listed("ranks", RANK, 9, ones[:8], [1, 2 ** 8], 0, w, "beyond")
+    listed("ranks", RANK, 64, [2 ** 63, 2 ** 63 + 1], [1, 2 ** 63], 0, 8, "rank 2")
+    listed("ranks", RANK, 3, [1, 2, 3, 4, 5], [3, 3, 0, 6, 5], 0, 16)     # dependent targets
+
+
+def only_posed():
+    """Each problem once, with no call and no k."""
+    seen = {}
+    for name, lines in list(files.items()):
+        for asked, _ in lines:
+            call, number, p, q, r, k, w, c, *rest = map(int, asked.split())
+            gs, ts = rest[:c], rest[c + 1:]
+            seen.setdefault((number, p, q, r, tuple(gs), tuple(ts)))
+    files.clear()
+    for number, p, q, r, gs, ts in seen:
+        kind = KINDS[number] if number < 5 else b"?"
+        try:
+            generators, targets = catalogue.posed(kind, p, q, r, list(gs), list(ts))
+            line = " ".join(["posed %d :" % len(generators), *map(str, generators), ":", *map(str, targets)])
+        except Refused as refusal:
+            line = "refused %d" % refusal.args[0]
+        asked = [0, number, p, q, r, 0, 0, len(gs), *gs, len(ts), *ts]
+        files.setdefault("posed", []).append((" ".join(map(str, asked)), line))
+
+
+def main():
+    home = sys.argv[-1]
+    posed = sys.argv[1] == "--posed"
+    for make in (worked, limits, refusals, lists, ranks) if posed else (worked, limits, refusals, tables, lists, ranks):
+        make()
+    if posed:
+        only_posed()
+    os.makedirs(os.path.join(home, "data"), exist_ok=True)
+    with open(os.path.join(home, "args"), "w") as args, open(os.path.join(home, "stdout"), "w") as out:
+        for name, lines in files.items():
+            text = "".join(asked + "\n" for asked, _ in lines)
+            assert len(text) <= 65536, name
+            with open(os.path.join(home, "data", name + ".txt"), "w") as data:
+                data.write(text)
+            args.write(name + ".txt\n")
+            out.write(name + ".txt\n" + "".join(line + "\n" for _, line in lines))
+
+
+if __name__ == "__main__":
+    main()
