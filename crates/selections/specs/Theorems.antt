@@ -8,16 +8,15 @@ use mathlib.Core.Logic.{_≢_, _↔_}
 use mathlib.Core.Bool.{Bool, true, false, not, _||_, true≢false, false≢true}
 use mathlib.Core.List.{List, [], _∷_, List·Memᴰ}
 use Prim.Native.Nat.{ℕ, _<_}
-use native.Mathlib.Omega.{arith}
 use lib.ListN.{length}
 use lib.Dec.{eqb, ltb}
-use borrow.Author.Tests.{eqb-true, eq-eqb, ltb-true}
-use Rattle.kinds.specs.Refusal.{Answer, accepted, refuse, follow}
+use borrow.Author.Tests.{eqb-true, ltb-true}
+use Rattle.kinds.specs.Refusal.{accepted, refuse}
 use Rattle.kinds.specs.RefusalLaws.{accepted-inj, follow-inv, refuse-inv}
 use Rattle.problems.specs.Problem.{Problem, posed, repeats}
 use Rattle.linear.specs.Span.{Span}
 use Rattle.linear.specs.Basis.{basisOf}
-use Rattle.linear.specs.Select.{anyOf, only}
+use Rattle.linear.specs.Select.{anyOf}
 use Rattle.linear.specs.Entry.{inside, chosen}
 use Rattle.linear.specs.Rank.{Computes}
 use Rattle.linear.specs.Word.{word}
@@ -96,10 +95,13 @@ redundant-means number p q r gs ts sel j b e =
     let a = refuse-inv 11 (misfit (length G) sel) (refuse 11 (missedBy G T sel) (refuse 11 (not (anyOf (eqb j) sel)) last)) b (i .2) in
     let c = refuse-inv 11 (missedBy G T sel) (refuse 11 (not (anyOf (eqb j) sel)) last) b (a .1) in
     let d = refuse-inv 11 (not (anyOf (eqb j) sel)) last b (c .1) in
-    let q : not (missedBy G T (without j sel)) ≡ b = accepted-inj (not (missedBy G T (without j sel))) b (d .1) in
-    (i .0, i .1, record {
-      fits = fits (length G) sel (a .0);
-      spans = not-missed G T sel .0 (c .0);
-      selected = member j sel (false-not (anyOf (eqb j) sel) (d .0));
-      exactly = (λ t. not-missed G T (without j sel) .0 (not-true (missedBy G T (without j sel)) (q ∙ t)), λ h. sym q ∙ ap not (not-missed G T (without j sel) .1 h));
-    })
+    let q : not (missedBy G T (without j sel)) ≡ b = accepted-inj (not (missedBy G T (without j sel))) b (d .1) in (
+      i .0,
+      i .1,
+      record {
+        fits = fits (length G) sel (a .0);
+        spans = not-missed G T sel .0 (c .0);
+        selected = member j sel (false-not (anyOf (eqb j) sel) (d .0));
+        exactly = (λ t. not-missed G T (without j sel) .0 (not-true (missedBy G T (without j sel)) (q ∙ t)), λ h. sym q ∙ ap not (not-missed G T (without j sel) .1 h));
+      },
+    )

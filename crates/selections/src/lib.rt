@@ -1,6 +1,6 @@
 // Questions on a selection of generators: is a form a sum of them, and is one of them redundant.
 ghost use mathlib.Core.Path.{_≡_};
-ghost use mathlib.Core.Bool.{Bool, false, not};
+ghost use mathlib.Core.Bool.{false, not};
 ghost use lib.ListN.{length};
 ghost use lib.Dec.{ltb};
 ghost use Rattle.linear.specs.Basis.{basisOf};
@@ -73,7 +73,11 @@ fn say_sum(gens: &[u64], targets: &[u64], sel: &[u64], form: u64) -> Said
     }
     // no selected number is n
     let b = span_without(gens, sel, n as u64);
-    if b.contains(form) { Said::Yes } else { Said::No }
+    if b.contains(form) {
+        Said::Yes
+    } else {
+        Said::No
+    }
 }
 
 // Whether the selected generators but number j still span the targets; refusal 11.
@@ -90,7 +94,11 @@ fn say_redundant(gens: &[u64], targets: &[u64], sel: &[u64], j: u64) -> Said
     if !problems::stands_from(j, sel, 0) {
         return Said::Refused(11);
     }
-    if choice::misses(span_without(gens, sel, j), targets) { Said::No } else { Said::Yes }
+    if choice::misses(span_without(gens, sel, j), targets) {
+        Said::No
+    } else {
+        Said::Yes
+    }
 }
 
 // Is the form a sum of the generators with the numbers `sel`? The problem is handed in as to Catalogue.

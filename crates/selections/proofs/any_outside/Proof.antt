@@ -1,46 +1,42 @@
+-- `selections::any_outside` meets its contract. Assumes nothing.
 use native.Mathlib.Omega.{arith}
+use Prim.Native.Nat.{_-_}
+use lib.ListN.{length}
+use Rattle.selections.specs.laws.Spanning.{Checking, checking-start, checking-found, checking-past, checking-end}
 use Rattle.selections.proofs.any_outside.Statement.{statement}
 use Rattle.selections.proofs.any_outside.Tie as tie
 use Rattle.selections.proofs.any_outside.Reads as reads
 use Rattle.selections.proofs.any_outside.Lts as lts
 
 abbrev Inv-loop : tie.InvT-loop
-Inv-loop sel n i₀ i = ?
+Inv-loop sel n i₀ i = Checking n sel i
 
 abbrev μ-loop : tie.MeasureT-loop
-μ-loop sel n i₀ i = ?
+μ-loop sel n i₀ i = length sel - i
 
--- src/lib.rt:28:5
 loop-holds : tie.Need-loop-holds Inv-loop μ-loop
-loop-holds c = ?
+loop-holds c = checking-start (c .args .n) (c .args .sel .now)
 
--- src/lib.rt:29:12
 mul-if1 : tie.Need-mul-if1 Inv-loop μ-loop
 mul-if1 c = omega arith
 
--- src/lib.rt:29:12
 shared-slice-read-if1 : tie.Need-shared-slice-read-if1 Inv-loop μ-loop
 shared-slice-read-if1 c = omega arith
 
--- src/lib.rt:30:13
 returns : tie.Need-returns Inv-loop μ-loop
-returns c = ?
+returns c = checking-found (c .before .before .before .before .args .n) (c .before .before .before .before .args .sel .now) (c .before .before .before .loop .i) (c .before .before .before .loop .inv) (c .before .before .loop-test .taken) (c .if1 .taken)
 
--- src/lib.rt:32:9
 add-i : tie.Need-add-i Inv-loop μ-loop
 add-i c = omega arith
 
--- src/lib.rt:28:5
 loop-less : tie.Need-loop-less Inv-loop μ-loop
 loop-less c = omega arith
 
--- src/lib.rt:28:5
 loop-again : tie.Need-loop-again Inv-loop μ-loop
-loop-again c = ?
+loop-again c = checking-past (c .before .before .before .before .args .n) (c .before .before .before .before .args .sel .now) (c .before .before .before .loop .i) (c .before .before .before .loop .inv) (c .before .before .loop-test .taken) (let h = c .if1 .left in omega arith)
 
--- src/lib.rt:24:1
 returns-2 : tie.Need-returns-2 Inv-loop μ-loop
-returns-2 c = ?
+returns-2 c = checking-end (c .before .before .args .n) (c .before .before .args .sel .now) (c .before .loop .i) (c .before .loop .inv) (omega arith)
 
 pub any-outside-spec : {M : Type 1} → statement M
 any-outside-spec =

@@ -1,4 +1,9 @@
+-- `selections::span_without` meets its contract. Assumes nothing.
 use native.Mathlib.Omega.{arith}
+use Prim.Native.Nat.{_-_}
+use lib.ListN.{length}
+use borrow.Author.Needs.{needs}
+use Rattle.selections.specs.laws.Spanning.{Spanning, spanning-start, spanning-skip, spanning-take, spanning-end, spanning-number}
 use Rattle.selections.proofs.span_without.Statement.{statement}
 use Rattle.selections.proofs.span_without.Tie as tie
 use Rattle.selections.proofs.span_without.Reads as reads
@@ -7,66 +12,52 @@ use Rattle.bases.proofs.Basis.empty.Reads as empty-reads
 use Rattle.bases.proofs.Basis.insert.Reads as insert-reads
 
 abbrev Inv-loop : tie.InvT-loop
-Inv-loop gens sel skip b₀ i₀ b i = ?
+Inv-loop gens sel skip b₀ i₀ b i = Spanning gens sel skip b i
 
 abbrev μ-loop : tie.MeasureT-loop
-μ-loop gens sel skip b₀ i₀ b i = ?
+μ-loop gens sel skip b₀ i₀ b i = length sel - i
 
--- src/lib.rt:52:9
 empty-requires : tie.Need-empty-requires Inv-loop μ-loop
-empty-requires c κs = ?
+empty-requires c κs = search needs
 
--- src/lib.rt:54:5
 loop-holds : tie.Need-loop-holds Inv-loop μ-loop
-loop-holds c = ?
+loop-holds c = spanning-start (c .before .before .before .args .gens .now) (c .before .before .before .args .sel .now) (c .before .before .before .args .skip) _ (c .empty .ensures)
 
--- src/lib.rt:55:17
 mul-e : tie.Need-mul-e Inv-loop μ-loop
 mul-e c = omega arith
 
--- src/lib.rt:55:17
 shared-slice-read-e : tie.Need-shared-slice-read-e Inv-loop μ-loop
 shared-slice-read-e c = omega arith
 
--- src/lib.rt:57:13
 add-i : tie.Need-add-i Inv-loop μ-loop
 add-i c = omega arith
 
--- src/lib.rt:54:5
 loop-less : tie.Need-loop-less Inv-loop μ-loop
 loop-less c = omega arith
 
--- src/lib.rt:54:5
 loop-again : tie.Need-loop-again Inv-loop μ-loop
-loop-again c = ?
+loop-again c = spanning-skip (c .before .before .before .before .before .before .before .args .gens .now) (c .before .before .before .before .before .before .before .args .sel .now) (c .before .before .before .before .before .before .before .args .skip) (c .before .before .before .loop .b) (c .before .before .before .loop .i) (c .before .before .before .loop .inv) (c .before .before .loop-test .taken) (c .if1 .taken)
 
--- src/lib.rt:59:26
 mul-insert : tie.Need-mul-insert Inv-loop μ-loop
-mul-insert c = omega arith
+mul-insert c = let h = spanning-number (c .before .before .before .before .before .before .before .args .gens .now) (c .before .before .before .before .before .before .before .args .sel .now) (c .before .before .before .before .before .before .before .args .skip) (c .before .before .before .loop .i) (c .before .before .before .before .before .before .before .pre) (c .before .before .loop-test .taken) in omega arith
 
--- src/lib.rt:59:26
 shared-slice-read-insert : tie.Need-shared-slice-read-insert Inv-loop μ-loop
-shared-slice-read-insert c = omega arith
+shared-slice-read-insert c = let h = spanning-number (c .before .before .before .before .before .before .before .before .args .gens .now) (c .before .before .before .before .before .before .before .before .args .sel .now) (c .before .before .before .before .before .before .before .before .args .skip) (c .before .before .before .before .loop .i) (c .before .before .before .before .before .before .before .before .pre) (c .before .before .before .loop-test .taken) in omega arith
 
--- src/lib.rt:59:13
 insert-requires : tie.Need-insert-requires Inv-loop μ-loop
-insert-requires c κs = ?
+insert-requires c κs = c .before .before .before .before .loop .inv .valid
 
--- src/lib.rt:60:13
 add-i-2 : tie.Need-add-i-2 Inv-loop μ-loop
 add-i-2 c = omega arith
 
--- src/lib.rt:54:5
 loop-less-2 : tie.Need-loop-less-2 Inv-loop μ-loop
 loop-less-2 c = omega arith
 
--- src/lib.rt:54:5
 loop-again-2 : tie.Need-loop-again-2 Inv-loop μ-loop
-loop-again-2 c = ?
+loop-again-2 c = spanning-take (c .before .before .before .before .before .before .before .before .before .args .gens .now) (c .before .before .before .before .before .before .before .before .before .args .sel .now) (c .before .before .before .before .before .before .before .before .before .args .skip) (c .before .before .before .before .before .loop .b) _ (c .before .before .before .before .before .loop .i) (c .before .before .before .before .before .loop .inv) (c .before .before .before .before .loop-test .taken) (c .before .before .if1 .left) (c .insert .ensures)
 
--- src/lib.rt:48:1
 returns : tie.Need-returns Inv-loop μ-loop
-returns c = ?
+returns c = spanning-end (c .before .before .before .before .before .args .gens .now) (c .before .before .before .before .before .args .sel .now) (c .before .before .before .before .before .args .skip) (c .before .loop .b) (c .before .loop .i) (c .before .loop .inv) (omega arith)
 
 pub span-without-spec : {M : Type 1} → statement M
 span-without-spec =

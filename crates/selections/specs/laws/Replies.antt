@@ -1,11 +1,10 @@
 -- The replies on a selection, from what the steps say.
 -- Assumes nothing.
-use mathlib.Core.Path.{_≡_, refl, sym, ap, ap₂, _∙_, subst}
+use mathlib.Core.Path.{_≡_, refl, sym, ap, _∙_, subst}
 use mathlib.Core.Bool.{Bool, true, false, not}
 use mathlib.Core.List.{List, [], _∷_}
-use Prim.Native.Nat.{ℕ, _≤_}
-use native.Mathlib.Omega.{arith}
-use lib.ListN.{length, take, drop}
+use Prim.Native.Nat.{ℕ}
+use lib.ListN.{length, take}
 use lib.Dec.{eqb}
 use Rattle.kinds.specs.Refusal.{Answer, refused, accepted, refuse, follow}
 use Rattle.problems.specs.Problem.{Problem, problem, posed}
@@ -18,8 +17,7 @@ use Rattle.linear.specs.Entry.{inside, chosen}
 use Rattle.linear.specs.Word.{word}
 use Rattle.bases.specs.declared.Basis.{Basis}
 use Rattle.bases.specs.Basis.{rowsOf, Holds}
-use Rattle.selections.specs.declared.Said.{Said}
-use Rattle.selections.specs.Selections.{misfit, without, missedBy, sumAnswer, redundantAnswer, isSum, isRedundant, seenSaid}
+use Rattle.selections.specs.Selections.{misfit, without, missedBy, sumAnswer, redundantAnswer, isSum, isRedundant}
 use Rattle.selections.specs.laws.Spanning.{without-none}
 
 module _ (gens targets sel : List ℕ) where

@@ -2,7 +2,7 @@
 --   Checking n sel i       == no number before place i is outside
 --   Spanning gens sel skip b i == b is the basis of the selected generators before place i, skip left out
 -- Assumes nothing.
-use mathlib.Core.Path.{_≡_, refl, sym, ap, ap₂, _∙_, subst}
+use mathlib.Core.Path.{_≡_, refl, sym, ap, _∙_}
 use mathlib.Core.Logic.{_≢_}
 use mathlib.Core.Bool.{Bool, true, false, not, cond, _||_}
 use mathlib.Core.List.{List, [], _∷_, List·Memᴰ, List·Memᴰ·head, List·Memᴰ·tail}
@@ -21,7 +21,7 @@ use Rattle.bases.specs.declared.Basis.{Basis}
 use Rattle.bases.specs.Basis.{rowsOf, Valid, Holds}
 use Rattle.problems.specs.Problem.{repeats}
 use Rattle.selections.specs.Selections.{misfit, without}
-use Rattle.selections.specs.Theorems.{Fits, fits}
+use Rattle.selections.specs.Theorems.{fits}
 
 next : (l : List ℕ) (i : ℕ) → i < length l → drop i l ≡ getD l i 0 ∷ drop (i + 1) l
 next l i h = drop-cons l i 0 h ∙ ap (λ (k : ℕ). getD l i 0 ∷ drop k l) (let e : suc i ≡ i + 1 = omega arith in e)
