@@ -1,1 +1,0 @@
-pub use Rattle.walk.proofs.walk.Kinds.{ps, r}

@@ -1,4 +1,0 @@
-pub mod Records
-pub mod Walk
-pub mod declared
-pub mod laws

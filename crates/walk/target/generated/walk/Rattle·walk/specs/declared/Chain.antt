@@ -1,1 +1,0 @@
-pub use Rattle.walk.specs.declared.Chain.{Chain}

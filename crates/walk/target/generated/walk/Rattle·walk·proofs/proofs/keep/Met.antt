@@ -1,7 +1,0 @@
--- the `use` lines below are this print's own: the module states none of them
-use Rattle.walk.proofs.keep.Proof
-use Rattle.walk.proofs.keep.Statement
-
-module _ {M : Type 1} where
-  pub met : Statement.statement M
-  met = Proof.keep-spec

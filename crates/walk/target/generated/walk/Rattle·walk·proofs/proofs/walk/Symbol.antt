@@ -1,2 +1,0 @@
-pub use Rattle.walk.proofs.walk.Code.{routine}
-pub use Rattle.walk.proofs.walk.Key.{name}
