@@ -29,9 +29,9 @@ use Rattle.forms.specs.Product.{productForm, product-below}
 use Rattle.maps.specs.Textbook.{output}
 use Rattle.maps.specs.Target.{value, targetForm}
 use Rattle.maps.specs.Meaning.{target-value, target-below, value-xor, value-zero, value-product, value-equal, value-differs}
 use Rattle.formula.specs.Formula.{formulaOutput, productForms, firstWrong, adders, known, lengths, judged, check}
 use Rattle.forms.specs.Row.{rowForm}
-use Rattle.formula.specs.Meaning.{gives, Agrees, Right, FirstDiffers, Means}
+use Rattle.meaning.specs.Meaning.{gives, Agrees, Right, FirstDiffers, Means}
 
 -- ---- a row's form
 scale-value : (n m : ℕ) (a b : ℕ → Bool) (c : Bool) (f : ℕ) → value n m (scaleW c f) a b ≡ c && value n m f a b

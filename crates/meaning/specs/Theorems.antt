@@ -7,9 +7,9 @@ use mathlib.Core.List.{List}
 use mathlib.Core.Option.{Option}
 use Prim.Native.Nat.{ℕ}
 use Rattle.kinds.specs.Refusal.{accepted}
 use Rattle.formula.specs.Formula.{check}
-use Rattle.formula.specs.Meaning.{Means}
-use Rattle.formula.specs.laws.Meaning as meaning
+use Rattle.meaning.specs.Meaning.{Means}
+use Rattle.meaning.specs.laws.Meaning as meaning
 
 pub check-means : (number p q r k : ℕ) (xs ys rows : List ℕ) (v : Option ℕ) (w : ℕ) → check number p q r k xs ys rows ≡ accepted (v, w) → Means number p q r k xs ys rows v w
 check-means = meaning.check-means
