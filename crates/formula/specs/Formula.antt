@@ -21,7 +21,7 @@ use Rattle.kinds.specs.Refusal.{Answer, accepted, need, refuse}
 use Rattle.words.specs.Masks.{wide, zeroIn}
 use Rattle.kinds.specs.declared.Kind.{Kind}
 use Rattle.kinds.specs.declared.Kind.the-variants as kind
-use Rattle.forms.specs.Product.{productForm}
+use Rattle.products.specs.Product.{productForm}
 use Rattle.forms.specs.Row.{rowForm}
 use Rattle.forms.specs.Weight.{weight}
 use Rattle.maps.specs.Textbook.{sumTo}

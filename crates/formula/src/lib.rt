@@ -51,7 +51,7 @@ fn product_forms(n: usize, m: usize, a: &[u64], b: &[u64], out: &mut [u64; 64])
 {
     let mut i = 0;
     while i < a.len() {
-        out[i] = forms::product(n, m, a[i], b[i]);
+        out[i] = products::product(n, m, a[i], b[i]);
         i += 1;
     }
 }

@@ -14,7 +14,7 @@ use Rattle.kinds.specs.Kinds.{kindNumbered}
 use Rattle.kinds.specs.Sizes.{within, polySizes}
 use Rattle.kinds.specs.Refusal.{Answer, accepted}
 use Rattle.words.specs.Masks.{wide, zeroIn}
-use Rattle.forms.specs.Product.{formOf, productForm}
+use Rattle.products.specs.Product.{formOf, productForm}
 use Rattle.forms.specs.Weight.{weight}
 use Rattle.maps.specs.Target.{pair, targetForm}
 use Rattle.formula.specs.Formula.{productForms, firstWrong, addersOf, lengths, judged, check}

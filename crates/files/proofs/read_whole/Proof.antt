@@ -5,7 +5,7 @@ use lib.ListN.{length}
 use Rattle.kinds.specs.Kinds.{seenKind}
 use Rattle.kinds.specs.Sizes.{seenSizes}
 use Rattle.words.specs.laws.Buffers.{filled-sets}
-use Rattle.text.specs.Views.{seenHead}
+use Rattle.heads.specs.Views.{seenHead}
 use Rattle.lines.specs.laws.Told.{body-at, body-not}
 use Rattle.files.specs.laws.Outcome.{head-fit, outcome-1, outcome-rest, rest-2, rest-list, rest-3, rest-5, rest-judged, judged-6, judged-7, judged-8, judged-9, judged-is, too-told, room, left-refused, left-formula}
 use Rattle.files.proofs.read_whole.Statement.{statement}

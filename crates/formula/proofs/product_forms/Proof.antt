@@ -12,7 +12,7 @@ use Rattle.formula.proofs.product_forms.Statement.{statement}
 use Rattle.formula.proofs.product_forms.Tie as tie
 use Rattle.formula.proofs.product_forms.Reads as reads
 use Rattle.formula.proofs.product_forms.Lts as lts
-use Rattle.forms.proofs.product.Reads as product-reads
+use Rattle.products.proofs.product.Reads as product-reads
 
 abbrev Inv-loop : tie.InvT-loop
 Inv-loop n m a b out₀ i₀ out i = (i ≤ length a) × (length out ≡ 64) × (take i out ++ productForms n m (drop i a) (drop i b) ≡ productForms n m a b)

@@ -17,9 +17,9 @@ use mathlib.Core.Option.{Option, none, some}
 use Rattle.words.specs.laws.Scan.{next}
 use Rattle.kinds.specs.declared.Kind.{Kind}
 use Rattle.maps.specs.Target.{targetForm}
-use Rattle.forms.specs.Product.{productForm}
+use Rattle.products.specs.Product.{productForm}
 use Rattle.forms.specs.Weight.{weight}
-use Rattle.forms.specs.Bits.{bit-set, bit-unset}
+use Rattle.linear.specs.laws.Shift.{bit-set, bit-unset}
 use Rattle.formula.specs.Formula.{productForms, firstWrong, addersOf}
 use Rattle.forms.specs.Row.{rowForm}
 

@@ -25,7 +25,7 @@ use Rattle.kinds.specs.RefusalLaws.{accepted-inj, need-inv, refuse-inv}
 use Rattle.words.specs.Masks.{wide, zeroIn}
 use Rattle.kinds.specs.declared.Kind.{Kind}
 use Rattle.kinds.specs.declared.Kind.the-variants as kind
-use Rattle.forms.specs.Product.{productForm, product-below}
+use Rattle.products.specs.Product.{productForm, product-below}
 use Rattle.maps.specs.Textbook.{output}
 use Rattle.maps.specs.Target.{value, targetForm}
 use Rattle.maps.specs.Meaning.{target-value, target-below, value-xor, value-zero, value-product, value-equal, value-differs}
