@@ -17,7 +17,8 @@ use Rattle.words.specs.Masks.{wide, zeroIn}
 use Rattle.products.specs.Product.{formOf, productForm}
 use Rattle.forms.specs.Weight.{weight}
 use Rattle.maps.specs.Target.{pair, targetForm}
-use Rattle.formula.specs.Formula.{productForms, firstWrong, addersOf, lengths, judged, check}
+use Rattle.formula.specs.Formula.{firstWrong, lengths, judged, check}
+use Rattle.sums.specs.Sums.{productForms, addersOf}
 use Rattle.forms.specs.Row.{rowForm}
 
 pub data Line : Type 0 where

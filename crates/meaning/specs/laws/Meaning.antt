@@ -29,7 +29,8 @@ use Rattle.products.specs.Product.{productForm, product-below}
 use Rattle.maps.specs.Textbook.{output}
 use Rattle.maps.specs.Target.{value, targetForm}
 use Rattle.maps.specs.Meaning.{target-value, target-below, value-xor, value-zero, value-product, value-equal, value-differs}
-use Rattle.formula.specs.Formula.{formulaOutput, productForms, firstWrong, adders, known, lengths, judged, check}
+use Rattle.formula.specs.Formula.{formulaOutput, firstWrong, adders, known, lengths, judged, check}
+use Rattle.sums.specs.Sums.{productForms}
 use Rattle.forms.specs.Row.{rowForm}
 use Rattle.meaning.specs.Meaning.{gives, Agrees, Right, FirstDiffers, Means}
 

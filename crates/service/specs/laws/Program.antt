@@ -25,7 +25,8 @@ use Rattle.lines.specs.Formula.{body}
 use Rattle.text.specs.Line.{LF}
 use Rattle.files.specs.Outcome.{Outcome, outcome, rest, isList}
 use Rattle.files.specs.Outcome as file
-use Rattle.formula.specs.Formula.{productForms, firstWrong, adders, lengths, check, judged, known}
+use Rattle.formula.specs.Formula.{firstWrong, adders, lengths, check, judged, known}
+use Rattle.sums.specs.Sums.{productForms}
 use Rattle.formula.specs.declared.Verdict.{Verdict}
 use Rattle.formula.specs.declared.Verdict.the-variants as verdict
 use Rattle.replies.specs.CheckText.{checkNames, sizesText, verdictText, fieldText, checkText}

@@ -1,18 +1,18 @@
--- `formula::adders_of` meets its contract. Assumes nothing.
+-- `sums::adders_of` meets its contract. Assumes nothing.
 use borrow.Author.Needs.{needs}
--- `formula::adders_of` meets its contract. Assumes nothing.
+-- `sums::adders_of` meets its contract. Assumes nothing.
 use mathlib.Core.Path.{_≡_}
 use mathlib.Core.Logic.{⊎-elim}
 use Prim.Native.Nat.{_+_, _-_, _*_, _≤_}
 use lib.ListN.{length, getD, drop}
 use Rattle.forms.specs.Weight.{weight}
-use Rattle.formula.specs.Formula.{addersOf}
-use Rattle.formula.specs.laws.Loops.{weight-most, adders-next, adders-end}
+use Rattle.sums.specs.Sums.{addersOf}
+use Rattle.sums.specs.laws.Loops.{weight-most, adders-next, adders-end}
 use native.Mathlib.Omega.{arith}
-use Rattle.formula.proofs.adders_of.Statement.{statement}
-use Rattle.formula.proofs.adders_of.Tie as tie
-use Rattle.formula.proofs.adders_of.Reads as reads
-use Rattle.formula.proofs.adders_of.Lts as lts
+use Rattle.sums.proofs.adders_of.Statement.{statement}
+use Rattle.sums.proofs.adders_of.Tie as tie
+use Rattle.sums.proofs.adders_of.Reads as reads
+use Rattle.sums.proofs.adders_of.Lts as lts
 use Rattle.forms.proofs.ones.Reads as ones-reads
 
 abbrev Inv-loop : tie.InvT-loop

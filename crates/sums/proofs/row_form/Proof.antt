@@ -1,16 +1,16 @@
--- `formula::row_form` meets its contract. Assumes nothing.
+-- `sums::row_form` meets its contract. Assumes nothing.
 use mathlib.Core.Path.{_≡_, ap, _∙_}
 use mathlib.Core.Logic.{⊎-elim}
 use Prim.Native.Nat.{ℕ, _+_, _-_, _<_, _≤_}
 use lib.ListN.{length, getD, drop}
 use lib.Bits.{bitXor, xor-zero-l}
 use Rattle.forms.specs.Row.{rowForm}
-use Rattle.formula.specs.laws.Loops.{row-set, row-unset, row-end}
+use Rattle.sums.specs.laws.Loops.{row-set, row-unset, row-end}
 use native.Mathlib.Omega.{arith}
-use Rattle.formula.proofs.row_form.Statement.{statement}
-use Rattle.formula.proofs.row_form.Tie as tie
-use Rattle.formula.proofs.row_form.Reads as reads
-use Rattle.formula.proofs.row_form.Lts as lts
+use Rattle.sums.proofs.row_form.Statement.{statement}
+use Rattle.sums.proofs.row_form.Tie as tie
+use Rattle.sums.proofs.row_form.Reads as reads
+use Rattle.sums.proofs.row_form.Lts as lts
 
 abbrev Inv-loop : tie.InvT-loop
 Inv-loop forms row sum₀ i₀ sum i = (i ≤ length forms) × (bitXor sum (rowForm (drop i forms) row i) ≡ rowForm forms row 0)

@@ -1,17 +1,17 @@
--- `formula::product_forms` meets its contract. Assumes nothing.
+-- `sums::product_forms` meets its contract. Assumes nothing.
 use borrow.Author.Needs.{needs}
--- `formula::product_forms` meets its contract. Assumes nothing.
+-- `sums::product_forms` meets its contract. Assumes nothing.
 use mathlib.Core.Path.{_≡_, refl, sym, ap, _∙_}
 use mathlib.Core.List.{_++_}
 use Prim.Native.Nat.{ℕ, _+_, _-_, _≤_}
 use lib.ListN.{length, take, drop, set, length-set}
-use Rattle.formula.specs.Formula.{productForms}
-use Rattle.formula.specs.laws.Loops.{forms-next, forms-end}
+use Rattle.sums.specs.Sums.{productForms}
+use Rattle.sums.specs.laws.Loops.{forms-next, forms-end}
 use native.Mathlib.Omega.{arith}
-use Rattle.formula.proofs.product_forms.Statement.{statement}
-use Rattle.formula.proofs.product_forms.Tie as tie
-use Rattle.formula.proofs.product_forms.Reads as reads
-use Rattle.formula.proofs.product_forms.Lts as lts
+use Rattle.sums.proofs.product_forms.Statement.{statement}
+use Rattle.sums.proofs.product_forms.Tie as tie
+use Rattle.sums.proofs.product_forms.Reads as reads
+use Rattle.sums.proofs.product_forms.Lts as lts
 use Rattle.products.proofs.product.Reads as product-reads
 
 abbrev Inv-loop : tie.InvT-loop
