@@ -1,9 +1,6 @@
--- The file of a formula, read and printed.
+-- The file of a formula, read.
 pub mod Outcome
 pub mod Lent
-pub mod FileText
 pub mod Sound
+pub mod AcceptedSound
 pub mod laws
-pub mod PrintThenRead
-pub mod AcceptedOnly
-pub mod Worked

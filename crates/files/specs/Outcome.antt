@@ -19,7 +19,7 @@ use Rattle.kinds.specs.declared.Kind.{Kind}
 use Rattle.kinds.specs.declared.Kind.the-variants as kind
 use Rattle.kinds.specs.Sizes.{sizes}
 use Rattle.words.specs.Masks.{wide, zeroIn}
-use Rattle.text.specs.Head.{Head, headLines}
+use Rattle.heads.specs.Head.{Head, headLines}
 use Rattle.lines.specs.Formula.{body}
 
 pub data Outcome : Type 0 where

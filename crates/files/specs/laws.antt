@@ -1,4 +1,3 @@
--- Proofs about the formula's file: what the code's proofs cite, and that printing and reading are inverse.
+-- What the code's proofs cite, and what an accepted file has been through.
 pub mod Outcome
-pub mod Back
-pub mod Only
+pub mod Accepted

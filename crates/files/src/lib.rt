@@ -6,11 +6,11 @@ ghost use lib.Dec.{ltb};
 ghost use Rattle.files.specs.Outcome.{isList, outcome};
 ghost use Rattle.files.specs.Lent.{reply, firstOf, secondOf, rowsOf};
 ghost use Rattle.files.specs.laws.Outcome.{Left};
+use heads::HeadRead;
 use kinds::Kind;
 use kinds::Known;
 use kinds::Sized;
 use lines::BodyRead;
-use text::HeadRead;
 
 fn is_list(kind: Kind) -> bool
     ensures { λ r. ⌜ r ≡ isList kind ⌝ }
@@ -47,7 +47,7 @@ pub enum Read {
 fn read_whole(s: &[u8], a: &mut [u64], b: &mut [u64], d: &mut [u64]) -> Read
     ensures { λ x. ⌜ (x ≡ reply (outcome (now (s .entry)) (length (now (a .entry))) (length (now (b .entry))) (length (now (d .entry))))) × Left (outcome (now (s .entry)) (length (now (a .entry))) (length (now (b .entry))) (length (now (d .entry)))) (now (a .entry)) (now (b .entry)) (now (d .entry)) (now (a .exit)) (now (b .exit)) (now (d .exit)) ⌝ }
 {
-    let HeadRead::Is(known, p, q, r, k, u) = text::head_lines(s) else {
+    let HeadRead::Is(known, p, q, r, k, u) = heads::head_lines(s) else {
         return Read::Refused(1);
     };
     let Known::Is(kind) = known else {

@@ -1,6 +1,4 @@
--- Forms as words: their coordinates, weight and products.
-pub mod Bits
+-- Forms as words: their weight, clearing, and the sums that rows name.
 pub mod Weight
-pub mod Product
 pub mod Clear
 pub mod Row

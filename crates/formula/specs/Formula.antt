@@ -1,16 +1,15 @@
 -- A formula, and what Check says of it.
 --   formulaOutput n m xs ys row k a b == what the row gives at the bits a and b; the products are the pairs of xs and ys, the first numbered k
---   productForms n m xs ys  == the forms of the products
 --   firstWrong ..           == the first output, from t on, whose row does not give the target
---   addersOf xs             == the adders of some masks
+--   adders xs ys rows       == the adders of a formula
 --   check ..                == the reply: refused by a number, or the first wrong output (none: right) and the adders
 -- Document 01: "A formula has k products, each a pair of masks, and one row per target. It may repeat a product. The reply is right, or wrong
 -- with the first output that differs for some input."
--- The theorem that ties it to every choice of input bits is in `Meaning`. Assumes nothing.
+-- The theorem that ties it to every choice of input bits is in crate `meaning`. Assumes nothing.
 use mathlib.Core.Bool.{Bool, false, not, _&&_, _||_, cond}
 use mathlib.Core.List.{List, [], _∷_}
 use mathlib.Core.Option.{Option, none, some}
-use Prim.Native.Nat.{ℕ, suc, _+_, _-_}
+use Prim.Native.Nat.{ℕ, suc, _+_}
 use lib.ListN.{length}
 use lib.Dec.{eqb, ltb}
 use Rattle.linear.specs.Bit.{bit}
@@ -21,9 +20,8 @@ use Rattle.kinds.specs.Refusal.{Answer, accepted, need, refuse}
 use Rattle.words.specs.Masks.{wide, zeroIn}
 use Rattle.kinds.specs.declared.Kind.{Kind}
 use Rattle.kinds.specs.declared.Kind.the-variants as kind
-use Rattle.forms.specs.Product.{productForm}
 use Rattle.forms.specs.Row.{rowForm}
-use Rattle.forms.specs.Weight.{weight}
+use Rattle.sums.specs.Sums.{productForms, addersOf}
 use Rattle.maps.specs.Textbook.{sumTo}
 use Rattle.maps.specs.Target.{targetForm}
 
@@ -35,21 +33,12 @@ formulaOutput n m (x ∷ xs) (y ∷ ys) row k a b =
     xorB (bit row k && (sumTo n (λ i. bit x i && a i) && sumTo m (λ j. bit y j && b j))) (formulaOutput n m xs ys row (suc k) a b)
 
 -- ---- by forms
-unfoldable pub productForms : ℕ → ℕ → List ℕ → List ℕ → List ℕ
-productForms n m [] ys = []
-productForms n m (x ∷ xs) [] = []
-productForms n m (x ∷ xs) (y ∷ ys) = productForm n m x y ∷ productForms n m xs ys
-
 unfoldable pub firstWrong : Kind → (p q r n m : ℕ) → List ℕ → List ℕ → ℕ → Option ℕ
 firstWrong kd p q r n m fs [] t = none
 firstWrong kd p q r n m fs (row ∷ rows) t =
     cond (eqb (rowForm fs row 0) (targetForm kd p q r n m t)) (firstWrong kd p q r n m fs rows (suc t)) (some t)
 
--- ---- adders: "every factor and every nonzero row with w ones needs w − 1; a zero row needs none" (0 − 1 is 0 here)
-unfoldable pub addersOf : List ℕ → ℕ
-addersOf [] = 0
-addersOf (x ∷ xs) = (weight 64 x - 1) + addersOf xs
-
+-- ---- adders
 abbrev pub adders : (xs ys rows : List ℕ) → ℕ
 adders xs ys rows = addersOf xs + addersOf ys + addersOf rows
 

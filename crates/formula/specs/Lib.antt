@@ -1,6 +1,4 @@
--- Formulae: what Check says, and what that means.
+-- Formulae: what Check says.
 pub mod Formula
-pub mod Meaning
 pub mod Replies
-pub mod Theorems
 pub mod laws

@@ -1,12 +1,10 @@
 // Check: is a formula right for every input, and how many adders does it need?
 ghost use mathlib.Core.Path.{_≡_};
-ghost use Prim.Native.Nat.{_≤_};
-ghost use lib.ListN.{length, take};
+ghost use lib.ListN.{length};
 ghost use Rattle.kinds.specs.Kinds.{kindNumbered, seenKind};
-ghost use Rattle.forms.specs.Row.{rowForm};
-ghost use Rattle.formula.specs.Formula.{known, productForms, firstWrong, addersOf, judged, check};
+ghost use Rattle.formula.specs.Formula.{known, firstWrong, judged, check};
+ghost use Rattle.sums.specs.Sums.{productForms};
 ghost use Rattle.formula.specs.Replies.{seenVerdict, seenReply, Judging, Fitting, Matching};
-ghost use Rattle.formula.specs.laws.Loops.{Filled};
 use kinds::Kind;
 use kinds::Known;
 use kinds::Sized;
@@ -25,51 +23,6 @@ fn map_kind(number: u64) -> Known
         Kind::Circ => Known::Is(Kind::Circ),
         Kind::Mat => Known::Is(Kind::Mat),
     }
-}
-
-// The adders of some masks: of w ones w - 1, of none 0.
-fn adders_of(masks: &[u64]) -> u64
-    requires { ⌜ length (now masks) ≤ 64 ⌝ }
-    ensures { λ r. ⌜ (r ≡ addersOf (now (masks .entry))) × (r ≤ 4096) ⌝ }
-{
-    let mut sum: u64 = 0;
-    let mut i = 0;
-    while i < masks.len() {
-        let w = forms::ones(masks[i]) as u64;
-        if w != 0 {
-            sum += w - 1;
-        }
-        i += 1;
-    }
-    sum
-}
-
-// The forms of the products, from the buffer's start.
-fn product_forms(n: usize, m: usize, a: &[u64], b: &[u64], out: &mut [u64; 64])
-    requires { ⌜ (length (now a) ≡ length (now b)) × (length (now a) ≤ 64) × (length (now out) ≡ 64) ⌝ }
-    ensures { λ _. ⌜ Filled (productForms n m (now (a .entry)) (now (b .entry))) (length (now (a .entry))) (now (out .exit)) ⌝ }
-{
-    let mut i = 0;
-    while i < a.len() {
-        out[i] = forms::product(n, m, a[i], b[i]);
-        i += 1;
-    }
-}
-
-// The sum of the forms that the row names.
-fn row_form(forms: &[u64], row: u64) -> u64
-    requires { ⌜ length (now forms) ≤ 64 ⌝ }
-    ensures { λ r. ⌜ r ≡ rowForm (now (forms .entry)) row 0 ⌝ }
-{
-    let mut sum: u64 = 0;
-    let mut i = 0;
-    while i < forms.len() {
-        if (row >> i) & 1 == 1 {
-            sum = sum ^ forms[i];
-        }
-        i += 1;
-    }
-    sum
 }
 
 // The first output whose row does not give the target.
@@ -94,7 +47,7 @@ fn first_wrong(
 {
     let mut t = 0;
     while t < rows.len() {
-        if row_form(forms, rows[t]) != maps::target(kind, p, q, r, n, m, t as u64) {
+        if sums::row_form(forms, rows[t]) != maps::target(kind, p, q, r, n, m, t as u64) {
             return Verdict::Wrong(t as u64);
         }
         t += 1;
@@ -118,7 +71,7 @@ fn verdict_on(
     ensures { λ x. ⌜ firstWrong kind p q r n m (productForms n m (now (a .entry)) (now (b .entry))) (now (rows .entry)) 0 ≡ seenVerdict x ⌝ }
 {
     let mut products = [0u64; 64];
-    product_forms(n as usize, m as usize, a, b, &mut products);
+    sums::product_forms(n as usize, m as usize, a, b, &mut products);
     let k = a.len();
     first_wrong(kind, p, q, r, n, m, &products[..k], rows)
 }
@@ -163,7 +116,7 @@ fn judge(
     if 64 < k {
         return Reply::Refused(8);
     }
-    let adders = adders_of(a) + adders_of(b) + adders_of(rows);
+    let adders = sums::adders_of(a) + sums::adders_of(b) + sums::adders_of(rows);
     Reply::Judged(verdict_on(kind, p, q, r, n, m, a, b, rows), adders)
 }
 

@@ -20,5 +20,6 @@ pub mod Formulae
 pub mod Fewest
 pub mod Finite
 pub mod Bit
+pub mod Shift
 pub mod Word
 pub mod Planes

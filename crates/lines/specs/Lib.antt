@@ -1,5 +1,4 @@
 -- The lines of a formula under the first two.
 pub mod Formula
-pub mod BodyText
 pub mod Views
 pub mod laws

@@ -17,7 +17,7 @@ use lib.Pow.{pow-mono, pow-pos}
 use borrow.Author.Tests.{leb-true}
 use Rattle.kinds.specs.SizeLaws.{given-yes, given-no}
 use borrow.Author.Tests.{le-leb}
-use Rattle.forms.specs.Bits.{one-shift}
+use Rattle.linear.specs.laws.Shift.{one-shift}
 use Rattle.maps.specs.Generators.{generatorCount, countOf, Numbered}
 
 module _ (n m : ℕ) where

@@ -13,8 +13,8 @@ use lib.Dec.{eqb}
 use borrow.Author.Tests.{eq-eqb, ne-eqb}
 use Rattle.kinds.specs.declared.Kind.{Kind}
 use Rattle.kinds.specs.declared.Kind.the-variants as kind
-use Rattle.forms.specs.Bits.{one-shift}
-use Rattle.forms.specs.Product.{formOf, formOf-below}
+use Rattle.linear.specs.laws.Shift.{one-shift}
+use Rattle.products.specs.Product.{formOf, formOf-below}
 use Rattle.maps.specs.Target.{pair}
 
 and-off : (u v : Bool) → v ≡ false → u && v ≡ false

@@ -9,7 +9,7 @@ use mathlib.Core.List.{List, [], _∷_, _++_}
 use Rattle.kinds.specs.declared.Kind.{Kind}
 use Rattle.kinds.specs.Kinds.{nameOf}
 use Rattle.text.specs.Line.{LF, comma}
-use Rattle.text.specs.Print.{numberText}
+use Rattle.print.specs.Print.{numberText}
 use Rattle.formula.specs.declared.Verdict.{Verdict}
 use Rattle.formula.specs.declared.Verdict.the-variants as verdict
 

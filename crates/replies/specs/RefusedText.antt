@@ -4,7 +4,7 @@
 use Prim.Native.Nat.{ℕ}
 use mathlib.Core.List.{List, [], _∷_, _++_}
 use Rattle.text.specs.Line.{LF}
-use Rattle.text.specs.Print.{numberText}
+use Rattle.print.specs.Print.{numberText}
 
 -- `refused` and a space
 abbrev pub refusedName : List ℕ

@@ -6,7 +6,7 @@
 use mathlib.Core.Path.{_≡_, refl}
 use mathlib.Core.List.{[], _∷_, _++_}
 use Rattle.kinds.specs.declared.Kind.the-variants as kind
-use Rattle.text.specs.Print.{printed}
+use Rattle.print.specs.Print.{printed}
 use Rattle.formula.specs.declared.Verdict.the-variants as verdict
 use Rattle.replies.specs.CheckText.{checkNames, sizesText, checkText}
 use Rattle.replies.specs.RefusedText.{refusedText}

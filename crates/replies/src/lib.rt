@@ -13,8 +13,8 @@ fn put_field(n: u64, out: &mut [u8], at: usize) -> usize
     requires { ⌜ at ≤ 1000 ⌝ }
     ensures { λ e. ⌜ Piece (now (out .entry)) at (fieldText n) 21 (now (out .exit)) e ⌝ }
 {
-    text::put_byte(out, at, 44);
-    text::put_number(n, 10, 20, out, at + 1)
+    print::put_byte(out, at, 44);
+    print::put_number(n, 10, 20, out, at + 1)
 }
 
 // The kind and the four counts, likewise.
@@ -22,7 +22,7 @@ fn put_sizes(kind: Kind, p: u64, q: u64, r: u64, k: u64, out: &mut [u8], at: usi
     requires { ⌜ at ≤ 500 ⌝ }
     ensures { λ e. ⌜ Piece (now (out .entry)) at (sizesText kind p q r k) 89 (now (out .exit)) e ⌝ }
 {
-    let a = text::put_kind(kind, out, at);
+    let a = print::put_kind(kind, out, at);
     let b = put_field(p, out, a);
     let c = put_field(q, out, b);
     let d = put_field(r, out, c);
@@ -35,9 +35,9 @@ fn put_verdict(v: Verdict, out: &mut [u8], at: usize) -> usize
     ensures { λ e. ⌜ Piece (now (out .entry)) at (verdictText v) 27 (now (out .exit)) e ⌝ }
 {
     match v {
-        Verdict::Right => text::put_bytes(b",right,-", out, at),
+        Verdict::Right => print::put_bytes(b",right,-", out, at),
         Verdict::Wrong(t) => {
-            let a = text::put_bytes(b",wrong", out, at);
+            let a = print::put_bytes(b",wrong", out, at);
             put_field(t, out, a)
         }
     }
@@ -56,11 +56,11 @@ fn put_check(
 ) -> usize
     ensures { λ e. ⌜ Piece (now (out .entry)) 0 (checkText kind p q r k v adders) 173 (now (out .exit)) e ⌝ }
 {
-    let a = text::put_bytes(b"kind,p,q,r,k,verdict,output,adders\n", out, 0);
+    let a = print::put_bytes(b"kind,p,q,r,k,verdict,output,adders\n", out, 0);
     let b = put_sizes(kind, p, q, r, k, out, a);
     let c = put_verdict(v, out, b);
     let d = put_field(adders, out, c);
-    text::put_bytes(b"\n", out, d)
+    print::put_bytes(b"\n", out, d)
 }
 
 // All of s from the start of a buffer, and its length; nothing and 0 where there is no room.
@@ -70,7 +70,7 @@ fn deliver(s: &[u8], out: &mut [u8]) -> usize
     if out.len() < s.len() {
         return 0;
     }
-    text::put_bytes(s, out, 0)
+    print::put_bytes(s, out, 0)
 }
 
 // The text of a Check's reply from the start of `out`, and its length; nothing and 0 where `out` is too short.
@@ -95,9 +95,9 @@ pub fn check_text(
 fn put_refused(n: u64, out: &mut [u8]) -> usize
     ensures { λ e. ⌜ Piece (now (out .entry)) 0 (refusedText n) 29 (now (out .exit)) e ⌝ }
 {
-    let a = text::put_bytes(b"refused ", out, 0);
-    let b = text::put_number(n, 10, 20, out, a);
-    text::put_bytes(b"\n", out, b)
+    let a = print::put_bytes(b"refused ", out, 0);
+    let b = print::put_number(n, 10, 20, out, a);
+    print::put_bytes(b"\n", out, b)
 }
 
 // The line of a refusal from the start of `out`, and its length; nothing and 0 where `out` is too short.

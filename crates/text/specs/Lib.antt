@@ -2,7 +2,5 @@
 pub mod Reading
 pub mod Numeral
 pub mod Line
-pub mod Head
-pub mod Print
 pub mod Views
 pub mod laws

@@ -6,8 +6,6 @@ use Prim.Native.Nat.{ℕ, _+_}
 use mathlib.Core.List.{List}
 use mathlib.Core.Option.{Option, none, some}
 use lib.ListN.{take, drop}
-use Rattle.kinds.specs.Kinds.{seenKind}
-use Rattle.text.specs.Head.{Head}
 use Rattle.text.specs.declared.Number.{Number}
 use Rattle.text.specs.declared.Number.the-variants as number
 use Rattle.text.specs.declared.Cut.{Cut}
@@ -16,10 +14,6 @@ use Rattle.text.specs.declared.Used.{Used}
 use Rattle.text.specs.declared.Used.the-variants as used
 use Rattle.text.specs.declared.FieldRead.{FieldRead}
 use Rattle.text.specs.declared.FieldRead.the-variants as field
-use Rattle.text.specs.declared.Counts.{Counts}
-use Rattle.text.specs.declared.Counts.the-variants as counts
-use Rattle.text.specs.declared.HeadRead.{HeadRead}
-use Rattle.text.specs.declared.HeadRead.the-variants as head
 
 abbrev pub seenNumber : Number → Option ℕ
 seenNumber (number.Is v) = some v
@@ -48,15 +42,3 @@ seenField s field.No = none
 abbrev pub bytesField : FieldRead → ℕ
 bytesField (field.Is v u) = u
 bytesField field.No = 0
-
-abbrev pub seenCounts : Counts → Option (ℕ × ℕ × ℕ × ℕ)
-seenCounts (counts.Are p q r k) = some (p, q, r, k)
-seenCounts counts.No = none
-
-abbrev pub seenHead : List ℕ → HeadRead → Option (Head × List ℕ)
-seenHead s (head.Is kind p q r k u) = some (record { kind = seenKind kind; p = p; q = q; r = r; k = k }, drop u s)
-seenHead s head.No = none
-
-abbrev pub bytesHead : HeadRead → ℕ
-bytesHead (head.Is kind p q r k u) = u
-bytesHead head.No = 0

@@ -19,7 +19,7 @@ use Rattle.kinds.specs.Kinds.{kindNumbered}
 use Rattle.kinds.specs.Sizes.{within, polySizes, listSizes}
 use Rattle.kinds.specs.Refusal.{Answer, accepted}
 use Rattle.words.specs.Masks.{wide, zeroIn}
-use Rattle.forms.specs.Product.{formOf, productForm}
+use Rattle.products.specs.Product.{formOf, productForm}
 use Rattle.forms.specs.Weight.{weight}
 use Rattle.maps.specs.Target.{pair, targetForm}
 use Rattle.maps.specs.Generators.{generatorCount, firstMask, secondMask, generatorForm, listOf, generatorForms, countOf}
@@ -30,7 +30,8 @@ use Rattle.listing.specs.Listing.{records, flat, fitting}
 use Rattle.fewest.specs.Fewest.{Ranking, is, above, beyond, ranking}
 use Rattle.search.specs.Catalogue.{Catalogued, listing, catalogue}
 use Rattle.search.specs.Rank.{rank}
-use Rattle.formula.specs.Formula.{productForms, firstWrong, addersOf, lengths, judged, check}
+use Rattle.formula.specs.Formula.{firstWrong, lengths, judged, check}
+use Rattle.sums.specs.Sums.{productForms, addersOf}
 use Rattle.forms.specs.Row.{rowForm}
 
 pub data Line : Type 0 where

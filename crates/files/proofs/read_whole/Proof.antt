@@ -5,7 +5,7 @@ use lib.ListN.{length}
 use Rattle.kinds.specs.Kinds.{seenKind}
 use Rattle.kinds.specs.Sizes.{seenSizes}
 use Rattle.words.specs.laws.Buffers.{filled-sets}
-use Rattle.text.specs.Views.{seenHead}
+use Rattle.heads.specs.Views.{seenHead}
 use Rattle.lines.specs.laws.Told.{body-at, body-not}
 use Rattle.files.specs.laws.Outcome.{head-fit, outcome-1, outcome-rest, rest-2, rest-list, rest-3, rest-5, rest-judged, judged-6, judged-7, judged-8, judged-9, judged-is, too-told, room, left-refused, left-formula}
 use Rattle.files.proofs.read_whole.Statement.{statement}
@@ -95,13 +95,13 @@ enum-told-4 : tie.Need-enum-told-4
 enum-told-4 c = search needs
 
 same-length : tie.Need-same-length
-same-length c = search needs
+same-length c = c .before .before .before .before .before .before .before .before .read-body .kept .1 .1 .1 .1 .1 .0
 
 same-length-2 : tie.Need-same-length-2
-same-length-2 c = search needs
+same-length-2 c = c .before .before .before .before .before .before .before .before .read-body .kept .1 .1 .1 .1 .1 .1 .0
 
 same-length-3 : tie.Need-same-length-3
-same-length-3 c = search needs
+same-length-3 c = c .before .before .before .before .before .before .before .before .read-body .kept .1 .1 .1 .1 .1 .1 .1 .0
 
 returns-5 : tie.Need-returns-5
 returns-5 c =
@@ -117,13 +117,13 @@ returns-5 c =
     left-refused _ _ _ _ _ _ _ _ ((outcome-rest _ _ _ _ _ _ (head-lines .ensures .0 ∙ ap (seenHead (args .s .now)) (known .given .1))) ∙ rest-5 _ _ _ _ _ _ _ _ _ _ _ _ _ (ap seenKind (known2 .given .1)) (sym (is-list .ensures) ∙ if1 .left) (sizes-of .ensures ∙ ap seenSizes (n .given .1)) (body-not _ _ _ _ (args .s .now) (known .given .0 .1 .1 .1 .1 .1 .0) _ _ _ _ _ _ _ (read-body .ensures) (c .enum-told4 .given .1)))
 
 same-length-4 : tie.Need-same-length-4
-same-length-4 c = search needs
+same-length-4 c = c .before .before .before .before .before .before .before .before .before .before .read-body .kept .1 .1 .1 .1 .1 .0
 
 same-length-5 : tie.Need-same-length-5
-same-length-5 c = search needs
+same-length-5 c = c .before .before .before .before .before .before .before .before .before .before .read-body .kept .1 .1 .1 .1 .1 .1 .0
 
 same-length-6 : tie.Need-same-length-6
-same-length-6 c = search needs
+same-length-6 c = c .before .before .before .before .before .before .before .before .before .before .read-body .kept .1 .1 .1 .1 .1 .1 .1 .0
 
 returns-6 : tie.Need-returns-6
 returns-6 c =
@@ -141,13 +141,13 @@ returns-6 c =
     left-refused _ _ _ _ _ _ _ _ ((outcome-rest _ _ _ _ _ _ (head-lines .ensures .0 ∙ ap (seenHead (args .s .now)) (known .given .1))) ∙ rest-judged _ _ _ _ _ _ _ _ _ _ _ _ _ _ _ _ (ap seenKind (known2 .given .1)) (sym (is-list .ensures) ∙ if1 .left) (sizes-of .ensures ∙ ap seenSizes (n .given .1)) (t .is) ∙ judged-6 _ _ _ _ _ _ _ _ _ _ _ _ _ _ (sym (c .if2 .taken) ∙ t .toowide))
 
 same-length-7 : tie.Need-same-length-7
-same-length-7 c = search needs
+same-length-7 c = c .before .before .before .before .before .before .before .before .before .before .before .read-body .kept .1 .1 .1 .1 .1 .0
 
 same-length-8 : tie.Need-same-length-8
-same-length-8 c = search needs
+same-length-8 c = c .before .before .before .before .before .before .before .before .before .before .before .read-body .kept .1 .1 .1 .1 .1 .1 .0
 
 same-length-9 : tie.Need-same-length-9
-same-length-9 c = search needs
+same-length-9 c = c .before .before .before .before .before .before .before .before .before .before .before .read-body .kept .1 .1 .1 .1 .1 .1 .1 .0
 
 returns-7 : tie.Need-returns-7
 returns-7 c =
@@ -165,13 +165,13 @@ returns-7 c =
     left-refused _ _ _ _ _ _ _ _ ((outcome-rest _ _ _ _ _ _ (head-lines .ensures .0 ∙ ap (seenHead (args .s .now)) (known .given .1))) ∙ rest-judged _ _ _ _ _ _ _ _ _ _ _ _ _ _ _ _ (ap seenKind (known2 .given .1)) (sym (is-list .ensures) ∙ if1 .left) (sizes-of .ensures ∙ ap seenSizes (n .given .1)) (t .is) ∙ judged-7 _ _ _ _ _ _ _ _ _ _ _ _ _ _ (sym (c .before .if2 .left) ∙ t .toowide) (sym (c .if3 .taken) ∙ t .haszero))
 
 same-length-10 : tie.Need-same-length-10
-same-length-10 c = search needs
+same-length-10 c = c .before .before .before .before .before .before .before .before .before .before .before .before .read-body .kept .1 .1 .1 .1 .1 .0
 
 same-length-11 : tie.Need-same-length-11
-same-length-11 c = search needs
+same-length-11 c = c .before .before .before .before .before .before .before .before .before .before .before .before .read-body .kept .1 .1 .1 .1 .1 .1 .0
 
 same-length-12 : tie.Need-same-length-12
-same-length-12 c = search needs
+same-length-12 c = c .before .before .before .before .before .before .before .before .before .before .before .before .read-body .kept .1 .1 .1 .1 .1 .1 .1 .0
 
 returns-8 : tie.Need-returns-8
 returns-8 c =
@@ -193,13 +193,13 @@ too-short-requires : tie.Need-too-short-requires
 too-short-requires c κs = search needs
 
 same-length-13 : tie.Need-same-length-13
-same-length-13 c = search needs
+same-length-13 c = c .before .before .before .before .before .before .before .before .before .before .before .before .before .before .read-body .kept .1 .1 .1 .1 .1 .0
 
 same-length-14 : tie.Need-same-length-14
-same-length-14 c = search needs
+same-length-14 c = c .before .before .before .before .before .before .before .before .before .before .before .before .before .before .read-body .kept .1 .1 .1 .1 .1 .1 .0
 
 same-length-15 : tie.Need-same-length-15
-same-length-15 c = search needs
+same-length-15 c = c .before .before .before .before .before .before .before .before .before .before .before .before .before .before .read-body .kept .1 .1 .1 .1 .1 .1 .1 .0
 
 returns-9 : tie.Need-returns-9
 returns-9 c =
@@ -220,13 +220,13 @@ returns-9 c =
     left-refused _ _ _ _ _ _ _ _ ((outcome-rest _ _ _ _ _ _ (head-lines .ensures .0 ∙ ap (seenHead (args .s .now)) (known .given .1))) ∙ rest-judged _ _ _ _ _ _ _ _ _ _ _ _ _ _ _ _ (ap seenKind (known2 .given .1)) (sym (is-list .ensures) ∙ if1 .left) (sizes-of .ensures ∙ ap seenSizes (n .given .1)) (t .is) ∙ judged-9 _ _ _ _ _ _ _ _ _ _ _ _ _ _ (sym (if2 .left) ∙ t .toowide) (sym (if3 .left) ∙ t .haszero) (if4 .left) (too-told _ _ _ _ _ _ _ _ _ _ (c .before .too-short .ensures) (read-body .kept .1 .1 .1 .1 .1 .0) (read-body .kept .1 .1 .1 .1 .1 .1 .0) (read-body .kept .1 .1 .1 .1 .1 .1 .1 .0) (c .if5 .taken)))
 
 same-length-16 : tie.Need-same-length-16
-same-length-16 c = search needs
+same-length-16 c = c .before .before .before .before .before .before .before .before .before .before .before .before .before .before .read-body .kept .1 .1 .1 .1 .1 .0
 
 same-length-17 : tie.Need-same-length-17
-same-length-17 c = search needs
+same-length-17 c = c .before .before .before .before .before .before .before .before .before .before .before .before .before .before .read-body .kept .1 .1 .1 .1 .1 .1 .0
 
 same-length-18 : tie.Need-same-length-18
-same-length-18 c = search needs
+same-length-18 c = c .before .before .before .before .before .before .before .before .before .before .before .before .before .before .read-body .kept .1 .1 .1 .1 .1 .1 .1 .0
 
 returns-10 : tie.Need-returns-10
 returns-10 c =

@@ -17,10 +17,10 @@ use Rattle.kinds.specs.Sizes.{sizes}
 use Rattle.words.specs.Masks.{wide, zeroIn}
 use Rattle.words.specs.Buffers.{filled, zeros}
 use Rattle.text.specs.Reading.{_>>=_}
-use Rattle.text.specs.Head.{Head, headLines}
-use Rattle.text.specs.Views.{bytesHead}
-use Rattle.text.specs.declared.HeadRead.{HeadRead}
-use Rattle.text.specs.declared.HeadRead.the-variants as hd
+use Rattle.heads.specs.Head.{Head, headLines}
+use Rattle.heads.specs.Views.{bytesHead}
+use Rattle.heads.specs.declared.HeadRead.{HeadRead}
+use Rattle.heads.specs.declared.HeadRead.the-variants as hd
 use Rattle.lines.specs.Formula.{body}
 use Rattle.files.specs.Outcome.{Outcome, refused, formula, isList, judged, rest, outcome}
 use Rattle.files.specs.Lent.{reply, firstOf, secondOf, rowsOf}

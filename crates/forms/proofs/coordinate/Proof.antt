@@ -3,7 +3,7 @@ use mathlib.Core.Path.{sym}
 use native.Mathlib.Omega.{arith}
 use borrow.Author.Needs.{needs}
 use Rattle.linear.specs.laws.Bit.{bit-below}
-use Rattle.forms.specs.Bits.{bit-test}
+use Rattle.linear.specs.laws.Shift.{bit-test}
 use Rattle.forms.proofs.coordinate.Statement.{statement}
 use Rattle.forms.proofs.coordinate.Tie as tie
 

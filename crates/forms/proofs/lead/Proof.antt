@@ -3,7 +3,7 @@ use mathlib.Core.Path.{sym, ap, _∙_}
 use native.Mathlib.Omega.{arith}
 use lib.Count.{leading-le}
 use Rattle.linear.specs.Bit.{top}
-use Rattle.forms.specs.Bits.{top-leading, top-zero}
+use Rattle.linear.specs.laws.Shift.{top-leading, top-zero}
 use Rattle.forms.proofs.lead.Statement.{statement}
 use Rattle.forms.proofs.lead.Tie as tie
 

@@ -9,7 +9,7 @@ use Rattle.formula.proofs.first_wrong.Statement.{statement}
 use Rattle.formula.proofs.first_wrong.Tie as tie
 use Rattle.formula.proofs.first_wrong.Reads as reads
 use Rattle.formula.proofs.first_wrong.Lts as lts
-use Rattle.formula.proofs.row_form.Reads as row-form-reads
+use Rattle.sums.proofs.row_form.Reads as row-form-reads
 use Rattle.maps.proofs.target.Reads as target-reads
 
 abbrev Inv-loop : tie.InvT-loop

@@ -16,7 +16,7 @@ use Rattle.formula.proofs.judge.Statement.{statement}
 use Rattle.formula.proofs.judge.Tie as tie
 use Rattle.formula.proofs.judge.Reads as reads
 use Rattle.formula.proofs.judge.Lts as lts
-use Rattle.formula.proofs.adders_of.Reads as adders-of-reads
+use Rattle.sums.proofs.adders_of.Reads as adders-of-reads
 use Rattle.words.proofs.any_wide.Reads as any-wide-reads
 use Rattle.words.proofs.any_zero.Reads as any-zero-reads
 use Rattle.formula.proofs.verdict_on.Reads as verdict-on-reads

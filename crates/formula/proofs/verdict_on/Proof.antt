@@ -12,7 +12,7 @@ use Rattle.formula.proofs.verdict_on.Tie as tie
 use Rattle.formula.proofs.verdict_on.Reads as reads
 use Rattle.formula.proofs.verdict_on.Lts as lts
 use Rattle.formula.proofs.first_wrong.Reads as first-wrong-reads
-use Rattle.formula.proofs.product_forms.Reads as product-forms-reads
+use Rattle.sums.proofs.product_forms.Reads as product-forms-reads
 
 product-forms-requires : tie.Need-product-forms-requires
 product-forms-requires c κs = search needs

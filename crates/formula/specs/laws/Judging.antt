@@ -12,7 +12,8 @@ use Rattle.kinds.specs.Sizes.{sizes}
 use Rattle.kinds.specs.Refusal.{refused, accepted, need, refuse}
 use Rattle.words.specs.Masks.{wide, zeroIn}
 use Rattle.kinds.specs.declared.Kind.{Kind}
-use Rattle.formula.specs.Formula.{productForms, firstWrong, adders, known, lengths, judged, check}
+use Rattle.formula.specs.Formula.{firstWrong, adders, known, lengths, judged, check}
+use Rattle.sums.specs.Sums.{productForms}
 
 -- ---- 5: the lengths
 or-last : (a b : Bool) → a || (b || true) ≡ true

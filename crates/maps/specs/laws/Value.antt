@@ -11,8 +11,8 @@ use lib.Bits.{bitXor}
 use lib.Pow.{pow-lt}
 use Rattle.linear.specs.Bit.{bit}
 use Rattle.linear.specs.laws.Bit.{xorB, bit-xor, bit-zero, bit-ext, bit-below}
-use Rattle.forms.specs.Bits.{bit-shift, bit-shift-low}
-use Rattle.forms.specs.Product.{productForm, product-coordinate}
+use Rattle.linear.specs.laws.Shift.{bit-shift, bit-shift-low}
+use Rattle.products.specs.Product.{productForm, product-coordinate}
 use Rattle.maps.specs.Textbook.{sumTo}
 use Rattle.maps.specs.Target.{value}
 use Rattle.maps.specs.laws.Sum.{xor-and, and-swap, sum-same, sum-none, sum-xor, sum-times, sum-times-right, sum-one}

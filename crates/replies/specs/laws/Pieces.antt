@@ -18,8 +18,8 @@ use Rattle.kinds.specs.declared.Kind.{Kind}
 use Rattle.kinds.specs.declared.Kind.the-variants as kind
 use Rattle.kinds.specs.Kinds.{nameOf}
 use Rattle.words.specs.laws.Buffers.{filled-sets}
-use Rattle.text.specs.Print.{numberText}
-use Rattle.text.specs.laws.Print.{sets-append, printed-fits}
+use Rattle.print.specs.Print.{numberText}
+use Rattle.print.specs.laws.Print.{sets-append, printed-fits}
 use Rattle.text.specs.Line.{LF}
 use Rattle.replies.specs.CheckText.{checkNames, fieldText, sizesText, wrong, verdictText, checkText}
 use Rattle.replies.specs.RefusedText.{refusedName, refusedText}

@@ -4,7 +4,7 @@ use mathlib.Core.Path.{sym, ap, subst, _∙_}
 use mathlib.Core.Logic.{⊎-elim}
 use Prim.Native.Nat.{ℕ, _+_, _-_, _<_, _^_}
 use borrow.Author.Needs.{needs}
-use Rattle.forms.specs.Bits.{one-shift}
+use Rattle.linear.specs.laws.Shift.{one-shift}
 use Rattle.rows.specs.laws.Rows.{Rowing, rowing-start, rowing-end, rowing-later, rowing-here, rowing-room, rowing-at, part-inside, not-true, not-false}
 use Rattle.rows.proofs.row_of.Statement.{statement}
 use Rattle.rows.proofs.row_of.Tie as tie

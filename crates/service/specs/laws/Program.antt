@@ -19,13 +19,14 @@ use Rattle.kinds.specs.Sizes.{sizes}
 use Rattle.kinds.specs.Refusal.{Answer, refused, accepted, need, refuse}
 use Rattle.words.specs.Buffers.{filled}
 use Rattle.words.specs.Masks.{wide, zeroIn}
-use Rattle.text.specs.Head.{Head, headLines}
-use Rattle.text.specs.Print.{numberText}
+use Rattle.heads.specs.Head.{Head, headLines}
+use Rattle.print.specs.Print.{numberText}
 use Rattle.lines.specs.Formula.{body}
 use Rattle.text.specs.Line.{LF}
 use Rattle.files.specs.Outcome.{Outcome, outcome, rest, isList}
 use Rattle.files.specs.Outcome as file
-use Rattle.formula.specs.Formula.{productForms, firstWrong, adders, lengths, check, judged, known}
+use Rattle.formula.specs.Formula.{firstWrong, adders, lengths, check, judged, known}
+use Rattle.sums.specs.Sums.{productForms}
 use Rattle.formula.specs.declared.Verdict.{Verdict}
 use Rattle.formula.specs.declared.Verdict.the-variants as verdict
 use Rattle.replies.specs.CheckText.{checkNames, sizesText, verdictText, fieldText, checkText}

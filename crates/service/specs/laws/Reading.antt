@@ -17,7 +17,7 @@ use Rattle.files.specs.Outcome.{Outcome, outcome}
 use Rattle.files.specs.Outcome as file
 use Rattle.files.specs.Lent.{reply, firstOf, secondOf, rowsOf}
 use Rattle.files.specs.Sound.{Sound, Room}
-use Rattle.files.specs.AcceptedOnly.{accepted-sound}
+use Rattle.files.specs.AcceptedSound.{accepted-sound}
 use Rattle.files.specs.declared.Read.the-variants as read
 use Rattle.formula.specs.Formula.{check}
 use Rattle.formula.specs.Replies.{seenVerdict}

@@ -1,0 +1,4 @@
+-- The first two lines of a file.
+pub mod Head
+pub mod Views
+pub mod laws

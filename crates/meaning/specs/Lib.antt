@@ -1,0 +1,4 @@
+-- What Check's reply means.
+pub mod Meaning
+pub mod Theorems
+pub mod laws

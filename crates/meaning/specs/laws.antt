@@ -1,0 +1,2 @@
+-- The laws behind the meaning of Check.
+pub mod Meaning

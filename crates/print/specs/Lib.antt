@@ -1,0 +1,3 @@
+-- Numbers and names, printed.
+pub mod Print
+pub mod laws

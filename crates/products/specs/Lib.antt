@@ -1,0 +1,2 @@
+-- Products as forms.
+pub mod Product

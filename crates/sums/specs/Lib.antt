@@ -1,0 +1,3 @@
+-- The parts of a formula.
+pub mod Sums
+pub mod laws
