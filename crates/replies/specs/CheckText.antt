@@ -7,9 +7,8 @@
 use Prim.Native.Nat.{ℕ}
 use mathlib.Core.List.{List, [], _∷_, _++_}
 use Rattle.kinds.specs.declared.Kind.{Kind}
-use Rattle.kinds.specs.Kinds.{nameOf}
-use Rattle.text.specs.Line.{LF, comma}
-use Rattle.print.specs.Print.{numberText}
+use Rattle.text.specs.Line.{LF}
+use Rattle.pieces.specs.Fields.{fieldText, sizesText}
 use Rattle.formula.specs.declared.Verdict.{Verdict}
 use Rattle.formula.specs.declared.Verdict.the-variants as verdict
 
@@ -20,13 +19,6 @@ checkNames =
     ∷ 118 ∷ 101 ∷ 114 ∷ 100 ∷ 105 ∷ 99 ∷ 116 ∷ 44
     ∷ 111 ∷ 117 ∷ 116 ∷ 112 ∷ 117 ∷ 116 ∷ 44
     ∷ 97 ∷ 100 ∷ 100 ∷ 101 ∷ 114 ∷ 115 ∷ LF ∷ []
-
--- a comma and a number
-abbrev pub fieldText : ℕ → List ℕ
-fieldText n = comma ∷ numberText n
-
-unfoldable pub sizesText : Kind → ℕ → ℕ → ℕ → ℕ → List ℕ
-sizesText kind p q r k = nameOf kind ++ fieldText p ++ fieldText q ++ fieldText r ++ fieldText k
 
 -- `,wrong`
 abbrev pub wrong : List ℕ

@@ -8,7 +8,8 @@ use lib.ListN.{length, length-append}
 use Rattle.kinds.specs.declared.Kind.{Kind}
 use Rattle.text.specs.Line.{LF}
 use Rattle.formula.specs.declared.Verdict.{Verdict}
-use Rattle.replies.specs.CheckText.{checkNames, sizesText, verdictText, fieldText, checkText}
+use Rattle.replies.specs.CheckText.{checkNames, verdictText, checkText}
+use Rattle.pieces.specs.Fields.{sizesText, fieldText}
 
 pub check-text-long : (kind : Kind) (p q r k : ℕ) (v : Verdict) (adders : ℕ) → 35 < length (checkText kind p q r k v adders)
 unfolding checkText

@@ -8,8 +8,9 @@ use mathlib.Core.List.{[], _∷_, _++_}
 use Rattle.kinds.specs.declared.Kind.the-variants as kind
 use Rattle.print.specs.Print.{printed}
 use Rattle.formula.specs.declared.Verdict.the-variants as verdict
-use Rattle.replies.specs.CheckText.{checkNames, sizesText, checkText}
-use Rattle.replies.specs.RefusedText.{refusedText}
+use Rattle.replies.specs.CheckText.{checkNames, checkText}
+use Rattle.pieces.specs.Fields.{sizesText}
+use Rattle.pieces.specs.RefusedText.{refusedText}
 
 pub worked-right : checkText kind.Poly 2 2 0 3 verdict.Right 4
     ≡ checkNames ++ (112 ∷ 111 ∷ 108 ∷ 121 ∷ 44 ∷ 50 ∷ 44 ∷ 50 ∷ 44 ∷ 48 ∷ 44 ∷ 51 ∷ 44 ∷ 114 ∷ 105 ∷ 103 ∷ 104 ∷ 116 ∷ 44 ∷ 45 ∷ 44 ∷ 52 ∷ 10 ∷ [])

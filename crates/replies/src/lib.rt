@@ -1,33 +1,11 @@
 // Printing the reply of a Check.
 ghost use mathlib.Core.Path.{_≡_};
 ghost use Prim.Native.Nat.{_≤_};
-ghost use Rattle.replies.specs.CheckText.{fieldText, sizesText, verdictText, checkText};
-ghost use Rattle.replies.specs.RefusedText.{refusedText};
-ghost use Rattle.replies.specs.Piece.{Piece};
-ghost use Rattle.replies.specs.Written.{bytesIn, writtenIn};
+ghost use Rattle.replies.specs.CheckText.{verdictText, checkText};
+ghost use Rattle.pieces.specs.Piece.{Piece};
+ghost use Rattle.pieces.specs.Written.{bytesIn, writtenIn};
 use formula::Verdict;
 use kinds::Kind;
-
-// A comma and a number from place `at` on, as far as there is room; the place after them.
-fn put_field(n: u64, out: &mut [u8], at: usize) -> usize
-    requires { ⌜ at ≤ 1000 ⌝ }
-    ensures { λ e. ⌜ Piece (now (out .entry)) at (fieldText n) 21 (now (out .exit)) e ⌝ }
-{
-    print::put_byte(out, at, 44);
-    print::put_number(n, 10, 20, out, at + 1)
-}
-
-// The kind and the four counts, likewise.
-fn put_sizes(kind: Kind, p: u64, q: u64, r: u64, k: u64, out: &mut [u8], at: usize) -> usize
-    requires { ⌜ at ≤ 500 ⌝ }
-    ensures { λ e. ⌜ Piece (now (out .entry)) at (sizesText kind p q r k) 89 (now (out .exit)) e ⌝ }
-{
-    let a = print::put_kind(kind, out, at);
-    let b = put_field(p, out, a);
-    let c = put_field(q, out, b);
-    let d = put_field(r, out, c);
-    put_field(k, out, d)
-}
 
 // The verdict and the output, likewise.
 fn put_verdict(v: Verdict, out: &mut [u8], at: usize) -> usize
@@ -38,7 +16,7 @@ fn put_verdict(v: Verdict, out: &mut [u8], at: usize) -> usize
         Verdict::Right => print::put_bytes(b",right,-", out, at),
         Verdict::Wrong(t) => {
             let a = print::put_bytes(b",wrong", out, at);
-            put_field(t, out, a)
+            pieces::put_field(t, out, a)
         }
     }
 }
@@ -57,20 +35,10 @@ fn put_check(
     ensures { λ e. ⌜ Piece (now (out .entry)) 0 (checkText kind p q r k v adders) 173 (now (out .exit)) e ⌝ }
 {
     let a = print::put_bytes(b"kind,p,q,r,k,verdict,output,adders\n", out, 0);
-    let b = put_sizes(kind, p, q, r, k, out, a);
+    let b = pieces::put_sizes(kind, p, q, r, k, out, a);
     let c = put_verdict(v, out, b);
-    let d = put_field(adders, out, c);
+    let d = pieces::put_field(adders, out, c);
     print::put_bytes(b"\n", out, d)
-}
-
-// All of s from the start of a buffer, and its length; nothing and 0 where there is no room.
-fn deliver(s: &[u8], out: &mut [u8]) -> usize
-    ensures { λ e. ⌜ (e ≡ bytesIn (now (s .entry)) (now (out .entry))) × (now (out .exit) ≡ writtenIn (now (s .entry)) (now (out .entry))) ⌝ }
-{
-    if out.len() < s.len() {
-        return 0;
-    }
-    print::put_bytes(s, out, 0)
 }
 
 // The text of a Check's reply from the start of `out`, and its length; nothing and 0 where `out` is too short.
@@ -88,23 +56,5 @@ pub fn check_text(
 {
     let mut page = [0u8; 192];
     let n = put_check(kind, p, q, r, k, v, adders, &mut page);
-    deliver(&page[..n], out)
-}
-
-// A refusal's line from the start of a buffer, as far as there is room; its length.
-fn put_refused(n: u64, out: &mut [u8]) -> usize
-    ensures { λ e. ⌜ Piece (now (out .entry)) 0 (refusedText n) 29 (now (out .exit)) e ⌝ }
-{
-    let a = print::put_bytes(b"refused ", out, 0);
-    let b = print::put_number(n, 10, 20, out, a);
-    print::put_bytes(b"\n", out, b)
-}
-
-// The line of a refusal from the start of `out`, and its length; nothing and 0 where `out` is too short.
-pub fn refused_text(n: u64, out: &mut [u8]) -> usize
-    ensures { λ e. ⌜ (e ≡ bytesIn (refusedText n) (now (out .entry))) × (now (out .exit) ≡ writtenIn (refusedText n) (now (out .entry))) ⌝ }
-{
-    let mut page = [0u8; 32];
-    let e = put_refused(n, &mut page);
-    deliver(&page[..e], out)
+    pieces::deliver(&page[..n], out)
 }

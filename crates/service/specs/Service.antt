@@ -21,8 +21,8 @@ use Rattle.formula.specs.Formula.{check}
 use Rattle.formula.specs.declared.Verdict.{Verdict}
 use Rattle.formula.specs.declared.Verdict.the-variants as verdict
 use Rattle.replies.specs.CheckText.{checkText}
-use Rattle.replies.specs.RefusedText.{refusedText}
-use Rattle.replies.specs.Written.{writtenIn}
+use Rattle.pieces.specs.RefusedText.{refusedText}
+use Rattle.pieces.specs.Written.{writtenIn}
 
 abbrev pub verdictOf : Option ℕ → Verdict
 verdictOf none = verdict.Right

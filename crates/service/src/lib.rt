@@ -94,13 +94,13 @@ pub fn check_program(file: &[u8], out: &mut [u8]) -> usize
     ensures { λ n. ⌜ (take n (now (out .exit)) ≡ programText (now (file .entry))) × (n ≤ 256) ⌝ }
 {
     if 65536 < file.len() {
-        return replies::refused_text(1, out);
+        return pieces::refused_text(1, out);
     }
     let n = gijpsando_check(file, out);
     if 35 < n {
         return n;
     }
-    replies::refused_text(n as u64, out)
+    pieces::refused_text(n as u64, out)
 }
 
 // Three words from the start.

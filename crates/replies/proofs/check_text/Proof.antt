@@ -3,7 +3,7 @@ use borrow.Author.Needs.{needs}
 use mathlib.Core.Path.{sym}
 use native.Mathlib.Omega.{arith}
 use lib.Seq.{length-take-le}
-use Rattle.replies.specs.laws.Pieces.{whole, deliver-told}
+use Rattle.pieces.specs.laws.Pieces.{whole, deliver-told}
 use Rattle.replies.proofs.check_text.Statement.{statement}
 use Rattle.replies.proofs.check_text.Tie as tie
 

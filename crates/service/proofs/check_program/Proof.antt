@@ -1,14 +1,14 @@
 -- `service::check_program` meets its contract. Assumes nothing.
 use mathlib.Core.Path.{_∙_}
 use native.Mathlib.Omega.{arith}
-use Rattle.replies.specs.RefusedText.{refusedText}
+use Rattle.pieces.specs.RefusedText.{refusedText}
 use Rattle.service.specs.laws.Program.{bytes-most, reply-most, refused-length, print-text, print-refusal, program-long, program-short}
 use borrow.Author.Needs.{needs}
 use Rattle.service.proofs.check_program.Statement.{statement}
 use Rattle.service.proofs.check_program.Tie as tie
 use Rattle.service.proofs.check_program.Reads as reads
 use Rattle.service.proofs.check_program.Lts as lts
-use Rattle.replies.proofs.refused_text.Reads as refused-text-reads
+use Rattle.pieces.proofs.refused_text.Reads as refused-text-reads
 use Rattle.service.proofs.gijpsando_check.Reads as gijpsando-check-reads
 
 refused-text-requires : tie.Need-refused-text-requires

@@ -29,11 +29,12 @@ use Rattle.formula.specs.Formula.{firstWrong, adders, lengths, check, judged, k
 use Rattle.sums.specs.Sums.{productForms}
 use Rattle.formula.specs.declared.Verdict.{Verdict}
 use Rattle.formula.specs.declared.Verdict.the-variants as verdict
-use Rattle.replies.specs.CheckText.{checkNames, sizesText, verdictText, fieldText, checkText}
-use Rattle.replies.specs.RefusedText.{refusedName, refusedText}
+use Rattle.replies.specs.CheckText.{checkNames, verdictText, checkText}
+use Rattle.pieces.specs.Fields.{sizesText, fieldText}
+use Rattle.pieces.specs.RefusedText.{refusedName, refusedText}
 use Rattle.replies.specs.CheckTextLong.{check-text-long}
-use Rattle.replies.specs.Written.{bytesIn, writtenIn}
-use Rattle.replies.specs.laws.Pieces.{name-short, number-short}
+use Rattle.pieces.specs.Written.{bytesIn, writtenIn}
+use Rattle.pieces.specs.laws.Pieces.{name-short, number-short}
 use Rattle.service.specs.Service.{verdictOf, replyText, checkRead, checkFile, replyOf, bytesOf, printed, programText, verdictWords, numbersReply, numbersLent}
 
 -- ---- refusals are at most 9

@@ -25,7 +25,7 @@ use Rattle.formula.specs.declared.Verdict.{Verdict}
 use Rattle.formula.specs.declared.Verdict.the-variants as verdict
 use Rattle.replies.specs.CheckText.{checkText}
 use Rattle.replies.specs.CheckTextLong.{check-text-long}
-use Rattle.replies.specs.Written.{bytesIn}
+use Rattle.pieces.specs.Written.{bytesIn}
 use Rattle.service.specs.Service.{verdictOf, replyText, checkRead, checkFile, replyOf}
 use Rattle.service.specs.Ready.{third, outputsOf, Ready}
 

@@ -1,8 +1,8 @@
--- `replies::deliver` meets its contract. Assumes nothing.
+-- `pieces::deliver` meets its contract. Assumes nothing.
 use borrow.Author.Needs.{needs}
-use Rattle.replies.specs.laws.Pieces.{deliver-none, deliver-all}
-use Rattle.replies.proofs.deliver.Statement.{statement}
-use Rattle.replies.proofs.deliver.Tie as tie
+use Rattle.pieces.specs.laws.Pieces.{deliver-none, deliver-all}
+use Rattle.pieces.proofs.deliver.Statement.{statement}
+use Rattle.pieces.proofs.deliver.Tie as tie
 
 returns : tie.Need-returns
 returns c =

@@ -1,11 +1,11 @@
--- `replies::refused_text` meets its contract. Assumes nothing.
+-- `pieces::refused_text` meets its contract. Assumes nothing.
 use borrow.Author.Needs.{needs}
 use mathlib.Core.Path.{sym}
 use native.Mathlib.Omega.{arith}
 use lib.Seq.{length-take-le}
-use Rattle.replies.specs.laws.Pieces.{whole, deliver-told}
-use Rattle.replies.proofs.refused_text.Statement.{statement}
-use Rattle.replies.proofs.refused_text.Tie as tie
+use Rattle.pieces.specs.laws.Pieces.{whole, deliver-told}
+use Rattle.pieces.proofs.refused_text.Statement.{statement}
+use Rattle.pieces.proofs.refused_text.Tie as tie
 
 slice-aggregate-put-refused : tie.Need-slice-aggregate-put-refused
 slice-aggregate-put-refused c = search needs

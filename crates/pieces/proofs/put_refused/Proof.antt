@@ -1,9 +1,9 @@
--- `replies::put_refused` meets its contract. Assumes nothing.
+-- `pieces::put_refused` meets its contract. Assumes nothing.
 use borrow.Author.Needs.{needs}
 use native.Mathlib.Omega.{arith}
-use Rattle.replies.specs.laws.Pieces.{number-short, refused-put}
-use Rattle.replies.proofs.put_refused.Statement.{statement}
-use Rattle.replies.proofs.put_refused.Tie as tie
+use Rattle.pieces.specs.laws.Pieces.{number-short, refused-put}
+use Rattle.pieces.proofs.put_refused.Statement.{statement}
+use Rattle.pieces.proofs.put_refused.Tie as tie
 
 slice-aggregate-put-bytes : tie.Need-slice-aggregate-put-bytes
 slice-aggregate-put-bytes c = search needs

@@ -1,8 +1,8 @@
--- `replies::put_field` meets its contract. Assumes nothing.
+-- `pieces::put_field` meets its contract. Assumes nothing.
 use borrow.Author.Needs.{needs}
-use Rattle.replies.specs.laws.Pieces.{field-put}
-use Rattle.replies.proofs.put_field.Statement.{statement}
-use Rattle.replies.proofs.put_field.Tie as tie
+use Rattle.pieces.specs.laws.Pieces.{field-put}
+use Rattle.pieces.proofs.put_field.Statement.{statement}
+use Rattle.pieces.proofs.put_field.Tie as tie
 
 put-byte-requires : tie.Need-put-byte-requires
 put-byte-requires c κs = search needs

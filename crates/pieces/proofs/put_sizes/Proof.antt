@@ -1,9 +1,9 @@
--- `replies::put_sizes` meets its contract. Assumes nothing.
+-- `pieces::put_sizes` meets its contract. Assumes nothing.
 use borrow.Author.Needs.{needs}
 use native.Mathlib.Omega.{arith}
-use Rattle.replies.specs.laws.Pieces.{name-short, sizes-put}
-use Rattle.replies.proofs.put_sizes.Statement.{statement}
-use Rattle.replies.proofs.put_sizes.Tie as tie
+use Rattle.pieces.specs.laws.Pieces.{name-short, sizes-put}
+use Rattle.pieces.proofs.put_sizes.Statement.{statement}
+use Rattle.pieces.proofs.put_sizes.Tie as tie
 
 put-kind-requires : tie.Need-put-kind-requires
 put-kind-requires c κs = search needs

@@ -1,0 +1,3 @@
+-- Inner lists of a line.
+pub mod Inner
+pub mod laws

@@ -1,0 +1,2 @@
+-- The laws of inner lists.
+pub mod Inner
