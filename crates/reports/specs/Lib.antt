@@ -1,0 +1,3 @@
+-- What the programs print.
+pub mod Reports
+pub mod laws
