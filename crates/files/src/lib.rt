@@ -5,7 +5,7 @@ ghost use lib.ListN.{length};
 ghost use lib.Dec.{ltb};
 ghost use Rattle.files.specs.Outcome.{isList, outcome};
 ghost use Rattle.files.specs.Lent.{reply, firstOf, secondOf, rowsOf};
-ghost use Rattle.files.specs.laws.Outcome.{Left};
+ghost use Rattle.files.specs.laws.Outcome.{number, Left};
 use heads::HeadRead;
 use kinds::Kind;
 use kinds::Known;
@@ -35,6 +35,23 @@ fn too_short(k: usize, t: usize, la: usize, lb: usize, lr: usize) -> bool
         return true;
     }
     lr < t
+}
+
+// The refusal of a formula that is read, 6 to 9, or 0: whether a mask is too wide, whether a factor is zero, its k products and t rows, and
+// the buffers' lengths.
+fn refusal(wide: bool, zero: bool, k: usize, t: usize, la: usize, lb: usize, lr: usize) -> u64
+    ensures { λ e. ⌜ e ≡ number wide zero (ltb 64 k) (ltb la k || (ltb lb k || ltb lr t)) ⌝ }
+{
+    if wide {
+        return 6;
+    }
+    if zero {
+        return 7;
+    }
+    if 64 < k {
+        return 8;
+    }
+    if too_short(k, t, la, lb, lr) { 9 } else { 0 }
 }
 
 // The reply of reading a formula: a refusal's number, or the kind and the four counts.
@@ -73,17 +90,9 @@ fn read_whole(s: &[u8], a: &mut [u64], b: &mut [u64], d: &mut [u64]) -> Read
     ) else {
         return Read::Refused(5);
     };
-    if wide {
-        return Read::Refused(6);
-    }
-    if zero {
-        return Read::Refused(7);
-    }
-    if 64 < products {
-        return Read::Refused(8);
-    }
-    if too_short(products, outputs, a.len(), b.len(), d.len()) {
-        return Read::Refused(9);
+    let e = refusal(wide, zero, products, outputs, a.len(), b.len(), d.len());
+    if e != 0 {
+        return Read::Refused(e);
     }
     Read::Formula(kind, p, q, r, k)
 }

@@ -7,7 +7,7 @@ use Rattle.kinds.specs.Sizes.{seenSizes}
 use Rattle.words.specs.laws.Buffers.{filled-sets}
 use Rattle.heads.specs.Views.{seenHead}
 use Rattle.lines.specs.laws.Told.{body-at, body-not}
-use Rattle.files.specs.laws.Outcome.{head-fit, outcome-1, outcome-rest, rest-2, rest-list, rest-3, rest-5, rest-judged, judged-6, judged-7, judged-8, judged-9, judged-is, too-told, room, left-refused, left-formula}
+use Rattle.files.specs.laws.Outcome.{head-fit, outcome-1, outcome-rest, rest-2, rest-list, rest-3, rest-5, rest-judged, judged-refused, judged-none, number-room, left-refused, left-formula}
 use Rattle.files.proofs.read_whole.Statement.{statement}
 use Rattle.files.proofs.read_whole.Tie as tie
 
@@ -116,29 +116,27 @@ returns-5 c =
     let read-body = c .before .before .before .before .before .before .before .before .read-body in
     left-refused _ _ _ _ _ _ _ _ ((outcome-rest _ _ _ _ _ _ (head-lines .ensures .0 ∙ ap (seenHead (args .s .now)) (known .given .1))) ∙ rest-5 _ _ _ _ _ _ _ _ _ _ _ _ _ (ap seenKind (known2 .given .1)) (sym (is-list .ensures) ∙ if1 .left) (sizes-of .ensures ∙ ap seenSizes (n .given .1)) (body-not _ _ _ _ (args .s .now) (known .given .0 .1 .1 .1 .1 .1 .0) _ _ _ _ _ _ _ (read-body .ensures) (c .enum-told4 .given .1)))
 
+refusal-requires : tie.Need-refusal-requires
+refusal-requires c κs = search needs
+
 same-length-4 : tie.Need-same-length-4
-same-length-4 c = c .before .before .before .before .before .before .before .before .before .before .read-body .kept .1 .1 .1 .1 .1 .0
+same-length-4 c = c .before .before .before .before .before .before .before .before .before .before .before .read-body .kept .1 .1 .1 .1 .1 .0
 
 same-length-5 : tie.Need-same-length-5
-same-length-5 c = c .before .before .before .before .before .before .before .before .before .before .read-body .kept .1 .1 .1 .1 .1 .1 .0
+same-length-5 c = c .before .before .before .before .before .before .before .before .before .before .before .read-body .kept .1 .1 .1 .1 .1 .1 .0
 
 same-length-6 : tie.Need-same-length-6
-same-length-6 c = c .before .before .before .before .before .before .before .before .before .before .read-body .kept .1 .1 .1 .1 .1 .1 .1 .0
+same-length-6 c = c .before .before .before .before .before .before .before .before .before .before .before .read-body .kept .1 .1 .1 .1 .1 .1 .1 .0
 
 returns-6 : tie.Need-returns-6
 returns-6 c =
-    let args = c .before .before .before .before .before .before .before .before .before .before .before .before .before .before .before .before .before .before .before .before .before .before .before .before .before .before .before .before .before .before .before .before .args in
-    let known = c .before .before .before .before .before .before .before .before .before .before .before .before .before .before .before .before .before .before .before .before .before .before .before .before .before .known in
-    let read-body = c .before .before .before .before .before .before .before .before .before .before .read-body in
-    let wide = c .before .before .wide in
-    let head-lines = c .before .before .before .before .before .before .before .before .before .before .before .before .before .before .before .before .before .before .before .before .before .before .before .before .before .before .before .head-lines in
-    let known2 = c .before .before .before .before .before .before .before .before .before .before .before .before .before .before .before .before .before .before .before .before .before .before .known2 in
-    let is-list = c .before .before .before .before .before .before .before .before .before .before .before .before .before .before .before .before .before .before .before .before .is-list in
-    let if1 = c .before .before .before .before .before .before .before .before .before .before .before .before .before .before .before .before .before .before .before .if1 in
-    let sizes-of = c .before .before .before .before .before .before .before .before .before .before .before .before .before .before .before .before .before .before .sizes-of in
-    let n = c .before .before .before .before .before .before .before .before .before .before .before .before .before .before .before .before .n in
-    let t = body-at _ _ _ _ (args .s .now) (known .given .0 .1 .1 .1 .1 .1 .0) _ _ _ _ _ _ _ _ _ (read-body .ensures) (wide .given .1) in
-    left-refused _ _ _ _ _ _ _ _ ((outcome-rest _ _ _ _ _ _ (head-lines .ensures .0 ∙ ap (seenHead (args .s .now)) (known .given .1))) ∙ rest-judged _ _ _ _ _ _ _ _ _ _ _ _ _ _ _ _ (ap seenKind (known2 .given .1)) (sym (is-list .ensures) ∙ if1 .left) (sizes-of .ensures ∙ ap seenSizes (n .given .1)) (t .is) ∙ judged-6 _ _ _ _ _ _ _ _ _ _ _ _ _ _ (sym (c .if2 .taken) ∙ t .toowide))
+    let args = c .before .before .before .before .before .before .before .before .before .before .before .before .before .before .before .before .before .before .before .before .before .before .before .before .before .before .before .before .before .before .before .before .before .args in
+    let known = c .before .before .before .before .before .before .before .before .before .before .before .before .before .before .before .before .before .before .before .before .before .before .before .before .before .before .known in
+    let n = c .before .before .before .before .before .before .before .before .before .before .before .before .before .before .before .before .before .n in
+    let read-body = c .before .before .before .before .before .before .before .before .before .before .before .read-body in
+    let sizes-of = c .before .before .before .before .before .before .before .before .before .before .before .before .before .before .before .before .before .before .before .sizes-of in
+    let t = body-at _ _ _ _ (args .s .now) (known .given .0 .1 .1 .1 .1 .1 .0) _ _ _ _ _ _ _ _ _ (read-body .ensures) (c .before .before .before .wide .given .1) in
+    left-refused _ _ _ _ _ _ _ _ ((outcome-rest _ _ _ _ _ _ (c .before .before .before .before .before .before .before .before .before .before .before .before .before .before .before .before .before .before .before .before .before .before .before .before .before .before .before .before .head-lines .ensures .0 ∙ ap (seenHead (args .s .now)) (known .given .1))) ∙ rest-judged _ _ _ _ _ _ _ _ _ _ _ _ _ _ _ _ (ap seenKind (c .before .before .before .before .before .before .before .before .before .before .before .before .before .before .before .before .before .before .before .before .before .before .before .known2 .given .1)) (sym (c .before .before .before .before .before .before .before .before .before .before .before .before .before .before .before .before .before .before .before .before .before .is-list .ensures) ∙ c .before .before .before .before .before .before .before .before .before .before .before .before .before .before .before .before .before .before .before .before .if1 .left) (sizes-of .ensures ∙ ap seenSizes (n .given .1)) (t .is) ∙ judged-refused _ _ _ _ _ _ _ _ _ _ _ _ _ _ _ _ _ _ _ _ (t .toowide) (t .haszero) (read-body .kept .1 .1 .1 .1 .1 .0) (read-body .kept .1 .1 .1 .1 .1 .1 .0) (read-body .kept .1 .1 .1 .1 .1 .1 .1 .0) (c .before .refusal .ensures) (c .if2 .taken))
 
 same-length-7 : tie.Need-same-length-7
 same-length-7 c = c .before .before .before .before .before .before .before .before .before .before .before .read-body .kept .1 .1 .1 .1 .1 .0
@@ -153,100 +151,12 @@ returns-7 : tie.Need-returns-7
 returns-7 c =
     let args = c .before .before .before .before .before .before .before .before .before .before .before .before .before .before .before .before .before .before .before .before .before .before .before .before .before .before .before .before .before .before .before .before .before .args in
     let known = c .before .before .before .before .before .before .before .before .before .before .before .before .before .before .before .before .before .before .before .before .before .before .before .before .before .before .known in
-    let read-body = c .before .before .before .before .before .before .before .before .before .before .before .read-body in
-    let wide = c .before .before .before .wide in
-    let head-lines = c .before .before .before .before .before .before .before .before .before .before .before .before .before .before .before .before .before .before .before .before .before .before .before .before .before .before .before .before .head-lines in
-    let known2 = c .before .before .before .before .before .before .before .before .before .before .before .before .before .before .before .before .before .before .before .before .before .before .before .known2 in
-    let is-list = c .before .before .before .before .before .before .before .before .before .before .before .before .before .before .before .before .before .before .before .before .before .is-list in
-    let if1 = c .before .before .before .before .before .before .before .before .before .before .before .before .before .before .before .before .before .before .before .before .if1 in
-    let sizes-of = c .before .before .before .before .before .before .before .before .before .before .before .before .before .before .before .before .before .before .before .sizes-of in
     let n = c .before .before .before .before .before .before .before .before .before .before .before .before .before .before .before .before .before .n in
-    let t = body-at _ _ _ _ (args .s .now) (known .given .0 .1 .1 .1 .1 .1 .0) _ _ _ _ _ _ _ _ _ (read-body .ensures) (wide .given .1) in
-    left-refused _ _ _ _ _ _ _ _ ((outcome-rest _ _ _ _ _ _ (head-lines .ensures .0 ∙ ap (seenHead (args .s .now)) (known .given .1))) ∙ rest-judged _ _ _ _ _ _ _ _ _ _ _ _ _ _ _ _ (ap seenKind (known2 .given .1)) (sym (is-list .ensures) ∙ if1 .left) (sizes-of .ensures ∙ ap seenSizes (n .given .1)) (t .is) ∙ judged-7 _ _ _ _ _ _ _ _ _ _ _ _ _ _ (sym (c .before .if2 .left) ∙ t .toowide) (sym (c .if3 .taken) ∙ t .haszero))
-
-same-length-10 : tie.Need-same-length-10
-same-length-10 c = c .before .before .before .before .before .before .before .before .before .before .before .before .read-body .kept .1 .1 .1 .1 .1 .0
-
-same-length-11 : tie.Need-same-length-11
-same-length-11 c = c .before .before .before .before .before .before .before .before .before .before .before .before .read-body .kept .1 .1 .1 .1 .1 .1 .0
-
-same-length-12 : tie.Need-same-length-12
-same-length-12 c = c .before .before .before .before .before .before .before .before .before .before .before .before .read-body .kept .1 .1 .1 .1 .1 .1 .1 .0
-
-returns-8 : tie.Need-returns-8
-returns-8 c =
-    let args = c .before .before .before .before .before .before .before .before .before .before .before .before .before .before .before .before .before .before .before .before .before .before .before .before .before .before .before .before .before .before .before .before .before .before .args in
-    let known = c .before .before .before .before .before .before .before .before .before .before .before .before .before .before .before .before .before .before .before .before .before .before .before .before .before .before .before .known in
-    let read-body = c .before .before .before .before .before .before .before .before .before .before .before .before .read-body in
-    let wide = c .before .before .before .before .wide in
-    let head-lines = c .before .before .before .before .before .before .before .before .before .before .before .before .before .before .before .before .before .before .before .before .before .before .before .before .before .before .before .before .before .head-lines in
-    let known2 = c .before .before .before .before .before .before .before .before .before .before .before .before .before .before .before .before .before .before .before .before .before .before .before .before .known2 in
-    let is-list = c .before .before .before .before .before .before .before .before .before .before .before .before .before .before .before .before .before .before .before .before .before .before .is-list in
-    let if1 = c .before .before .before .before .before .before .before .before .before .before .before .before .before .before .before .before .before .before .before .before .before .if1 in
-    let sizes-of = c .before .before .before .before .before .before .before .before .before .before .before .before .before .before .before .before .before .before .before .before .sizes-of in
-    let n = c .before .before .before .before .before .before .before .before .before .before .before .before .before .before .before .before .before .before .n in
-    let if2 = c .before .before .if2 in
-    let t = body-at _ _ _ _ (args .s .now) (known .given .0 .1 .1 .1 .1 .1 .0) _ _ _ _ _ _ _ _ _ (read-body .ensures) (wide .given .1) in
-    left-refused _ _ _ _ _ _ _ _ ((outcome-rest _ _ _ _ _ _ (head-lines .ensures .0 ∙ ap (seenHead (args .s .now)) (known .given .1))) ∙ rest-judged _ _ _ _ _ _ _ _ _ _ _ _ _ _ _ _ (ap seenKind (known2 .given .1)) (sym (is-list .ensures) ∙ if1 .left) (sizes-of .ensures ∙ ap seenSizes (n .given .1)) (t .is) ∙ judged-8 _ _ _ _ _ _ _ _ _ _ _ _ _ _ (sym (if2 .left) ∙ t .toowide) (sym (c .before .if3 .left) ∙ t .haszero) (c .if4 .taken))
-
-too-short-requires : tie.Need-too-short-requires
-too-short-requires c κs = search needs
-
-same-length-13 : tie.Need-same-length-13
-same-length-13 c = c .before .before .before .before .before .before .before .before .before .before .before .before .before .before .read-body .kept .1 .1 .1 .1 .1 .0
-
-same-length-14 : tie.Need-same-length-14
-same-length-14 c = c .before .before .before .before .before .before .before .before .before .before .before .before .before .before .read-body .kept .1 .1 .1 .1 .1 .1 .0
-
-same-length-15 : tie.Need-same-length-15
-same-length-15 c = c .before .before .before .before .before .before .before .before .before .before .before .before .before .before .read-body .kept .1 .1 .1 .1 .1 .1 .1 .0
-
-returns-9 : tie.Need-returns-9
-returns-9 c =
-    let args = c .before .before .before .before .before .before .before .before .before .before .before .before .before .before .before .before .before .before .before .before .before .before .before .before .before .before .before .before .before .before .before .before .before .before .before .before .args in
-    let known = c .before .before .before .before .before .before .before .before .before .before .before .before .before .before .before .before .before .before .before .before .before .before .before .before .before .before .before .before .before .known in
-    let read-body = c .before .before .before .before .before .before .before .before .before .before .before .before .before .before .read-body in
-    let wide = c .before .before .before .before .before .before .wide in
-    let head-lines = c .before .before .before .before .before .before .before .before .before .before .before .before .before .before .before .before .before .before .before .before .before .before .before .before .before .before .before .before .before .before .before .head-lines in
-    let known2 = c .before .before .before .before .before .before .before .before .before .before .before .before .before .before .before .before .before .before .before .before .before .before .before .before .before .before .known2 in
-    let is-list = c .before .before .before .before .before .before .before .before .before .before .before .before .before .before .before .before .before .before .before .before .before .before .before .before .is-list in
-    let if1 = c .before .before .before .before .before .before .before .before .before .before .before .before .before .before .before .before .before .before .before .before .before .before .before .if1 in
-    let sizes-of = c .before .before .before .before .before .before .before .before .before .before .before .before .before .before .before .before .before .before .before .before .before .before .sizes-of in
-    let n = c .before .before .before .before .before .before .before .before .before .before .before .before .before .before .before .before .before .before .before .before .n in
-    let if2 = c .before .before .before .before .if2 in
-    let if3 = c .before .before .before .if3 in
-    let if4 = c .before .before .if4 in
-    let t = body-at _ _ _ _ (args .s .now) (known .given .0 .1 .1 .1 .1 .1 .0) _ _ _ _ _ _ _ _ _ (read-body .ensures) (wide .given .1) in
-    left-refused _ _ _ _ _ _ _ _ ((outcome-rest _ _ _ _ _ _ (head-lines .ensures .0 ∙ ap (seenHead (args .s .now)) (known .given .1))) ∙ rest-judged _ _ _ _ _ _ _ _ _ _ _ _ _ _ _ _ (ap seenKind (known2 .given .1)) (sym (is-list .ensures) ∙ if1 .left) (sizes-of .ensures ∙ ap seenSizes (n .given .1)) (t .is) ∙ judged-9 _ _ _ _ _ _ _ _ _ _ _ _ _ _ (sym (if2 .left) ∙ t .toowide) (sym (if3 .left) ∙ t .haszero) (if4 .left) (too-told _ _ _ _ _ _ _ _ _ _ (c .before .too-short .ensures) (read-body .kept .1 .1 .1 .1 .1 .0) (read-body .kept .1 .1 .1 .1 .1 .1 .0) (read-body .kept .1 .1 .1 .1 .1 .1 .1 .0) (c .if5 .taken)))
-
-same-length-16 : tie.Need-same-length-16
-same-length-16 c = c .before .before .before .before .before .before .before .before .before .before .before .before .before .before .read-body .kept .1 .1 .1 .1 .1 .0
-
-same-length-17 : tie.Need-same-length-17
-same-length-17 c = c .before .before .before .before .before .before .before .before .before .before .before .before .before .before .read-body .kept .1 .1 .1 .1 .1 .1 .0
-
-same-length-18 : tie.Need-same-length-18
-same-length-18 c = c .before .before .before .before .before .before .before .before .before .before .before .before .before .before .read-body .kept .1 .1 .1 .1 .1 .1 .1 .0
-
-returns-10 : tie.Need-returns-10
-returns-10 c =
-    let args = c .before .before .before .before .before .before .before .before .before .before .before .before .before .before .before .before .before .before .before .before .before .before .before .before .before .before .before .before .before .before .before .before .before .before .before .before .args in
-    let known = c .before .before .before .before .before .before .before .before .before .before .before .before .before .before .before .before .before .before .before .before .before .before .before .before .before .before .before .before .before .known in
-    let read-body = c .before .before .before .before .before .before .before .before .before .before .before .before .before .before .read-body in
-    let wide = c .before .before .before .before .before .before .wide in
-    let n = c .before .before .before .before .before .before .before .before .before .before .before .before .before .before .before .before .before .before .before .before .n in
-    let head-lines = c .before .before .before .before .before .before .before .before .before .before .before .before .before .before .before .before .before .before .before .before .before .before .before .before .before .before .before .before .before .before .before .head-lines in
-    let known2 = c .before .before .before .before .before .before .before .before .before .before .before .before .before .before .before .before .before .before .before .before .before .before .before .before .before .before .known2 in
-    let is-list = c .before .before .before .before .before .before .before .before .before .before .before .before .before .before .before .before .before .before .before .before .before .before .before .before .is-list in
-    let if1 = c .before .before .before .before .before .before .before .before .before .before .before .before .before .before .before .before .before .before .before .before .before .before .before .if1 in
-    let sizes-of = c .before .before .before .before .before .before .before .before .before .before .before .before .before .before .before .before .before .before .before .before .before .before .sizes-of in
-    let if2 = c .before .before .before .before .if2 in
-    let if3 = c .before .before .before .if3 in
-    let if4 = c .before .before .if4 in
-    let t = body-at _ _ _ _ (args .s .now) (known .given .0 .1 .1 .1 .1 .1 .0) _ _ _ _ _ _ _ _ _ (read-body .ensures) (wide .given .1) in
-    let e = too-told _ _ (known .given .0 .1 .1 .1 .1 .0) (n .given .0 .1 .1 .0) (length (args .a .now)) (length (args .b .now)) (length (args .d .now)) _ _ _ (c .before .too-short .ensures) (read-body .kept .1 .1 .1 .1 .1 .0) (read-body .kept .1 .1 .1 .1 .1 .1 .0) (read-body .kept .1 .1 .1 .1 .1 .1 .1 .0) (c .if5 .left) in
-    let f = room (known .given .0 .1 .1 .1 .1 .0) (n .given .0 .1 .1 .0) (length (args .a .now)) (length (args .b .now)) (length (args .d .now)) e in
-    left-formula _ _ _ _ _ _ _ _ _ _ _ _ _ _ _ ((outcome-rest _ _ _ _ _ _ (head-lines .ensures .0 ∙ ap (seenHead (args .s .now)) (known .given .1))) ∙ rest-judged _ _ _ _ _ _ _ _ _ _ _ _ _ _ _ _ (ap seenKind (known2 .given .1)) (sym (is-list .ensures) ∙ if1 .left) (sizes-of .ensures ∙ ap seenSizes (n .given .1)) (t .is) ∙ judged-is _ _ _ _ _ _ _ _ _ _ _ _ _ _ (sym (if2 .left) ∙ t .toowide) (sym (if3 .left) ∙ t .haszero) (if4 .left) e)
+    let read-body = c .before .before .before .before .before .before .before .before .before .before .before .read-body in
+    let sizes-of = c .before .before .before .before .before .before .before .before .before .before .before .before .before .before .before .before .before .before .before .sizes-of in
+    let t = body-at _ _ _ _ (args .s .now) (known .given .0 .1 .1 .1 .1 .1 .0) _ _ _ _ _ _ _ _ _ (read-body .ensures) (c .before .before .before .wide .given .1) in
+    let f = number-room (c .before .before .before .wide .given .0 .0) (c .before .before .before .wide .given .0 .1 .0) (known .given .0 .1 .1 .1 .1 .0) (n .given .0 .1 .1 .0) (length (args .a .now)) (length (args .b .now)) (length (args .d .now)) _ _ _ _ (read-body .kept .1 .1 .1 .1 .1 .0) (read-body .kept .1 .1 .1 .1 .1 .1 .0) (read-body .kept .1 .1 .1 .1 .1 .1 .1 .0) (c .before .refusal .ensures) (c .if2 .left) in
+    left-formula _ _ _ _ _ _ _ _ _ _ _ _ _ _ _ ((outcome-rest _ _ _ _ _ _ (c .before .before .before .before .before .before .before .before .before .before .before .before .before .before .before .before .before .before .before .before .before .before .before .before .before .before .before .before .head-lines .ensures .0 ∙ ap (seenHead (args .s .now)) (known .given .1))) ∙ rest-judged _ _ _ _ _ _ _ _ _ _ _ _ _ _ _ _ (ap seenKind (c .before .before .before .before .before .before .before .before .before .before .before .before .before .before .before .before .before .before .before .before .before .before .before .known2 .given .1)) (sym (c .before .before .before .before .before .before .before .before .before .before .before .before .before .before .before .before .before .before .before .before .before .is-list .ensures) ∙ c .before .before .before .before .before .before .before .before .before .before .before .before .before .before .before .before .before .before .before .before .if1 .left) (sizes-of .ensures ∙ ap seenSizes (n .given .1)) (t .is) ∙ judged-none _ _ _ _ _ _ _ _ _ _ _ _ _ _ _ _ _ _ _ _ (t .toowide) (t .haszero) (read-body .kept .1 .1 .1 .1 .1 .0) (read-body .kept .1 .1 .1 .1 .1 .1 .0) (read-body .kept .1 .1 .1 .1 .1 .1 .1 .0) (c .before .refusal .ensures) (c .if2 .left))
     (t .first ∙ filled-sets (t .xs) (args .a .now) _ (t .xlong) (f .0)) (t .second ∙ filled-sets (t .ys) (args .b .now) _ (t .ylong) (f .1)) (t .third ∙ filled-sets (t .zs) (args .d .now) _ (t .zlong) (f .2))
 
 pub read-whole-spec : {M : Type 1} → statement M
@@ -276,6 +186,7 @@ read-whole-spec =
     same-length-2
     same-length-3
     returns-5
+    refusal-requires
     same-length-4
     same-length-5
     same-length-6
@@ -283,17 +194,4 @@ read-whole-spec =
     same-length-7
     same-length-8
     same-length-9
-    returns-7
-    same-length-10
-    same-length-11
-    same-length-12
-    returns-8
-    too-short-requires
-    same-length-13
-    same-length-14
-    same-length-15
-    returns-9
-    same-length-16
-    same-length-17
-    same-length-18
-    returns-10)
+    returns-7)

@@ -1,16 +1,16 @@
 -- The outcome, case by case, in the terms of the code's answers.
 --   rest-2 .. rest-judged refusals 2, 3, 5, and what is left to judge
---   judged-6 .. judged-is refusals 6 to 9, and the formula
+--   number, judged-refused, judged-none, judged-is  refusals 6 to 9 by one number, and the formula
 --   Left                  what the attempt leaves in the buffers; final-refused, final-formula: the whole call
 -- Assumes nothing.
 use Prim.Native.Nat.{ℕ, _<_, _≤_}
-use mathlib.Core.Path.{_≡_, refl, sym, _∙_}
+use mathlib.Core.Path.{_≡_, refl, sym, ap, _∙_}
 use mathlib.Core.List.{List}
-use mathlib.Core.Bool.{Bool, true, false, _||_}
+use mathlib.Core.Bool.{Bool, true, false, cond, _||_}
 use mathlib.Core.Option.{Option, none, some}
 use native.Mathlib.Omega.{arith}
 use lib.Dec.{ltb}
-use borrow.Author.Tests.{lt-ltb, le-ltb, ltb-false}
+use borrow.Author.Tests.{le-ltb, ltb-false}
 use Rattle.kinds.specs.declared.Kind.{Kind}
 use Rattle.kinds.specs.declared.Known.{Known}
 use Rattle.kinds.specs.Sizes.{sizes}
@@ -22,7 +22,7 @@ use Rattle.heads.specs.Views.{bytesHead}
 use Rattle.heads.specs.declared.HeadRead.{HeadRead}
 use Rattle.heads.specs.declared.HeadRead.the-variants as hd
 use Rattle.lines.specs.Formula.{body}
-use Rattle.files.specs.Outcome.{Outcome, refused, formula, isList, judged, rest, outcome}
+use Rattle.files.specs.Outcome.{Outcome, refused, formula, refuse, isList, judged, rest, outcome}
 use Rattle.files.specs.Lent.{reply, firstOf, secondOf, rowsOf}
 use Rattle.files.specs.declared.Read.{Read}
 use Rattle.files.specs.declared.Read.the-variants as read
@@ -63,6 +63,27 @@ module _ (kd : Option Kind) (p q r k : ℕ) (t : List ℕ) (la lb lr : ℕ) wher
   unfolding rest
   rest-judged kind n m o xs ys zs e f g i = rw (e, f, g, i)
 
+-- the first of 6 to 9 that applies, by the four tests, or 0
+abbrev pub number : (w z many short : Bool) → ℕ
+number w z many short = cond w 6 (cond z 7 (cond many 8 (cond short 9 0)))
+
+abbrev refusals : (w z many short : Bool) → Outcome → Outcome
+refusals w z many short o = refuse 6 w (refuse 7 z (refuse 8 many (refuse 9 short o)))
+
+number-some : (w z a b : Bool) (o : Outcome) (e : ℕ) → e ≡ number w z a b → (e ≡ 0 → ⊥) → refusals w z a b o ≡ refused e
+number-some true z a b o e h n = ap refused (sym h)
+number-some false true a b o e h n = ap refused (sym h)
+number-some false false true b o e h n = ap refused (sym h)
+number-some false false false true o e h n = ap refused (sym h)
+number-some false false false false o e h n = absurd (n h)
+
+number-none : (w z a b : Bool) (o : Outcome) → number w z a b ≡ 0 → (refusals w z a b o ≡ o) × (b ≡ false)
+number-none true z a b o h = absurd (let q : _≡_ {A = ℕ} 6 0 = h in omega arith)
+number-none false true a b o h = absurd (let q : _≡_ {A = ℕ} 7 0 = h in omega arith)
+number-none false false true b o h = absurd (let q : _≡_ {A = ℕ} 8 0 = h in omega arith)
+number-none false false false true o h = absurd (let q : _≡_ {A = ℕ} 9 0 = h in omega arith)
+number-none false false false false o h = (refl, refl)
+
 module _ (kind : Kind) (p q r k n m t la lb lr : ℕ) (xs ys zs : List ℕ) where
   abbrev Narrow : Bool → Type 0
   Narrow w = w ≡ ((wide n xs || wide m ys) || wide k zs)
@@ -73,21 +94,17 @@ module _ (kind : Kind) (p q r k n m t la lb lr : ℕ) (xs ys zs : List ℕ) wher
   abbrev judgedOf : Outcome
   judgedOf = judged kind p q r k n m t la lb lr xs ys zs
 
-  pub judged-6 : Narrow true → judgedOf ≡ refused 6
+  pub judged-refused : (w z : Bool) (la′ lb′ lr′ e : ℕ) → Narrow w → Nonzero z → la′ ≡ la → lb′ ≡ lb → lr′ ≡ lr → e ≡ number w z (ltb 64 k) (ltb la′ k || (ltb lb′ k || ltb lr′ t)) → (e ≡ 0 → ⊥)
+      → judgedOf ≡ refused e
   unfolding judged
-  judged-6 w = rw (← w)
+  judged-refused w z la′ lb′ lr′ e hw hz ha hb hd h n =
+      rw (← hw, ← hz, ← ha, ← hb, ← hd) (number-some w z (ltb 64 k) (ltb la′ k || (ltb lb′ k || ltb lr′ t)) (formula kind p q r k xs ys zs) e h n)
 
-  pub judged-7 : Narrow false → Nonzero true → judgedOf ≡ refused 7
+  pub judged-none : (w z : Bool) (la′ lb′ lr′ e : ℕ) → Narrow w → Nonzero z → la′ ≡ la → lb′ ≡ lb → lr′ ≡ lr → e ≡ number w z (ltb 64 k) (ltb la′ k || (ltb lb′ k || ltb lr′ t)) → e ≡ 0
+      → judgedOf ≡ formula kind p q r k xs ys zs
   unfolding judged
-  judged-7 w z = rw (← w, ← z)
-
-  pub judged-8 : Narrow false → Nonzero false → 64 < k → judgedOf ≡ refused 8
-  unfolding judged
-  judged-8 w z h = rw (← w, ← z, lt-ltb 64 k h)
-
-  pub judged-9 : Narrow false → Nonzero false → k ≤ 64 → (ltb la k || (ltb lb k || ltb lr t)) ≡ true → judgedOf ≡ refused 9
-  unfolding judged
-  judged-9 w z h a = rw (← w, ← z, le-ltb 64 k h, a)
+  judged-none w z la′ lb′ lr′ e hw hz ha hb hd h n =
+      rw (← hw, ← hz, ← ha, ← hb, ← hd) (number-none w z (ltb 64 k) (ltb la′ k || (ltb lb′ k || ltb lr′ t)) (formula kind p q r k xs ys zs) (sym h ∙ n) .0)
 
   pub judged-is : Narrow false → Nonzero false → k ≤ 64 → (ltb la k || (ltb lb k || ltb lr t)) ≡ false → judgedOf ≡ formula kind p q r k xs ys zs
   unfolding judged
@@ -119,10 +136,6 @@ final-formula (formula kind′ p′ q′ r″ k′ xs ys zs) kind p q r′ k r a
 pub head-fit : (x : HeadRead) (kind : Known) (p q r k u n : ℕ) → bytesHead x ≤ n → x ≡ hd.Is kind p q r k u → u ≤ n
 head-fit x kind p q r k u n e h = rw h at e
 
--- the buffers are as long after the attempt as before it
-pub too-told : (x b : Bool) (k t la lb lr la′ lb′ lr′ : ℕ) → x ≡ (ltb la′ k || (ltb lb′ k || ltb lr′ t)) → la′ ≡ la → lb′ ≡ lb → lr′ ≡ lr → x ≡ b → (ltb la k || (ltb lb k || ltb lr t)) ≡ b
-too-told x b k t la lb lr la′ lb′ lr′ e a c d h = rw (← a, ← c, ← d) (sym e ∙ h)
-
 pub room : (k t la lb lr : ℕ) → (ltb la k || (ltb lb k || ltb lr t)) ≡ false → (k ≤ la) × (k ≤ lb) × (t ≤ lr)
 room k t la lb lr e = go (ltb la k) (ltb lb k) (ltb lr t) refl refl refl e
   where
@@ -131,3 +144,9 @@ room k t la lb lr e = go (ltb la k) (ltb lb k) (ltb lr t) refl refl refl e
     go false true z a b c f = absurd (let q : _≡_ {A = ℕ} 0 1 = cc in omega arith)
     go false false true a b c f = absurd (let q : _≡_ {A = ℕ} 0 1 = cc in omega arith)
     go false false false a b c f = (ltb-false la k a, ltb-false lb k b, ltb-false lr t c)
+
+-- the buffers are as long after the attempt as before it
+pub number-room : (w z : Bool) (k t la lb lr la′ lb′ lr′ e : ℕ) → la′ ≡ la → lb′ ≡ lb → lr′ ≡ lr → e ≡ number w z (ltb 64 k) (ltb la′ k || (ltb lb′ k || ltb lr′ t)) → e ≡ 0
+    → (k ≤ la) × (k ≤ lb) × (t ≤ lr)
+number-room w z k t la lb lr la′ lb′ lr′ e ha hb hd h n =
+    rw (← ha, ← hb, ← hd) (room k t la′ lb′ lr′ (number-none w z (ltb 64 k) (ltb la′ k || (ltb lb′ k || ltb lr′ t)) (refused 0) (sym h ∙ n) .1))
