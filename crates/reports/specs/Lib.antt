@@ -1,3 +1,4 @@
 -- What the programs print.
 pub mod Reports
+pub mod Worked
 pub mod laws
