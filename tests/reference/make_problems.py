@@ -1,26 +1,25 @@
 #!/usr/bin/env python3
-"""Writes the problems of a program that runs Catalogue and Rank on numbers, and the replies expected of it.
+"""Writes the calls of a program that runs Catalogue, its look-up and Rank on numbers, and the replies expected of it.
 
-    make_problems.py DIRECTORY            for a program that runs the calls
-    make_problems.py --posed DIRECTORY    for one that poses each problem once
+    make_problems.py crates/search_values
 
-write DIRECTORY/data/*.txt, their names to DIRECTORY/args and the replies to
-DIRECTORY/stdout.  A problem is one line of decimal numbers:
+writes data/*.txt in that directory, their names to args and the replies to
+stdout.  A call is one line of decimal numbers:
 
     call number p q r k w  c g_0 .. g_(c-1)  u t_0 .. t_(u-1)
 
 with call 0 for Catalogue and 1 for Rank, the kind by its number, and a buffer
-of w words, of which word i holds 1000000 + i before the call.  The reply is
-one line as well, and ends with the buffer after the call, behind ` :`:
+of w words, at most 64, of which word i holds 1000000 + i before the call.  The
+reply is one line as well; the buffer after the call stands behind ` :`, and in
+a Catalogue then the look-ups of the entries 0 to S, each behind ` :`:
 
-    found F shown S :..    rank R :..    above :..    beyond :..    refused E :..
+    ell L found F shown S :.. :..    rank R :..    above :..    beyond :..    refused E :..
 
-A problem that is only posed is answered by `refused E`, or by the number of its
-generators, the generators and the targets:
+Call 2 is the look-up alone, of an entry in such a buffer, and replies its words:
 
-    posed C : g_0 .. : t_0 ..
+    2 ell k shown number 0 w  0  0        entry :..
 
-Where a problem is made for a reply, the reply is written beside it and must
+Where a call is made for a reply, the reply is written beside it and must
 agree with catalogue.py.  The random lists come from a fixed seed.
 """
 
@@ -32,33 +31,43 @@ sys.dont_write_bytecode = True
 import catalogue
 from catalogue import KINDS, Refused, random_list, reduced
 
-CATALOGUE, RANK = 0, 1
+CATALOGUE, RANK, ENTRY = 0, 1, 2
 POLY, SHORT, CIRC, MAT, LIST = range(5)
 HUGE = 2 ** 64 - 1
 files = {}
 
 
+def line(said, *stretches):
+    return said + "".join(" :" + "".join(" %d" % word for word in words) for words in stretches)
+
+
 def reply(call, number, p, q, r, k, w, gs, ts):
+    """What is said, and the whole line."""
     before = [1000000 + i for i in range(w)]
     kind = KINDS[number] if number < 5 else b"?"
     try:
         if call == CATALOGUE:
-            ell, found, shown, after, listed = catalogue.catalogue(kind, p, q, r, k, gs, ts, before)
+            ell, found, shown, after, _ = catalogue.catalogue(kind, p, q, r, k, gs, ts, before)
             said = "found %d shown %d" % (found, shown)
-        else:
-            ell, least, products, masks, after = catalogue.rank(kind, p, q, r, k, gs, ts, before)
-            said = least if isinstance(least, str) else "rank %d" % least
+            return said, line("ell %d " % ell + said, after, *(catalogue.entry(after, ell, k, shown, j) for j in range(shown + 1)))
+        _, least, _, _, after = catalogue.rank(kind, p, q, r, k, gs, ts, before)
+        said = least if isinstance(least, str) else "rank %d" % least
+        return said, line(said, after)
     except Refused as refusal:
-        said, after = "refused %d" % refusal.args[0], before
-    return said, " ".join([said, ":"] + list(map(str, after)))
+        said = "refused %d" % refusal.args[0]
+        return said, line(said, before)
+
+
+def write(name, asked, answer):
+    assert asked[6] <= 64
+    files.setdefault(name, []).append((" ".join(map(str, asked)), answer))
 
 
 def add(name, call, number, p, q, r, k, w, gs=(), ts=(), want=None):
     gs, ts = list(gs), list(ts)
-    said, line = reply(call, number, p, q, r, k, w, gs, ts)
+    said, answer = reply(call, number, p, q, r, k, w, gs, ts)
     assert want is None or said == want or said.startswith(want + " "), (name, call, number, p, q, r, k, gs, ts, said, want)
-    asked = [call, number, p, q, r, k, w, len(gs)] + gs + [len(ts)] + ts
-    files.setdefault(name, []).append((" ".join(map(str, asked)), line))
+    write(name, [call, number, p, q, r, k, w, len(gs)] + gs + [len(ts)] + ts, answer)
 
 
 def listed(name, call, p, gs, ts, k, w, want=None):
@@ -183,33 +192,28 @@ def ranks():
     listed("ranks", RANK, 3, [1, 2, 3, 4, 5], [3, 3, 0, 6, 5], 0, 16)     # dependent targets
 
 
-def only_posed():
-    """Each problem once, with no call and no k."""
-    seen = {}
-    for name, lines in list(files.items()):
-        for asked, _ in lines:
-            call, number, p, q, r, k, w, c, *rest = map(int, asked.split())
-            gs, ts = rest[:c], rest[c + 1:]
-            seen.setdefault((number, p, q, r, tuple(gs), tuple(ts)))
-    files.clear()
-    for number, p, q, r, gs, ts in seen:
-        kind = KINDS[number] if number < 5 else b"?"
-        try:
-            generators, targets = catalogue.posed(kind, p, q, r, list(gs), list(ts))
-            line = " ".join(["posed %d :" % len(generators), *map(str, generators), ":", *map(str, targets)])
-        except Refused as refusal:
-            line = "refused %d" % refusal.args[0]
-        asked = [0, number, p, q, r, 0, 0, len(gs), *gs, len(ts), *ts]
-        files.setdefault("posed", []).append((" ".join(map(str, asked)), line))
+def lookups():
+    """Look-ups at and behind the end of the buffer, and with numbers whose products or sums leave 64 bits."""
+    def look(ell, k, shown, number, w):
+        buffer = [1000000 + i for i in range(w)]
+        write("lookups", [ENTRY, ell, k, shown, number, 0, w, 0, 0], line("entry", catalogue.entry(buffer, ell, k, shown, number)))
+
+    for ell, k in ((4, 5), (3, 3), (0, 1), (0, 0), (5, 4), (1, 0)):
+        for shown in (0, 3, HUGE):
+            for number in (0, 2, 3, HUGE):
+                for w in (0, 6, 17, 18):
+                    look(ell, k, shown, number, w)
+    for ell, k in ((HUGE, HUGE), (0, HUGE), (HUGE, 0), (0, 2 ** 63), (2, 2 ** 63 + 1), (HUGE - 1, HUGE), (0, 2 ** 32)):
+        for number in (0, 1, 2 ** 32):
+            look(ell, k, HUGE, number, 8)
+    for number in ((2 ** 64 + 2) // 6, 2 ** 63, 2 ** 64 // 6, 2 ** 61):   # times 6 above 2 ** 64, some with a small remainder
+        look(4, 5, HUGE, number, 64)
 
 
 def main():
-    home = sys.argv[-1]
-    posed = sys.argv[1] == "--posed"
-    for make in (worked, limits, refusals, lists, ranks) if posed else (worked, limits, refusals, tables, lists, ranks):
+    home = sys.argv[1]
+    for make in (worked, limits, refusals, tables, lists, ranks, lookups):
         make()
-    if posed:
-        only_posed()
     os.makedirs(os.path.join(home, "data"), exist_ok=True)
     with open(os.path.join(home, "args"), "w") as args, open(os.path.join(home, "stdout"), "w") as out:
         for name, lines in files.items():
@@ -218,7 +222,7 @@ def main():
             with open(os.path.join(home, "data", name + ".txt"), "w") as data:
                 data.write(text)
             args.write(name + ".txt\n")
-            out.write(name + ".txt\n" + "".join(line + "\n" for _, line in lines))
+            out.write(name + ".txt\n" + "".join(answer + "\n" for _, answer in lines))
 
 
 if __name__ == "__main__":

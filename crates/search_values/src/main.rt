@@ -1,0 +1,242 @@
+// Runs each call of the files that the arguments name, and prints its reply and the lent buffer. `tests/reference/make_problems.py` has the form of a file.
+ghost use Prim.Native.Nat.{_≤_};
+ghost use lib.ListN.{length};
+use fewest::Ranked;
+use libc::STDOUT_FILENO;
+use search::Catalogued;
+
+// x with the decimal digit d behind it, where that is a word.
+fn with_digit(x: u64, d: u64) -> u64
+    requires { ⌜ d ≤ 9 ⌝ }
+{
+    if x > 1844674407370955161 {
+        return 0;
+    }
+    let y = x * 10;
+    if d > 18446744073709551615 - y {
+        return 0;
+    }
+    y + d
+}
+
+// The number read so far, behind the byte b; 0 behind a byte that is no digit.
+fn next_value(b: u8, x: u64) -> u64 {
+    if b < 48 {
+        return 0;
+    }
+    if b > 57 {
+        return 0;
+    }
+    with_digit(x, (b - 48) as u64)
+}
+
+// Writes the number x at a place, where the byte b ends it.
+fn put_ended(b: u8, x: u64, at: usize, out: &mut [u64]) {
+    if b < 48 {
+        words::put_word(out, at, x);
+    }
+}
+
+// The place of the next number, among n.
+fn next_place(b: u8, at: usize, n: usize) -> usize
+    requires { ⌜ at ≤ n ⌝ }
+    ensures { λ r. ⌜ r ≤ n ⌝ }
+{
+    if b > 47 {
+        return at;
+    }
+    if at < n { at + 1 } else { at }
+}
+
+// The numbers of a text, each ended by a byte that is no digit; how many there are.
+fn numbers(text: &[u8], out: &mut [u64]) -> usize
+    ensures { λ r. ⌜ r ≤ length (now (out .exit)) ⌝ }
+{
+    let mut x: u64 = 0;
+    let mut at: usize = 0;
+    let mut i: usize = 0;
+    while i < text.len() {
+        let b = text[i];
+        put_ended(b, x, at, out);
+        at = next_place(b, at, out.len());
+        x = next_value(b, x);
+        i += 1;
+    }
+    at
+}
+
+// A space and a number.
+fn print_next(x: u64) {
+    io::write_all(STDOUT_FILENO, b" ");
+    io::print_decimal(STDOUT_FILENO, x);
+}
+
+// Some numbers, and a colon before them.
+fn print_words(xs: &[u64]) {
+    io::write_all(STDOUT_FILENO, b" :");
+    let mut i: usize = 0;
+    while i < xs.len() {
+        print_next(xs[i]);
+        i += 1;
+    }
+}
+
+// The entries that a listing shows, by their numbers, and the number behind the last.
+fn print_entries(listing: &[u64], ell: u64, k: u64, shown: u64) {
+    let mut j: u64 = 0;
+    while j < shown {
+        print_words(search::entry(listing, ell, k, shown, j));
+        j += 1;
+    }
+    print_words(search::entry(listing, ell, k, shown, shown));
+}
+
+// Word i of a buffer holds 1000000 + i before a call.
+fn mark(out: &mut [u64]) {
+    let mut i: usize = 0;
+    while i < out.len() {
+        out[i] = 1000000 + i as u64;
+        i += 1;
+    }
+}
+
+// A word, and a number behind it.
+fn print_number(word: &[u8], x: u64) {
+    io::write_all(STDOUT_FILENO, word);
+    print_next(x);
+}
+
+// Catalogue; the kind's number, its sizes and k follow the call in the head.
+fn call_catalogue(head: &[u64], gs: &[u64], ts: &[u64], out: &mut [u64])
+    requires { ⌜ 8 ≤ length (now head) ⌝ }
+{
+    let k = head[5];
+    match search::catalogue(head[1], head[2], head[3], head[4], k, gs, ts, out) {
+        Catalogued::Refused(e) => {
+            print_number(b"refused", e);
+            print_words(out);
+        }
+        Catalogued::Entries(ell, found, shown) => {
+            print_number(b"ell", ell as u64);
+            print_number(b" found", found);
+            print_number(b" shown", shown as u64);
+            print_words(out);
+            print_entries(out, ell as u64, k, shown as u64);
+        }
+    }
+}
+
+// Rank, likewise.
+fn call_rank(head: &[u64], gs: &[u64], ts: &[u64], out: &mut [u64])
+    requires { ⌜ 8 ≤ length (now head) ⌝ }
+{
+    match search::rank(head[1], head[2], head[3], head[4], head[5], gs, ts, out) {
+        Ranked::Refused(e) => print_number(b"refused", e),
+        Ranked::Is(r) => print_number(b"rank", r as u64),
+        Ranked::Above => {
+            io::write_all(STDOUT_FILENO, b"above");
+        }
+        Ranked::Beyond => {
+            io::write_all(STDOUT_FILENO, b"beyond");
+        }
+    }
+    print_words(out);
+}
+
+// The look-up of an entry; ell, k, shown and the entry's number follow the call in the head.
+fn call_entry(head: &[u64], listing: &[u64])
+    requires { ⌜ 8 ≤ length (now head) ⌝ }
+{
+    io::write_all(STDOUT_FILENO, b"entry");
+    print_words(search::entry(listing, head[1], head[2], head[3], head[4]));
+}
+
+// One call: 0 for Catalogue, 1 for Rank, else the look-up.
+fn call_on(head: &[u64], gs: &[u64], ts: &[u64], out: &mut [u64])
+    requires { ⌜ 8 ≤ length (now head) ⌝ }
+{
+    mark(out);
+    if head[0] == 0 {
+        call_catalogue(head, gs, ts, out);
+        return;
+    }
+    if head[0] == 1 {
+        call_rank(head, gs, ts, out);
+        return;
+    }
+    call_entry(head, out);
+}
+
+// One call in a buffer of as many words as the head asks for, of 64 at most.
+fn call_one(head: &[u64], gs: &[u64], ts: &[u64])
+    requires { ⌜ 8 ≤ length (now head) ⌝ }
+{
+    let mut buffer = [0u64; 64];
+    let w = head[6] as usize;
+    if w > 64 {
+        return;
+    }
+    call_on(head, gs, ts, &mut buffer[..w]);
+    io::write_all(STDOUT_FILENO, b"\n");
+}
+
+// The call at the start of some words; the number of words it takes, or all of them where they are too few.
+fn call_at(words: &[u64]) -> usize
+    ensures { λ r. ⌜ (1 ≤ length (now (words .entry)) → 1 ≤ r) × (r ≤ length (now (words .entry))) ⌝ }
+{
+    let n = words.len();
+    if n < 9 {
+        return n;
+    }
+    let c = words[7] as usize;
+    if c > n - 9 {
+        return n;
+    }
+    let u = words[8 + c] as usize;
+    if u > n - 9 - c {
+        return n;
+    }
+    call_one(&words[..8], &words[8..8 + c], &words[9 + c..9 + c + u]);
+    9 + c + u
+}
+
+// The calls of some words, one after the other.
+fn call_all(words: &[u64]) {
+    let mut at: usize = 0;
+    while at < words.len() {
+        at += call_at(&words[at..]);
+    }
+}
+
+// One file.
+fn run(name: &[u8]) {
+    let fd = os::open_read(name);
+    if fd < 0 {
+        os::fail(name);
+        return;
+    }
+    let mut text = [0u8; 65536];
+    let n = io::read_full(fd, &mut text);
+    libc::close(fd);
+    let mut found = [0u64; 32768];
+    let c = numbers(&text[..n], &mut found);
+    io::write_all(STDOUT_FILENO, name);
+    io::write_all(STDOUT_FILENO, b"\n");
+    call_all(&found[..c]);
+}
+
+// The file that argument i names.
+fn run_argument(i: usize) {
+    let mut name = io::buffer();
+    let length = os::arg(i, &mut name);
+    run(&name[..length]);
+}
+
+fn main() {
+    let count = os::arg_count();
+    let mut i: usize = 1;
+    while i < count {
+        run_argument(i);
+        i += 1;
+    }
+}
