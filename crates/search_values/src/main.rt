@@ -1,7 +1,8 @@
-// Runs each call of the files that the arguments name, and prints its reply and the lent buffer. `tests/reference/make_problems.py` has the form of a file.
+// Runs each call that standard input has, and prints its reply and the lent buffer. `tests/reference/make_problems.py` has the form of a call.
 ghost use Prim.Native.Nat.{_≤_};
 ghost use lib.ListN.{length};
 use fewest::Ranked;
+use libc::STDIN_FILENO;
 use libc::STDOUT_FILENO;
 use search::Catalogued;
 
@@ -30,13 +31,6 @@ fn next_value(b: u8, x: u64) -> u64 {
     with_digit(x, (b - 48) as u64)
 }
 
-// Writes the number x at a place, where the byte b ends it.
-fn put_ended(b: u8, x: u64, at: usize, out: &mut [u64]) {
-    if b < 48 {
-        words::put_word(out, at, x);
-    }
-}
-
 // The place of the next number, among n.
 fn next_place(b: u8, at: usize, n: usize) -> usize
     requires { ⌜ at ≤ n ⌝ }
@@ -57,7 +51,7 @@ fn numbers(text: &[u8], out: &mut [u64]) -> usize
     let mut i: usize = 0;
     while i < text.len() {
         let b = text[i];
-        put_ended(b, x, at, out);
+        words::put_word(out, at, x);
         at = next_place(b, at, out.len());
         x = next_value(b, x);
         i += 1;
@@ -81,6 +75,12 @@ fn print_words(xs: &[u64]) {
     }
 }
 
+// A word, and a number behind it.
+fn print_number(word: &[u8], x: u64) {
+    io::write_all(STDOUT_FILENO, word);
+    print_next(x);
+}
+
 // The entries that a listing shows, by their numbers, and the number behind the last.
 fn print_entries(listing: &[u64], ell: u64, k: u64, shown: u64) {
     let mut j: u64 = 0;
@@ -100,37 +100,26 @@ fn mark(out: &mut [u64]) {
     }
 }
 
-// A word, and a number behind it.
-fn print_number(word: &[u8], x: u64) {
-    io::write_all(STDOUT_FILENO, word);
-    print_next(x);
-}
-
-// Catalogue; the kind's number, its sizes and k follow the call in the head.
-fn call_catalogue(head: &[u64], gs: &[u64], ts: &[u64], out: &mut [u64])
-    requires { ⌜ 8 ≤ length (now head) ⌝ }
-{
-    let k = head[5];
-    match search::catalogue(head[1], head[2], head[3], head[4], k, gs, ts, out) {
+// What Catalogue says, the buffer behind it, and the entries that it shows.
+fn print_catalogued(said: Catalogued, k: u64, out: &[u64]) {
+    match said {
         Catalogued::Refused(e) => {
             print_number(b"refused", e);
             print_words(out);
         }
         Catalogued::Entries(ell, found, shown) => {
-            print_number(b"ell", ell as u64);
-            print_number(b" found", found);
-            print_number(b" shown", shown as u64);
+            print_number(b"entries", ell as u64);
+            print_next(found);
+            print_next(shown as u64);
             print_words(out);
             print_entries(out, ell as u64, k, shown as u64);
         }
     }
 }
 
-// Rank, likewise.
-fn call_rank(head: &[u64], gs: &[u64], ts: &[u64], out: &mut [u64])
-    requires { ⌜ 8 ≤ length (now head) ⌝ }
-{
-    match search::rank(head[1], head[2], head[3], head[4], head[5], gs, ts, out) {
+// What Rank says, likewise; nothing stands for above and beyond but their names.
+fn print_ranked(said: Ranked) {
+    match said {
         Ranked::Refused(e) => print_number(b"refused", e),
         Ranked::Is(r) => print_number(b"rank", r as u64),
         Ranked::Above => {
@@ -140,43 +129,55 @@ fn call_rank(head: &[u64], gs: &[u64], ts: &[u64], out: &mut [u64])
             io::write_all(STDOUT_FILENO, b"beyond");
         }
     }
-    print_words(out);
 }
 
-// The look-up of an entry; ell, k, shown and the entry's number follow the call in the head.
-fn call_entry(head: &[u64], listing: &[u64])
-    requires { ⌜ 8 ≤ length (now head) ⌝ }
-{
-    io::write_all(STDOUT_FILENO, b"entry");
-    print_words(search::entry(listing, head[1], head[2], head[3], head[4]));
-}
-
-// One call: 0 for Catalogue, 1 for Rank, else the look-up.
-fn call_on(head: &[u64], gs: &[u64], ts: &[u64], out: &mut [u64])
-    requires { ⌜ 8 ≤ length (now head) ⌝ }
-{
+// One call: 0 for Catalogue, 1 for Rank; else the look-up of an entry, with ell, k, shown and its number for the kind's number and the sizes.
+fn call_on(
+    call: u64,
+    number: u64,
+    p: u64,
+    q: u64,
+    r: u64,
+    k: u64,
+    gs: &[u64],
+    ts: &[u64],
+    out: &mut [u64],
+) {
     mark(out);
-    if head[0] == 0 {
-        call_catalogue(head, gs, ts, out);
+    if call == 0 {
+        let said = search::catalogue(number, p, q, r, k, gs, ts, out);
+        print_catalogued(said, k, out);
         return;
     }
-    if head[0] == 1 {
-        call_rank(head, gs, ts, out);
+    if call == 1 {
+        let said = search::rank(number, p, q, r, k, gs, ts, out);
+        print_ranked(said);
+        print_words(out);
         return;
     }
-    call_entry(head, out);
+    print_words(search::entry(out, number, p, q, r));
 }
 
-// One call in a buffer of as many words as the head asks for, of 64 at most.
+// The call that some words start with, in a buffer of as many words as it asks for, of 64 at most.
 fn call_one(head: &[u64], gs: &[u64], ts: &[u64])
-    requires { ⌜ 8 ≤ length (now head) ⌝ }
+    requires { ⌜ 9 ≤ length (now head) ⌝ }
 {
     let mut buffer = [0u64; 64];
     let w = head[6] as usize;
     if w > 64 {
         return;
     }
-    call_on(head, gs, ts, &mut buffer[..w]);
+    call_on(
+        head[0],
+        head[1],
+        head[2],
+        head[3],
+        head[4],
+        head[5],
+        gs,
+        ts,
+        &mut buffer[..w],
+    );
     io::write_all(STDOUT_FILENO, b"\n");
 }
 
@@ -192,12 +193,14 @@ fn call_at(words: &[u64]) -> usize
     if c > n - 9 {
         return n;
     }
-    let u = words[8 + c] as usize;
-    if u > n - 9 - c {
+    let middle = 9 + c;
+    let u = words[8] as usize;
+    if u > n - middle {
         return n;
     }
-    call_one(&words[..8], &words[8..8 + c], &words[9 + c..9 + c + u]);
-    9 + c + u
+    let end = middle + u;
+    call_one(words, &words[9..middle], &words[middle..end]);
+    end
 }
 
 // The calls of some words, one after the other.
@@ -208,35 +211,10 @@ fn call_all(words: &[u64]) {
     }
 }
 
-// One file.
-fn run(name: &[u8]) {
-    let fd = os::open_read(name);
-    if fd < 0 {
-        os::fail(name);
-        return;
-    }
+fn main() {
     let mut text = [0u8; 65536];
-    let n = io::read_full(fd, &mut text);
-    libc::close(fd);
+    let n = io::read_full(STDIN_FILENO, &mut text);
     let mut found = [0u64; 32768];
     let c = numbers(&text[..n], &mut found);
-    io::write_all(STDOUT_FILENO, name);
-    io::write_all(STDOUT_FILENO, b"\n");
     call_all(&found[..c]);
-}
-
-// The file that argument i names.
-fn run_argument(i: usize) {
-    let mut name = io::buffer();
-    let length = os::arg(i, &mut name);
-    run(&name[..length]);
-}
-
-fn main() {
-    let count = os::arg_count();
-    let mut i: usize = 1;
-    while i < count {
-        run_argument(i);
-        i += 1;
-    }
 }

@@ -1,4 +1,4 @@
--- `search_values::call_one`: the part of the buffer has as many words as the head asks for. Assumes nothing.
+-- `search_values::call_one`: the part of the buffer has as many words as the call asks for. Assumes nothing.
 use borrow.Author.Needs.{needs}
 use native.Mathlib.Omega.{arith}
 use mathlib.Core.Path.{sym}
@@ -9,17 +9,35 @@ use Rattle.search_values.proofs.call_one.Statement.{statement}
 use Rattle.search_values.proofs.call_one.Tie as tie
 
 shared-slice-read-w : tie.Need-shared-slice-read-w
-shared-slice-read-w c = search needs
+shared-slice-read-w c = omega arith
 
 returns : tie.Need-returns
 returns c = search needs
+
+shared-slice-read-call-on : tie.Need-shared-slice-read-call-on
+shared-slice-read-call-on c = omega arith
+
+shared-slice-read-call-on-2 : tie.Need-shared-slice-read-call-on-2
+shared-slice-read-call-on-2 c = omega arith
+
+shared-slice-read-call-on-3 : tie.Need-shared-slice-read-call-on-3
+shared-slice-read-call-on-3 c = omega arith
+
+shared-slice-read-call-on-4 : tie.Need-shared-slice-read-call-on-4
+shared-slice-read-call-on-4 c = omega arith
+
+shared-slice-read-call-on-5 : tie.Need-shared-slice-read-call-on-5
+shared-slice-read-call-on-5 c = omega arith
+
+shared-slice-read-call-on-6 : tie.Need-shared-slice-read-call-on-6
+shared-slice-read-call-on-6 c = omega arith
 
 array-borrow-prefix-buffer : tie.Need-array-borrow-prefix-buffer
 array-borrow-prefix-buffer c = search needs
 
 slice-aggregate-call-on : tie.Need-slice-aggregate-call-on
 slice-aggregate-call-on c =
-    let w = getD (c .before .before .before .before .before .before .args .head .now) 6 0 in
+    let w = getD (c .before .before .before .before .before .before .before .before .before .before .before .before .args .head .now) 6 0 in
     let most : w ≤ 64 = omega arith in
     sym (length-take-le w (replicate 64 0) most)
 
@@ -41,6 +59,12 @@ call-one-spec =
     (tie.spec
     shared-slice-read-w
     returns
+    shared-slice-read-call-on
+    shared-slice-read-call-on-2
+    shared-slice-read-call-on-3
+    shared-slice-read-call-on-4
+    shared-slice-read-call-on-5
+    shared-slice-read-call-on-6
     array-borrow-prefix-buffer
     slice-aggregate-call-on
     call-on-requires

@@ -1,47 +1,54 @@
--- `search_values::main`: one turn for each argument. Assumes nothing.
-use native.Mathlib.Omega.{arith}
+-- `search_values::main`: the numbers found are within their buffer. Assumes nothing.
 use borrow.Author.Needs.{needs}
-use Prim.Native.Nat.{_-_}
+use native.Mathlib.Omega.{arith}
+use mathlib.Core.Path.{sym}
+use lib.Seq.{length-take-le}
 use Rattle.search_values.proofs.main.Statement.{statement}
 use Rattle.search_values.proofs.main.Tie as tie
 
-abbrev Inv-loop : tie.InvT-loop
-Inv-loop count i₀ i = Unit {0}
+slice-aggregate-read-full : tie.Need-slice-aggregate-read-full
+slice-aggregate-read-full c = search needs
 
-abbrev μ-loop : tie.MeasureT-loop
-μ-loop count i₀ i = count - i
+read-full-requires : tie.Need-read-full-requires
+read-full-requires c κs = search needs
 
-arg-count-requires : tie.Need-arg-count-requires Inv-loop μ-loop
-arg-count-requires c κs = search needs
+array-share-prefix-text : tie.Need-array-share-prefix-text
+array-share-prefix-text c = search needs
 
-loop-holds : tie.Need-loop-holds Inv-loop μ-loop
-loop-holds c = tt
+slice-aggregate-numbers : tie.Need-slice-aggregate-numbers
+slice-aggregate-numbers c = search needs
 
-run-argument-requires : tie.Need-run-argument-requires Inv-loop μ-loop
-run-argument-requires c κs = search needs
+slice-aggregate-numbers-2 : tie.Need-slice-aggregate-numbers-2
+slice-aggregate-numbers-2 c = search needs
 
-add-i : tie.Need-add-i Inv-loop μ-loop
-add-i c = omega arith
+numbers-requires : tie.Need-numbers-requires
+numbers-requires c κs = search needs
 
-loop-less : tie.Need-loop-less Inv-loop μ-loop
-loop-less c = omega arith
+array-share-prefix-found : tie.Need-array-share-prefix-found
+array-share-prefix-found c = search needs
 
-loop-again : tie.Need-loop-again Inv-loop μ-loop
-loop-again c = tt
+slice-aggregate-call-all : tie.Need-slice-aggregate-call-all
+slice-aggregate-call-all c =
+    let most = c .before .before .numbers .ensures in
+    sym (length-take-le (c .before .before .numbers .result) (c .before .before .numbers .last .1 .0) (omega arith))
 
-returns : tie.Need-returns Inv-loop μ-loop
+call-all-requires : tie.Need-call-all-requires
+call-all-requires c κs = search needs
+
+returns : tie.Need-returns
 returns c = search needs
 
 pub main-spec : {M : Type 1} → statement M
 main-spec =
     tie.close
     (tie.spec
-    Inv-loop
-    μ-loop
-    arg-count-requires
-    loop-holds
-    run-argument-requires
-    add-i
-    loop-less
-    loop-again
+    slice-aggregate-read-full
+    read-full-requires
+    array-share-prefix-text
+    slice-aggregate-numbers
+    slice-aggregate-numbers-2
+    numbers-requires
+    array-share-prefix-found
+    slice-aggregate-call-all
+    call-all-requires
     returns)

@@ -19,11 +19,11 @@ loop-holds c = (refl, omega arith)
 shared-slice-read-b : tie.Need-shared-slice-read-b Inv-loop μ-loop
 shared-slice-read-b c = omega arith
 
-put-ended-requires : tie.Need-put-ended-requires Inv-loop μ-loop
-put-ended-requires c κs = search needs
+put-word-requires : tie.Need-put-word-requires Inv-loop μ-loop
+put-word-requires c κs = search needs
 
 next-place-requires : tie.Need-next-place-requires Inv-loop μ-loop
-next-place-requires c κs = let k = c .before .before .put-ended .kept .1 .1 .1 .0 in omega arith
+next-place-requires c κs = let k = c .before .before .put-word .kept .0 in omega arith
 
 next-value-requires : tie.Need-next-value-requires Inv-loop μ-loop
 next-value-requires c κs = search needs
@@ -35,7 +35,7 @@ loop-less : tie.Need-loop-less Inv-loop μ-loop
 loop-less c = omega arith
 
 loop-again : tie.Need-loop-again Inv-loop μ-loop
-loop-again c = let k = c .before .before .before .before .put-ended .kept .1 .1 .1 .0 in let e = c .before .next-place .ensures in (omega arith, omega arith)
+loop-again c = let k = c .before .before .before .before .put-word .kept .0 in let e = c .before .next-place .ensures in (omega arith, omega arith)
 
 same-length : tie.Need-same-length Inv-loop μ-loop
 same-length c = c .before .loop .inv .0
@@ -51,7 +51,7 @@ numbers-spec =
     μ-loop
     loop-holds
     shared-slice-read-b
-    put-ended-requires
+    put-word-requires
     next-place-requires
     next-value-requires
     add-i
