@@ -81,8 +81,9 @@ fn print_number(word: &[u8], x: u64) {
     print_next(x);
 }
 
-// The entries that a listing shows, by their numbers, and the number behind the last.
-fn print_entries(listing: &[u64], ell: u64, k: u64, shown: u64) {
+// A listing; the entries that it shows, by their numbers; and what is at the number behind the last.
+fn print_listing(listing: &[u64], ell: u64, k: u64, shown: u64) {
+    print_words(listing);
     let mut j: u64 = 0;
     while j < shown {
         print_words(search::entry(listing, ell, k, shown, j));
@@ -100,7 +101,7 @@ fn mark(out: &mut [u64]) {
     }
 }
 
-// What Catalogue says, the buffer behind it, and the entries that it shows.
+// What Catalogue says, and the buffer.
 fn print_catalogued(said: Catalogued, k: u64, out: &[u64]) {
     match said {
         Catalogued::Refused(e) => {
@@ -111,13 +112,12 @@ fn print_catalogued(said: Catalogued, k: u64, out: &[u64]) {
             print_number(b"entries", ell as u64);
             print_next(found);
             print_next(shown as u64);
-            print_words(out);
-            print_entries(out, ell as u64, k, shown as u64);
+            print_listing(out, ell as u64, k, shown as u64);
         }
     }
 }
 
-// What Rank says, likewise; nothing stands for above and beyond but their names.
+// What Rank says.
 fn print_ranked(said: Ranked) {
     match said {
         Ranked::Refused(e) => print_number(b"refused", e),
@@ -129,6 +129,28 @@ fn print_ranked(said: Ranked) {
             io::write_all(STDOUT_FILENO, b"beyond");
         }
     }
+}
+
+// Catalogue.
+fn call_catalogue(
+    number: u64,
+    p: u64,
+    q: u64,
+    r: u64,
+    k: u64,
+    gs: &[u64],
+    ts: &[u64],
+    out: &mut [u64],
+) {
+    let said = search::catalogue(number, p, q, r, k, gs, ts, out);
+    print_catalogued(said, k, out);
+}
+
+// Rank.
+fn call_rank(number: u64, p: u64, q: u64, r: u64, k: u64, gs: &[u64], ts: &[u64], out: &mut [u64]) {
+    let said = search::rank(number, p, q, r, k, gs, ts, out);
+    print_ranked(said);
+    print_words(out);
 }
 
 // One call: 0 for Catalogue, 1 for Rank; else the look-up of an entry, with ell, k, shown and its number for the kind's number and the sizes.
@@ -145,14 +167,11 @@ fn call_on(
 ) {
     mark(out);
     if call == 0 {
-        let said = search::catalogue(number, p, q, r, k, gs, ts, out);
-        print_catalogued(said, k, out);
+        call_catalogue(number, p, q, r, k, gs, ts, out);
         return;
     }
     if call == 1 {
-        let said = search::rank(number, p, q, r, k, gs, ts, out);
-        print_ranked(said);
-        print_words(out);
+        call_rank(number, p, q, r, k, gs, ts, out);
         return;
     }
     print_words(search::entry(out, number, p, q, r));
