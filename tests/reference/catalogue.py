@@ -231,6 +231,14 @@ def catalogue(kind, p, q, r, k, gs, ts, buffer):
     return ell, len(listed), shown, records + buffer[len(records):], listed
 
 
+def entry(buffer, ell, k, shown, number):
+    """The stretch of a listing that holds the entry with a number; an empty one where there is none."""
+    length = 2 * k - ell
+    if number >= shown or k < ell or (number + 1) * length > len(buffer):
+        return []
+    return buffer[number * length:(number + 1) * length]
+
+
 def rank(kind, p, q, r, k, gs, ts, buffer):
     """l, the rank (or beyond, or above), its products and rows, and the buffer, or a refusal."""
     generators, targets = posed(kind, p, q, r, gs, ts)

@@ -1,26 +1,25 @@
 #!/usr/bin/env python3
-"""Writes the problems of a program that runs Catalogue and Rank on numbers, and the replies expected of it.
+"""Writes the calls of a program that runs Catalogue, its look-up and Rank on numbers, and the replies expected of it.
 
-    make_problems.py DIRECTORY            for a program that runs the calls
-    make_problems.py --posed DIRECTORY    for one that poses each problem once
+    make_problems.py crates/search_values
 
-write DIRECTORY/data/*.txt, their names to DIRECTORY/args and the replies to
-DIRECTORY/stdout.  A problem is one line of decimal numbers:
+writes stdin, the calls, and stdout, the replies, in that directory.  A call is
+one line of decimal numbers:
 
-    call number p q r k w  c g_0 .. g_(c-1)  u t_0 .. t_(u-1)
+    call number p q r k w c u  g_0 .. g_(c-1)  t_0 .. t_(u-1)
 
 with call 0 for Catalogue and 1 for Rank, the kind by its number, and a buffer
-of w words, of which word i holds 1000000 + i before the call.  The reply is
-one line as well, and ends with the buffer after the call, behind ` :`:
+of w words, at most 64, of which word i holds 1000000 + i before the call.  The
+reply is one line as well; the buffer after the call stands behind ` :`, and in
+a Catalogue then the look-ups of the entries 0 to SHOWN, each behind ` :`:
 
-    found F shown S :..    rank R :..    above :..    beyond :..    refused E :..
+    entries ELL FOUND SHOWN :.. :..    rank R :..    above :..    beyond :..    refused E :..
 
-A problem that is only posed is answered by `refused E`, or by the number of its
-generators, the generators and the targets:
+Call 2 is the look-up alone, of an entry in such a buffer, and replies its words:
 
-    posed C : g_0 .. : t_0 ..
+    2 ell k shown number 0 w 0 0       :..
 
-Where a problem is made for a reply, the reply is written beside it and must
+Where a call is made for a reply, the reply is written beside it and must
 agree with catalogue.py.  The random lists come from a fixed seed.
 """
 
@@ -32,82 +31,93 @@ sys.dont_write_bytecode = True
 import catalogue
 from catalogue import KINDS, Refused, random_list, reduced
 
-CATALOGUE, RANK = 0, 1
+CATALOGUE, RANK, ENTRY = 0, 1, 2
 POLY, SHORT, CIRC, MAT, LIST = range(5)
 HUGE = 2 ** 64 - 1
-files = {}
+calls, replies = [], []
+
+
+def line(said, *stretches):
+    return said + "".join(" :" + "".join(" %d" % word for word in words) for words in stretches)
 
 
 def reply(call, number, p, q, r, k, w, gs, ts):
+    """What is said, and the whole line."""
     before = [1000000 + i for i in range(w)]
     kind = KINDS[number] if number < 5 else b"?"
     try:
         if call == CATALOGUE:
-            ell, found, shown, after, listed = catalogue.catalogue(kind, p, q, r, k, gs, ts, before)
+            ell, found, shown, after, _ = catalogue.catalogue(kind, p, q, r, k, gs, ts, before)
             said = "found %d shown %d" % (found, shown)
-        else:
-            ell, least, products, masks, after = catalogue.rank(kind, p, q, r, k, gs, ts, before)
-            said = least if isinstance(least, str) else "rank %d" % least
+            return said, line("entries %d %d %d" % (ell, found, shown), after, *(catalogue.entry(after, ell, k, shown, j) for j in range(shown + 1)))
+        _, least, _, _, after = catalogue.rank(kind, p, q, r, k, gs, ts, before)
+        said = least if isinstance(least, str) else "rank %d" % least
+        return said, line(said, after)
     except Refused as refusal:
-        said, after = "refused %d" % refusal.args[0], before
-    return said, " ".join([said, ":"] + list(map(str, after)))
+        said = "refused %d" % refusal.args[0]
+        return said, line(said, before)
 
 
-def add(name, call, number, p, q, r, k, w, gs=(), ts=(), want=None):
+def write(asked, answer):
+    assert asked[6] <= 64
+    calls.append(" ".join(map(str, asked)) + "\n")
+    replies.append(answer + "\n")
+
+
+def add(call, number, p, q, r, k, w, gs=(), ts=(), want=None):
     gs, ts = list(gs), list(ts)
-    said, line = reply(call, number, p, q, r, k, w, gs, ts)
-    assert want is None or said == want or said.startswith(want + " "), (name, call, number, p, q, r, k, gs, ts, said, want)
-    asked = [call, number, p, q, r, k, w, len(gs)] + gs + [len(ts)] + ts
-    files.setdefault(name, []).append((" ".join(map(str, asked)), line))
+    said, answer = reply(call, number, p, q, r, k, w, gs, ts)
+    assert want is None or said == want or said.startswith(want + " "), (call, number, p, q, r, k, gs, ts, said, want)
+    write([call, number, p, q, r, k, w, len(gs), len(ts)] + gs + ts, answer)
 
 
-def listed(name, call, p, gs, ts, k, w, want=None):
-    add(name, call, LIST, p, len(gs), len(ts), k, w, gs, ts, want)
+def listed(call, p, gs, ts, k, w, want=None):
+    add(call, LIST, p, len(gs), len(ts), k, w, gs, ts, want)
 
 
 def worked():
     """Document 01's worked entries, poly 2,2 for every k, and buffers of every length."""
     for k in range(10):
-        add("worked", CATALOGUE, POLY, 2, 2, 0, k, 12, want="found %d" % (k in (3, 4)))
-    add("worked", CATALOGUE, POLY, 2, 2, 0, 10, 12, want="refused 8")
+        add(CATALOGUE, POLY, 2, 2, 0, k, 12, want="found %d" % (k in (3, 4)))
+    add(CATALOGUE, POLY, 2, 2, 0, 10, 12, want="refused 8")
     for w in range(21):
-        add("worked", CATALOGUE, POLY, 2, 3, 0, 5, w, want="found 3 shown %d" % min(3, w // 6))
-    listed("worked", CATALOGUE, 2, [1, 2, 3], [3], 1, 8, "found 1 shown 1")
-    listed("worked", CATALOGUE, 2, [1, 2, 3], [3], 2, 8, "found 1 shown 1")
+        add(CATALOGUE, POLY, 2, 3, 0, 5, w, want="found 3 shown %d" % min(3, w // 6))
+    listed(CATALOGUE, 2, [1, 2, 3], [3], 1, 8, "found 1 shown 1")
+    listed(CATALOGUE, 2, [1, 2, 3], [3], 2, 8, "found 1 shown 1")
     for w in (0, 3):        # a record of length 0 needs no room
-        listed("worked", CATALOGUE, 2, [1, 2], [0, 0], 0, w, "found 1 shown 1")
-    add("worked", RANK, POLY, 2, 2, 0, 0, 6, want="rank 3")
-    add("worked", RANK, POLY, 1, 1, 0, 0, 2, want="rank 1")
-    listed("worked", RANK, 2, [1], [2], 0, 4, "beyond")
-    listed("worked", RANK, 2, [1], [0], 0, 4, "rank 0")
+        listed(CATALOGUE, 2, [1, 2], [0, 0], 0, w, "found 1 shown 1")
+    add(RANK, POLY, 2, 2, 0, 0, 6, want="rank 3")
+    add(RANK, POLY, 1, 1, 0, 0, 2, want="rank 1")
+    listed(RANK, 2, [1], [2], 0, 4, "beyond")
+    listed(RANK, 2, [1], [0], 0, 4, "rank 0")
 
 
 def limits():
     """What is just taken and just refused."""
-    add("limits", CATALOGUE, POLY, 6, 6, 0, 11, 8, want="found")
-    add("limits", CATALOGUE, POLY, 6, 6, 0, 12, 8, want="found")
-    add("limits", CATALOGUE, POLY, 12, 1, 0, 12, 14, want="found 1 shown 1")
-    add("limits", CATALOGUE, POLY, 12, 1, 0, 18, 14, want="found 0")
-    add("limits", CATALOGUE, POLY, 12, 1, 0, 19, 14, want="refused 8")
-    add("limits", RANK, POLY, 12, 1, 0, 0, 24, want="rank 12")
-    add("limits", RANK, POLY, 1, 12, 0, 0, 24, want="rank 12")
+    add(CATALOGUE, POLY, 6, 6, 0, 11, 8, want="found")
+    add(CATALOGUE, POLY, 6, 6, 0, 12, 8, want="found")
+    add(CATALOGUE, POLY, 12, 1, 0, 12, 14, want="found 1 shown 1")
+    add(CATALOGUE, POLY, 12, 1, 0, 18, 14, want="found 0")
+    add(CATALOGUE, POLY, 12, 1, 0, 19, 14, want="refused 8")
+    add(RANK, POLY, 12, 1, 0, 0, 24, want="rank 12")
+    add(RANK, POLY, 1, 12, 0, 0, 24, want="rank 12")
     for call in (CATALOGUE, RANK):
         for p, q in ((7, 6), (13, 1), (1, 13), (8, 8), (64, 1), (1, 64), (2, 32)):
-            add("limits", call, POLY, p, q, 0, 0, 2, want="refused 4")
+            add(call, POLY, p, q, 0, 0, 2, want="refused 4")
         for p, q in ((9, 8), (65, 1), (1, 65), (0, 1), (1, 0), (HUGE, 1), (HUGE, HUGE), (2 ** 32, 2 ** 32)):
-            add("limits", call, POLY, p, q, 0, 0, 2, want="refused 3")
+            add(call, POLY, p, q, 0, 0, 2, want="refused 3")
         for kind in (SHORT, CIRC):
-            add("limits", call, kind, 8, 8, 0, 0, 2, want="refused 4")
+            add(call, kind, 8, 8, 0, 0, 2, want="refused 4")
             for p, q, r in ((2, 3, 0), (9, 9, 0), (0, 0, 0), (2, 2, 1)):
-                add("limits", call, kind, p, q, r, 0, 2, want="refused 3")
+                add(call, kind, p, q, r, 0, 2, want="refused 3")
         for p, q, r in ((3, 3, 3), (0, 1, 1), (1, 0, 1), (1, 1, 0), (2 ** 32, 1, 2 ** 32), (HUGE, HUGE, HUGE)):
-            add("limits", call, MAT, p, q, r, 0, 2, want="refused 3")
-        add("limits", call, MAT, 4, 1, 16, 0, 2, want="refused 4")
+            add(call, MAT, p, q, r, 0, 2, want="refused 3")
+        add(call, MAT, 4, 1, 16, 0, 2, want="refused 4")
         for p, q, r in ((0, 1, 1), (65, 1, 1), (1, 0, 1), (1, 1, 0), (1, 1, 65), (HUGE, 1, 1)):
-            add("limits", call, LIST, p, q, r, 0, 2, [1], [1], "refused 3")
+            add(call, LIST, p, q, r, 0, 2, [1], [1], "refused 3")
         for q in (4096, HUGE):
-            add("limits", call, LIST, 12, q, 1, 0, 2, [1], [1], "refused 4")
-        add("limits", call, LIST, 12, 4095, 1, 0, 2, [1], [1], "refused 5")
+            add(call, LIST, 12, q, 1, 0, 2, [1], [1], "refused 4")
+        add(call, LIST, 12, 4095, 1, 0, 2, [1], [1], "refused 5")
 
 
 def refusals():
@@ -115,36 +125,36 @@ def refusals():
     for call in (CATALOGUE, RANK):
         many = 99           # a k that 8 refuses
         for number in (5, 6, HUGE):
-            add("refusals", call, number, 2, 2, 0, 0, 2, want="refused 2")
-            add("refusals", call, number, 0, 0, 9, many, 2, [1], [1], "refused 2")
-        add("refusals", call, POLY, 9, 8, 0, many, 2, [1], [1], "refused 3")
-        add("refusals", call, POLY, 7, 6, 0, many, 2, [1], [], "refused 4")
-        add("refusals", call, POLY, 2, 2, 0, many, 2, [1], [], "refused 5")
-        add("refusals", call, POLY, 2, 2, 0, many, 2, [], [HUGE], "refused 5")
-        add("refusals", call, LIST, 2, 4096, 1, many, 2, [0], [9], "refused 4")
-        add("refusals", call, LIST, 2, 2, 1, many, 2, [0], [1], "refused 5")
-        add("refusals", call, LIST, 2, 1, 1, many, 2, [1, 2], [1], "refused 5")
-        add("refusals", call, LIST, 2, 1, 2, many, 2, [4], [1], "refused 5")
-        add("refusals", call, LIST, 2, 1, 1, many, 2, [1], [], "refused 5")
-        listed("refusals", call, 2, [4, 0], [1], many, 2, "refused 6")
-        listed("refusals", call, 2, [1, 1], [4], many, 2, "refused 6")
-        listed("refusals", call, 63, [2 ** 63], [1], many, 2, "refused 6")
-        listed("refusals", call, 2, [1, 0], [1], many, 2, "refused 7")
+            add(call, number, 2, 2, 0, 0, 2, want="refused 2")
+            add(call, number, 0, 0, 9, many, 2, [1], [1], "refused 2")
+        add(call, POLY, 9, 8, 0, many, 2, [1], [1], "refused 3")
+        add(call, POLY, 7, 6, 0, many, 2, [1], [], "refused 4")
+        add(call, POLY, 2, 2, 0, many, 2, [1], [], "refused 5")
+        add(call, POLY, 2, 2, 0, many, 2, [], [HUGE], "refused 5")
+        add(call, LIST, 2, 4096, 1, many, 2, [0], [9], "refused 4")
+        add(call, LIST, 2, 2, 1, many, 2, [0], [1], "refused 5")
+        add(call, LIST, 2, 1, 1, many, 2, [1, 2], [1], "refused 5")
+        add(call, LIST, 2, 1, 2, many, 2, [4], [1], "refused 5")
+        add(call, LIST, 2, 1, 1, many, 2, [1], [], "refused 5")
+        listed(call, 2, [4, 0], [1], many, 2, "refused 6")
+        listed(call, 2, [1, 1], [4], many, 2, "refused 6")
+        listed(call, 63, [2 ** 63], [1], many, 2, "refused 6")
+        listed(call, 2, [1, 0], [1], many, 2, "refused 7")
         for gs in ([1, 1], [3, 3, 1], [3, 1, 3], [1, 3, 3], [0]):
-            listed("refusals", call, 2, gs, [1], many, 2, "refused 7")
-        listed("refusals", call, 2, [1], [1], many, 2, "refused 8")
-        listed("refusals", call, 64, [HUGE, 2 ** 63], [2 ** 63], many, 2, "refused 8")
-    add("refusals", RANK, POLY, 2, 2, 0, 1, 6, want="refused 8")
-    add("refusals", RANK, POLY, 2, 2, 0, 1, 0, want="refused 8")
+            listed(call, 2, gs, [1], many, 2, "refused 7")
+        listed(call, 2, [1], [1], many, 2, "refused 8")
+        listed(call, 64, [HUGE, 2 ** 63], [2 ** 63], many, 2, "refused 8")
+    add(RANK, POLY, 2, 2, 0, 1, 6, want="refused 8")
+    add(RANK, POLY, 2, 2, 0, 1, 0, want="refused 8")
 
 
 def tables():
     """The numbers of spaces in document 000, Tables 1 and 4; and mat 2,2,2 for 7."""
     for p, q, k, found in ((2, 2, 3, 1), (3, 2, 5, 3), (3, 3, 6, 3), (4, 2, 6, 4), (4, 3, 8, 33), (4, 4, 9, 4), (5, 2, 8, 28), (5, 3, 10, 366), (6, 2, 9, 64), (6, 3, 11, 3)):
-        add("tables", CATALOGUE, POLY, p, q, 0, k, 48, want="found %d" % found)
+        add(CATALOGUE, POLY, p, q, 0, k, 48, want="found %d" % found)
     for kind, p, k, found in ((SHORT, 2, 3, 3), (SHORT, 3, 5, 12), (CIRC, 2, 3, 3), (CIRC, 3, 4, 3)):
-        add("tables", CATALOGUE, kind, p, p, 0, k, 48, want="found %d" % found)
-    add("tables", CATALOGUE, MAT, 2, 2, 2, 7, 48, want="found 36")
+        add(CATALOGUE, kind, p, p, 0, k, 48, want="found %d" % found)
+    add(CATALOGUE, MAT, 2, 2, 2, 7, 48, want="found 36")
 
 
 def lists():
@@ -154,8 +164,8 @@ def lists():
         p, gs, ts = random_list(chance)
         ell, most = len(reduced(ts)), len(reduced(gs))
         for k in sorted({0, max(ell - 1, 0), *range(ell, most + 2), ell + 6, ell + 7}):
-            listed("lists", CATALOGUE, p, gs, ts, k, chance.randint(0, 3 * max(2 * k - ell, 1)), "refused 8" if k > ell + 6 else "found")
-        listed("lists", RANK, p, gs, ts, 0, 16)
+            listed(CATALOGUE, p, gs, ts, k, chance.randint(0, 3 * max(2 * k - ell, 1)), "refused 8" if k > ell + 6 else "found")
+        listed(RANK, p, gs, ts, 0, 16)
 
 
 def ranks():
@@ -165,60 +175,49 @@ def ranks():
             (SHORT, 1, 1, 0, 1, 1), (SHORT, 2, 2, 0, 3, 2), (SHORT, 3, 3, 0, 5, 3), (CIRC, 1, 1, 0, 1, 1), (CIRC, 2, 2, 0, 3, 2), (CIRC, 3, 3, 0, 4, 3),
             (MAT, 1, 1, 1, 1, 1), (MAT, 1, 2, 1, 2, 1), (MAT, 2, 1, 2, 4, 4), (MAT, 1, 2, 2, 4, 2), (MAT, 2, 2, 1, 4, 2), (MAT, 2, 2, 2, 7, 4)):
         need = least + outputs
-        add("ranks", RANK, number, p, q, r, 0, need, want="rank %d" % least)
+        add(RANK, number, p, q, r, 0, need, want="rank %d" % least)
         if number != MAT or p * q * r < 8:
-            add("ranks", RANK, number, p, q, r, 0, need + 1, want="rank %d" % least)
-            add("ranks", RANK, number, p, q, r, 0, need - 1, want="refused 9")
-            add("ranks", RANK, number, p, q, r, 0, 0, want="refused 9")
+            add(RANK, number, p, q, r, 0, need + 1, want="rank %d" % least)
+            add(RANK, number, p, q, r, 0, need - 1, want="refused 9")
+            add(RANK, number, p, q, r, 0, 0, want="refused 9")
     for w in (0, 1, 2):     # rank 0 has no products, and a row for each target
-        listed("ranks", RANK, 3, [1, 2], [0, 0], 0, w, "rank 0" if w == 2 else "refused 9")
+        listed(RANK, 3, [1, 2], [0, 0], 0, w, "rank 0" if w == 2 else "refused 9")
     ones = [1 << i for i in range(9)]
     for w in (0, 12):       # the sum of 7 and of 8 words, with no other way to it; above and beyond need no room
-        listed("ranks", RANK, 9, ones, [2 ** 7 - 1], 0, w, "rank 7" if w else "refused 9")
-        listed("ranks", RANK, 9, ones, [2 ** 8 - 1], 0, w, "above")
-        listed("ranks", RANK, 9, ones, [2 ** 9 - 1], 0, w, "above")
-        listed("ranks", RANK, 9, ones[:8], [2 ** 9 - 1], 0, w, "beyond")
-        listed("ranks", RANK, 9, ones[:8], [1, 2 ** 8], 0, w, "beyond")
-    listed("ranks", RANK, 64, [2 ** 63, 2 ** 63 + 1], [1, 2 ** 63], 0, 8, "rank 2")
-    listed("ranks", RANK, 3, [1, 2, 3, 4, 5], [3, 3, 0, 6, 5], 0, 16)     # dependent targets
+        listed(RANK, 9, ones, [2 ** 7 - 1], 0, w, "rank 7" if w else "refused 9")
+        listed(RANK, 9, ones, [2 ** 8 - 1], 0, w, "above")
+        listed(RANK, 9, ones, [2 ** 9 - 1], 0, w, "above")
+        listed(RANK, 9, ones[:8], [2 ** 9 - 1], 0, w, "beyond")
+        listed(RANK, 9, ones[:8], [1, 2 ** 8], 0, w, "beyond")
+    listed(RANK, 64, [2 ** 63, 2 ** 63 + 1], [1, 2 ** 63], 0, 8, "rank 2")
+    listed(RANK, 3, [1, 2, 3, 4, 5], [3, 3, 0, 6, 5], 0, 16)     # dependent targets
 
 
-def only_posed():
-    """Each problem once, with no call and no k."""
-    seen = {}
-    for name, lines in list(files.items()):
-        for asked, _ in lines:
-            call, number, p, q, r, k, w, c, *rest = map(int, asked.split())
-            gs, ts = rest[:c], rest[c + 1:]
-            seen.setdefault((number, p, q, r, tuple(gs), tuple(ts)))
-    files.clear()
-    for number, p, q, r, gs, ts in seen:
-        kind = KINDS[number] if number < 5 else b"?"
-        try:
-            generators, targets = catalogue.posed(kind, p, q, r, list(gs), list(ts))
-            line = " ".join(["posed %d :" % len(generators), *map(str, generators), ":", *map(str, targets)])
-        except Refused as refusal:
-            line = "refused %d" % refusal.args[0]
-        asked = [0, number, p, q, r, 0, 0, len(gs), *gs, len(ts), *ts]
-        files.setdefault("posed", []).append((" ".join(map(str, asked)), line))
+def lookups():
+    """Look-ups at and behind the end of the buffer, and with numbers whose products or sums leave 64 bits."""
+    def look(ell, k, shown, number, w):
+        buffer = [1000000 + i for i in range(w)]
+        write([ENTRY, ell, k, shown, number, 0, w, 0, 0], line("", catalogue.entry(buffer, ell, k, shown, number)))
+
+    for ell, k in ((4, 5), (3, 3), (0, 1), (0, 0), (5, 4), (1, 0)):
+        for shown in (0, 3, HUGE):
+            for number in (0, 2, 3, HUGE):
+                for w in (0, 6, 17, 18):
+                    look(ell, k, shown, number, w)
+    for ell, k in ((HUGE, HUGE), (0, HUGE), (HUGE, 0), (0, 2 ** 63), (2, 2 ** 63 + 1), (HUGE - 1, HUGE), (0, 2 ** 32)):
+        for number in (0, 1, 2 ** 32):
+            look(ell, k, HUGE, number, 8)
+    for number in ((2 ** 64 + 2) // 6, 2 ** 63, 2 ** 64 // 6, 2 ** 61):   # times 6 above 2 ** 64, some with a small remainder
+        look(4, 5, HUGE, number, 64)
 
 
 def main():
-    home = sys.argv[-1]
-    posed = sys.argv[1] == "--posed"
-    for make in (worked, limits, refusals, lists, ranks) if posed else (worked, limits, refusals, tables, lists, ranks):
+    for make in (worked, limits, refusals, tables, lists, ranks, lookups):
         make()
-    if posed:
-        only_posed()
-    os.makedirs(os.path.join(home, "data"), exist_ok=True)
-    with open(os.path.join(home, "args"), "w") as args, open(os.path.join(home, "stdout"), "w") as out:
-        for name, lines in files.items():
-            text = "".join(asked + "\n" for asked, _ in lines)
-            assert len(text) <= 65536, name
-            with open(os.path.join(home, "data", name + ".txt"), "w") as data:
-                data.write(text)
-            args.write(name + ".txt\n")
-            out.write(name + ".txt\n" + "".join(line + "\n" for _, line in lines))
+    assert len("".join(calls)) <= 65536
+    for name, lines in (("stdin", calls), ("stdout", replies)):
+        with open(os.path.join(sys.argv[1], name), "w") as out:
+            out.writelines(lines)
 
 
 if __name__ == "__main__":
