@@ -1,7 +1,6 @@
 -- The formulae of a space, one generator after the other.
 --   spread-is                    from the empty basis what is emitted is what is emitted for the formulae
 --   spread-none                  where C and the later generators inside the space don't span it, nothing is emitted
---   Inner W C m                  == C is a reduced basis inside W, of m dimensions less
 --   spread-leaf                  no number is missing: the formula
 --   spread-end, spread-skip, spread-down   no number is left; one is passed; one is taken
 --   inner-down                   a generator that is not passed makes one dimension more
@@ -27,14 +26,14 @@ use Rattle.linear.specs.Select.{only}
 use Rattle.linear.specs.Entry.{sameBasis, inside, generator, chosen, space}
 use Rattle.linear.specs.Formulae.{formulae}
 use Rattle.linear.specs.Walk.{walk}
-use Rattle.linear.specs.Spread.{later, completes, passed, spread}
+use Rattle.linear.specs.Spread.{later, completes, passed, spread, Inner}
 use Rattle.linear.specs.laws.Span.{mem-cons, span-mem, span-bind, span-head, span-mono}
 use Rattle.linear.specs.laws.Reduce.{member}
 use Rattle.linear.specs.laws.Insert.{insert-reduced, insert-span, insert-length-new, inserts-reduced, inserts-span, basisOf-reduced}
 use Rattle.linear.specs.laws.Dimension.{Fresh, unique, sub-length, same-size, basisOf-is, fresh-of-length}
 use Rattle.linear.specs.laws.Order.{rising-sound, mem-getD}
 use Rattle.linear.specs.laws.Select.{mem-only}
-use Rattle.linear.specs.laws.Entry.{sameBasis-yes, sameBasis-no, inside-yes, yes-inside, no-inside}
+use Rattle.linear.specs.laws.Entry.{sameBasis-yes, same-yes, inside-yes, yes-inside, no-inside}
 use Rattle.linear.specs.laws.Extension.{chosen-length, chosen-append}
 use Rattle.linear.specs.laws.Pruned.{pruned, pruned-is, fresh-append}
 use Rattle.linear.specs.laws.Walk.{pruned-same, pruned-pruned, walk-none, Further}
@@ -67,13 +66,6 @@ module _ (S : Space) (gens W : List (S .Vec)) (ρ : Reduced S W) where
   sp-span : (es : List ℕ) (v : Vec) → List·Memᴰ v (chosen S gens es) → Span S (sp es) v
   unfolding space basisOf inserts
   sp-span es v m = inserts-span S (chosen S gens es) [] v .1 (span-mem S (Memᴰ·append-left [] m))
-
-  same-is : (B C : List Vec) → B ≡ C → sameBasis S B C ≡ true
-  same-is B C e = go (sameBasis S B C) refl
-    where
-      go : (t : Bool) → sameBasis S B C ≡ t → sameBasis S B C ≡ true
-      go true q = q
-      go false q = absurd (sameBasis-no S B C q e)
 
   -- a number that is passed begins no formula
   passed-sound : (p : List ℕ) (i : ℕ) (es : List ℕ) → stop p i ≡ true → good (p ++ i ∷ es) ≡ false
@@ -181,11 +173,6 @@ module _ (S : Space) (gens W : List (S .Vec)) (ρ : Reduced S W) where
               (sub-length S (inserts S C (later S gens W i)) W ρ (inserts-reduced S (later S gens W i) C σ) within)
 
   -- ---- a basis inside W
-  pub record Inner (C : List Vec) (m : ℕ) : Type 0 where
-    pub reduced : Reduced S C
-    pub within : Within S C W
-    pub size : length C + m ≡ length W
-
   passed-no : (C : List Vec) (i : ℕ) → Reduced S C → (inside S W (gen i) && not (inside S C (gen i))) ≡ true → Span S W (gen i) × ¬ Span S C (gen i)
   passed-no C i σ e = go (inside S C (gen i)) refl (and-eq-true-iff (inside S W (gen i)) (not (inside S C (gen i))) .0 e)
     where
@@ -193,7 +180,7 @@ module _ (S : Space) (gens W : List (S .Vec)) (ρ : Reduced S W) where
       go true q p = absurd (false≢true (ap not (sym q) ∙ p .1))
       go false q p = (inside-yes S W (gen i) (p .0), λ s. true≢false (sym (yes-inside S C σ (gen i) s) ∙ q))
 
-  pub inner-down : (C : List Vec) (i m : ℕ) → m ≢ 0 → Inner C m → (inside S W (gen i) && not (inside S C (gen i))) ≡ true → Inner (insert S C (gen i)) (m - 1)
+  pub inner-down : (C : List Vec) (i m : ℕ) → m ≢ 0 → Inner S W C m → (inside S W (gen i) && not (inside S C (gen i))) ≡ true → Inner S W (insert S C (gen i)) (m - 1)
   inner-down C i m ne I e =
       let a = passed-no C i (I .reduced) e in
       record {
@@ -202,7 +189,7 @@ module _ (S : Space) (gens W : List (S .Vec)) (ρ : Reduced S W) where
         size = omega (arith, ne, I .size, insert-length-new S C (gen i) (λ z. a .1 (member S C (I .reduced) (gen i) .1 z)));
       }
 
-  full-is : (C : List Vec) → Inner C 0 → C ≡ W
+  full-is : (C : List Vec) → Inner S W C 0 → C ≡ W
   full-is C I = unique S C W (I .reduced) ρ (I .within) (same-size S W C ρ (I .within) (let d : dim S C ≡ length C = own in omega (arith, d, I .size)))
     where
       own : dim S C ≡ length C
@@ -210,9 +197,9 @@ module _ (S : Space) (gens W : List (S .Vec)) (ρ : Reduced S W) where
 
   -- ---- one number after the other
   module _ {A : Type 0} (emit : List ℕ → A) (C : List Vec) (p : List ℕ) where
-    pub spread-leaf : (n i m : ℕ) → m ≡ 0 → Inner C m → spread S gens W emit C p n i m ≡ emit p ∷ []
+    pub spread-leaf : (n i m : ℕ) → m ≡ 0 → Inner S W C m → spread S gens W emit C p n i m ≡ emit p ∷ []
     unfolding walk
-    spread-leaf n i zero z I = ap (λ (t : Bool). cond t (emit p ∷ []) []) (same-is C W (full-is C I))
+    spread-leaf n i zero z I = ap (λ (t : Bool). cond t (emit p ∷ []) []) (same-yes S C W (full-is C I))
     spread-leaf n i (suc m) z I = absurd (omega arith)
 
     none-left : (n j m : ℕ) → m ≢ 0 → n ≡ 0 → spread S gens W emit C p n j m ≡ []
