@@ -5,7 +5,8 @@
 --   spread W emit C p n i m == what is emitted from the basis C of the generators numbered p, for m more numbers out of i, .., i + n - 1, none of them passed, that
 --                             lead to W
 --   Inner W C m            == C is a reduced basis inside W, of m dimensions less
--- From the empty basis these are the formulae of W: `spread-is`; and where C is not completed nothing follows: `spread-none` (laws/Spread). Assumes nothing.
+-- From the empty basis these are the formulae of W: `spread-is`. Where C is not completed nothing follows, `spread-none`; where it is, a formula does,
+-- `spread-some` (laws/Spread). Assumes nothing.
 use mathlib.Core.Path.{_≡_}
 use mathlib.Core.Bool.{Bool, not, _&&_}
 use mathlib.Core.List.{List}

@@ -1,29 +1,28 @@
 -- What the formulae of a space are, in the words of document 01's demand: none missing, none twice. To be read from top to bottom.
 --   FormulaeMeans, formulae-means   an accepted reply lists, in dictionary order, the first of exactly all sets of k independent generators that span the space
---   rank-first                      Rank's formula is the first of the list for the first entry's space
+--   RankFirst, rank-first           Rank's formula is the first of the list for the first entry's space
 -- The definitions: formulaeOf, isEntry (Spaces), posed (problems), Solution (linear, Entry), Formula (linear, laws/Formulae), formulaRecord (choice). Assumes nothing.
-use mathlib.Core.Path.{_≡_, refl, sym, ap, _∙_, subst}
+use mathlib.Core.Path.{_≡_, refl, sym, _∙_, subst}
 use mathlib.Core.Logic.{_↔_}
 use mathlib.Core.Bool.{Bool, true, false, not, true≢false}
-use mathlib.Core.List.{List, _++_, map, List·Memᴰ}
+use mathlib.Core.List.{List, [], _++_, map, List·Memᴰ, List·Memᴰ·head}
 use mathlib.Core.Option.{some}
-use Prim.Native.Nat.{ℕ, _+_, _*_, _^_, _<_, _≤_}
-use native.Mathlib.Omega.{arith}
+use Prim.Native.Nat.{ℕ, _+_, _*_, _^_, _<_}
 use lib.ListN.{length, take, drop}
-use lib.Dec.{ltb, eqb}
+use lib.Dec.{ltb}
 use borrow.Author.Tests.{eqb-true, eq-eqb}
 use Rattle.kinds.specs.Refusal.{accepted, refuse}
 use Rattle.kinds.specs.RefusalLaws.{accepted-inj, follow-inv, refuse-inv}
 use Rattle.forms.specs.Row.{rowForm}
 use Rattle.problems.specs.Problem.{Problem, posed}
-use Rattle.linear.specs.Span.{Span}
 use Rattle.linear.specs.Basis.{dim}
 use Rattle.linear.specs.Order.{Before, Ordered}
 use Rattle.linear.specs.Entry.{Solution, chosen, space, entries}
 use Rattle.linear.specs.Formulae.{first, formula, formulae, fewest}
 use Rattle.linear.specs.Word.{word}
-use Rattle.linear.specs.Theorems.{formulae-exactly, rank-formula}
-use Rattle.linear.specs.laws.Formulae.{Formula, formulae-ordered}
+use Rattle.linear.specs.Theorems.{entry-solves, formulae-exactly, rank-formula}
+use Rattle.linear.specs.laws.Extension.{chosen-length}
+use Rattle.linear.specs.laws.Formulae.{first-some, Formula, formulae-ordered}
 use Rattle.rows.specs.Rows.{rowOf}
 use Rattle.rows.specs.laws.Rows.{row-sum, row-only}
 use Rattle.listing.specs.Listing.{flat, fitting}
@@ -46,7 +45,7 @@ pub record FormulaeMeans (gens targets rows old : List ℕ) (f : Formulae) : Typ
   pub buffer : f .buffer ≡ flat (take (f .listed) (map (λ es. es ++ map (rowOf (chosen word gens es)) targets) all)) ++ drop (f .listed * recordSize targets rows) old
   -- each target is the sum that its row says, and no other row of k bits says it
   pub row : (es : List ℕ) → List·Memᴰ es all → (t : ℕ) → List·Memᴰ t targets → rowForm (chosen word gens es) (rowOf (chosen word gens es) t) 0 ≡ t
-  pub only-row : (es : List ℕ) → List·Memᴰ es all → (t mask : ℕ) → mask < 2 ^ length (chosen word gens es) → rowForm (chosen word gens es) mask 0 ≡ t → mask ≡ rowOf (chosen word gens es) t
+  pub only-row : (es : List ℕ) → List·Memᴰ es all → (t mask : ℕ) → mask < 2 ^ length rows → rowForm (chosen word gens es) mask 0 ≡ t → mask ≡ rowOf (chosen word gens es) t
 
 module _ (x : Problem) (rows : List ℕ) (E : Solution word (x .generators) (x .targets) (length rows) rows) where
   abbrev gens : List ℕ
@@ -67,7 +66,7 @@ module _ (x : Problem) (rows : List ℕ) (E : Solution word (x .generators) (x .
         whole = (eqb-true l c, eq-eqb l c);
         buffer = refl;
         row = (λ es m t k. row-sum (chosen word gens es) t (formula-of es m .spanning .1 t (E .holds t k)));
-        only-row = (λ es m t mask h e. row-only (chosen word gens es) t mask (formula-of es m .independent) h e);
+        only-row = (λ es m t mask h e. row-only (chosen word gens es) t mask (formula-of es m .independent) (subst (λ (k : ℕ). mask < 2 ^ k) (sym (chosen-length word gens [] es ∙ formula-of es m .number)) h) e);
       }
     where
       c : ℕ
@@ -92,7 +91,22 @@ formulae-means number p q r gs ts rows old f e =
     not-no true z = refl
     not-no false z = absurd (true≢false z)
 
--- Rank says the first formula of the first entry's space: the first of the list, where the rows are that space
-pub rank-first : (gens targets es : List ℕ) → fewest word gens targets ≡ formula es
-    → (entry : List ℕ) × (first (entries word gens targets (length es)) ≡ some entry) × (first (formulae word gens (space word gens targets entry)) ≡ some es)
-rank-first gens targets es e = let R = rank-formula word gens targets es e in (R .entry, R .first-entry, R .first-formula-of)
+-- Rank says the first formula of the first entry's space. The rows of that space are accepted, and the list for them begins with Rank's formula.
+pub record RankFirst (gens targets es : List ℕ) : Type 0 where
+  pub entry : List ℕ
+  pub first-entry : first (entries word gens targets (length es)) ≡ some entry
+  pub accepted-rows : isEntry gens targets (space word gens targets entry) ≡ true
+  pub first-listed : first (formulae word gens (space word gens targets entry)) ≡ some es
+
+pub rank-first : (gens targets es : List ℕ) → fewest word gens targets ≡ formula es → RankFirst gens targets es
+rank-first gens targets es e =
+    let R = rank-formula word gens targets es e in
+    let W : List ℕ = space word gens targets (R .entry) in
+    let l = first-some (entries word gens targets (length es)) (R .entry) (R .first-entry) in
+    let E = entry-solves word gens targets (length es) (R .entry) (subst (List·Memᴰ (R .entry)) (sym (l .1)) (List·Memᴰ·head refl)) in
+    record {
+      entry = R .entry;
+      first-entry = R .first-entry;
+      accepted-rows = is-entry gens targets W .1 (subst (λ (k : ℕ). Solution word gens targets k W) (sym (E .size)) E);
+      first-listed = R .first-formula-of;
+    }

@@ -6,6 +6,8 @@
 --   inner-down                   a generator that is not passed makes one dimension more
 --   later-in, later-out          the generators from one number on
 --   completes-down               taking a generator that is not passed loses nothing
+--   completes-on                 nor does passing one
+--   spread-some                  where C is completed there is a formula: so a search that goes on only there finds one at every step
 -- Assumes nothing.
 use mathlib.Core.Path.{_≡_, refl, sym, ap, ap₂, _∙_, subst}
 use mathlib.Core.Logic.{_≢_, _⊎_, inl, inr}
@@ -14,10 +16,10 @@ use mathlib.Core.List.{List, [], _∷_, _++_, map, append-nil, List·Memᴰ, Lis
 use Prim.Native.Nat.{ℕ, zero, suc, _+_, _-_, _<_, _≤_}
 use native.Mathlib.Omega.{arith}
 use native.Mathlib.Numerals.{add-one}
-use lib.ListN.{length, getD, drop, length-append, length-drop}
+use lib.ListN.{length, getD, drop, length-append, length-drop, drop-of-length-le}
 use lib.Seq.{drop-cons, getD-drop}
 use lib.Dec.{eqb, leb}
-use borrow.Author.Tests.{eq-eqb, eqb-true, le-leb}
+use borrow.Author.Tests.{eq-eqb, eqb-true, le-leb, leb-true}
 use Rattle.linear.specs.Space.{Space}
 use Rattle.linear.specs.Span.{Span, Within}
 use Rattle.linear.specs.Basis.{reduce, insert, inserts, basisOf, Reduced, dim}
@@ -29,7 +31,7 @@ use Rattle.linear.specs.Walk.{walk}
 use Rattle.linear.specs.Spread.{later, completes, passed, spread, Inner}
 use Rattle.linear.specs.laws.Span.{mem-cons, span-mem, span-bind, span-head, span-mono}
 use Rattle.linear.specs.laws.Reduce.{member}
-use Rattle.linear.specs.laws.Insert.{insert-reduced, insert-span, insert-length-new, inserts-reduced, inserts-span, basisOf-reduced}
+use Rattle.linear.specs.laws.Insert.{insert-old, insert-reduced, insert-span, insert-length-new, inserts-reduced, inserts-span, basisOf-reduced}
 use Rattle.linear.specs.laws.Dimension.{Fresh, unique, sub-length, same-size, basisOf-is, fresh-of-length}
 use Rattle.linear.specs.laws.Order.{rising-sound, mem-getD}
 use Rattle.linear.specs.laws.Select.{mem-only}
@@ -259,3 +261,62 @@ module _ (S : Space) (gens W : List (S .Vec)) where
   completes-down C i l e =
       ap (λ (X : List Vec). leb (length W) (length X))
       (later-in C i l (and-eq-true-iff (inside S W (generator S gens i)) (not (inside S C (generator S gens i))) .0 e .0))
+
+  pub completes-on : (C : List Vec) (i : ℕ) → i < length gens → (inside S W (generator S gens i) && not (inside S C (generator S gens i))) ≡ false
+      → completes S gens W C i ≡ completes S gens W C (i + 1)
+  unfolding completes
+  completes-on C i l e = ap (λ (X : List Vec). leb (length W) (length X)) (go (inside S W (generator S gens i)) refl e)
+    where
+      g : Vec
+      g = generator S gens i
+
+      spanned : not (inside S C g) ≡ false → reduce S C g ≡ S .nul
+      spanned q = unfold inside in S .isNul-yes (reduce S C g) (not-no (inside S C g) q)
+        where
+          not-no : (b : Bool) → not b ≡ false → b ≡ true
+          not-no true z = refl
+          not-no false z = sym z
+
+      go : (t : Bool) → inside S W (generator S gens i) ≡ t → (t && not (inside S C (generator S gens i))) ≡ false → inserts S C (later S gens W i) ≡ inserts S C (later S gens W (i + 1))
+      go true a b = later-in C i l a ∙ ap (λ (D : List Vec). inserts S D (later S gens W (i + 1))) (insert-old S C g (spanned b))
+      go false a b = later-out C i l a
+
+  completes-end : (C : List Vec) (i : ℕ) → length gens ≤ i → completes S gens W C i ≡ true → length W ≤ length C
+  unfolding completes later only inserts
+  completes-end C i h b =
+      leb-true (length W) (length C) (ap (λ (X : List Vec). leb (length W) (length (inserts S C (only (inside S W) X)))) (sym (drop-of-length-le gens h)) ∙ b)
+
+module _ (S : Space) (gens W : List (S .Vec)) (ρ : Reduced S W) {A : Type 0} (emit : List ℕ → A) where
+  open Space S using (Vec)
+
+  pub spread-some : (C : List Vec) (p : List ℕ) (n i m : ℕ) → Inner S W C m → i + n ≡ length gens → completes S gens W C i ≡ true → 0 < length (spread S gens W emit C p n i m)
+  spread-some C p n i zero I q b = omega (arith, ap length (spread-leaf S gens W ρ emit C p n i zero refl I))
+  spread-some C p zero i (suc m) I q b = absurd (let l = completes-end S gens W C i (omega arith) b in let z = I .size in omega arith)
+  spread-some C p (suc n) i (suc m) I q b =
+      go (inside S W g && not (inside S C g)) refl
+      (λ J c. spread-some (insert S C g) (p ++ i ∷ []) n (suc i) m J (omega arith) c)
+      (λ c. spread-some C p n (suc i) (suc m) I (omega arith) c)
+    where
+      g : Vec
+      g = generator S gens i
+
+      here : List A
+      here = spread S gens W emit (insert S C g) (p ++ i ∷ []) n (suc i) m
+
+      there : List A
+      there = spread S gens W emit C p n (suc i) (suc m)
+
+      next : i + 1 ≡ suc i
+      next = add-one i
+
+      go : (t : Bool) → (inside S W g && not (inside S C g)) ≡ t
+          → (Inner S W (insert S C g) m → completes S gens W (insert S C g) (suc i) ≡ true → 0 < length here)
+          → (completes S gens W C (suc i) ≡ true → 0 < length there) → 0 < length (spread S gens W emit C p (suc n) i (suc m))
+      go true e f h =
+          let a : 0 < length here =
+          f (subst (Inner S W (insert S C g)) (let z : suc m - 1 ≡ m = omega arith in z) (inner-down S gens W ρ C i (suc m) (λ z. absurd (omega arith)) I e))
+          (ap (completes S gens W (insert S C g)) (sym next) ∙ sym (completes-down S gens W C i (omega arith) e) ∙ b) in
+          omega (arith, a, ap length (turn S gens W ρ emit C p n i m false (ap not e)), length-append here there)
+      go false e f h =
+          let a : 0 < length there = h (ap (completes S gens W C) (sym next) ∙ sym (completes-on S gens W C i (omega arith) e) ∙ b) in
+          omega (arith, a, ap length (turn S gens W ρ emit C p n i m true (ap not e)))
