@@ -38,7 +38,7 @@ pub fn misses(b: Basis, targets: &[u64]) -> bool
 }
 
 // Whether `g` is in the span of the rows `w` and not in that of `b`.
-fn is_wanted(w: &[u64], b: Basis, g: u64) -> bool
+pub fn is_wanted(w: &[u64], b: Basis, g: u64) -> bool
     requires { ⌜ Valid b ⌝ }
     ensures { λ r. ⌜ r ≡ (inside word (now (w .entry)) g && not (inside word (rowsOf b) g)) ⌝ }
 {
@@ -49,7 +49,7 @@ fn is_wanted(w: &[u64], b: Basis, g: u64) -> bool
 }
 
 // One generator more.
-fn add(c: Choice, j: usize, g: u64) -> Choice
+pub fn add(c: Choice, j: usize, g: u64) -> Choice
     requires { ⌜ (Whole c) × (c .len < 64) ⌝ }
     ensures { λ r. ⌜ Added c j g r ⌝ }
 {

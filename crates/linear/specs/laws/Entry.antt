@@ -61,6 +61,13 @@ module _ (S : Space) where
       go true q e ih = λ p. ih e (tail-eq-of-cons-eq p)
       go false q e ih = λ p. sameVec-no b c q (head-eq-of-cons-eq p)
 
+  pub same-yes : (B C : List Vec) → B ≡ C → sameBasis S B C ≡ true
+  same-yes B C e = go (sameBasis S B C) refl
+    where
+      go : (t : Bool) → sameBasis S B C ≡ t → sameBasis S B C ≡ true
+      go true q = q
+      go false q = absurd (sameBasis-no B C q e)
+
   pub inside-yes : (B : List Vec) (v : Vec) → inside S B v ≡ true → Span S B v
   unfolding inside
   inside-yes B v e = span-of-reduce S B v (isNul-yes (reduce S B v) e)

@@ -1,5 +1,6 @@
 -- The formulae of a space.
 --   formulae-are       the formulae of a space are the rising lists of independent generators that span it
+--   formulae-ordered   they stand in dictionary order
 --   first-formula      the first formula of a solution space is the greedy choice of generators inside it
 -- Assumes nothing.
 use mathlib.Core.Path.{_≡_, refl, sym, ap, _∙_, subst}
@@ -22,7 +23,7 @@ use Rattle.linear.specs.laws.Dimension.{basisOf-is, fresh-of-length}
 use Rattle.linear.specs.laws.Independent.{independent-fresh}
 use Rattle.linear.specs.laws.Order.{before-asym, rising-sound, rising-complete, rising-ordered}
 use Rattle.linear.specs.laws.Select.{only-mem, mem-only}
-use Rattle.linear.specs.laws.Entry.{sameBasis-yes, sameBasis-no}
+use Rattle.linear.specs.laws.Entry.{sameBasis-yes, same-yes}
 use Rattle.linear.specs.laws.Extension.{chosen-length, extension, extension-space, extension-rising, extension-length, entries-first, greedy-listed}
 
 -- ---- the first of a list
@@ -55,13 +56,6 @@ only-ordered p (x ∷ l) o = go (p x) (only-ordered p l (o .1))
 
 module _ (S : Space) (gens : List (S .Vec)) where
   open Space S using (Vec)
-
-  same-yes : (B C : List Vec) → B ≡ C → sameBasis S B C ≡ true
-  same-yes B C e = go (sameBasis S B C) refl
-    where
-      go : (t : Bool) → sameBasis S B C ≡ t → sameBasis S B C ≡ true
-      go true q = q
-      go false q = absurd (sameBasis-no S B C q e)
 
   -- as many generators as the space that they span has dimensions are independent
   enough : (W : List Vec) (es : List ℕ) → basisOf S (chosen S gens es) ≡ W → length es ≡ length W → Independent S (chosen S gens es)
@@ -103,7 +97,12 @@ module _ (S : Space) (gens : List (S .Vec)) where
       complete F =
           mem-only test (risingLists (length gens) 0 (length W)) es
           (rising-complete (length gens) 0 (length W) (length gens) (omega arith) es (F .number) (F .rising))
-          (same-yes (basisOf S (chosen S gens es)) W (basisOf-is S W (chosen S gens es) ρ (F .spanning .1) (F .spanning .0)))
+          (same-yes S (basisOf S (chosen S gens es)) W (basisOf-is S W (chosen S gens es) ρ (F .spanning .1) (F .spanning .0)))
+
+  pub formulae-ordered : (W : List Vec) → Ordered Before (formulae S gens W)
+  unfolding formulae
+  formulae-ordered W =
+      only-ordered (λ fs. sameBasis S (basisOf S (chosen S gens fs)) W) (risingLists (length gens) 0 (length W)) (rising-ordered (length gens) 0 (length W))
 
   module _ (targets : List Vec) where
     -- a solution space is one for no targets too
@@ -113,9 +112,7 @@ module _ (S : Space) (gens : List (S .Vec)) where
     pub first-formula : (k : ℕ) (W : List Vec) → Solution S gens targets k W → first (formulae S gens W) ≡ some (extension S gens [] W)
     unfolding formulae
     first-formula k W E =
-        first-least (formulae S gens W)
-        (only-ordered (λ fs. sameBasis S (basisOf S (chosen S gens fs)) W) (risingLists (length gens) 0 (length W)) (rising-ordered (length gens) 0 (length W)))
-        x (formulae-are W (E .reduced) x .1 here) least
+        first-least (formulae S gens W) (formulae-ordered W) x (formulae-are W (E .reduced) x .1 here) least
       where
         F : Solution S gens [] k W
         F = free k W E

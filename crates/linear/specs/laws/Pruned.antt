@@ -5,6 +5,7 @@
 --   ordered-ext           lists in order with the same members are equal
 --   pruned-is             leaving out loses nothing, where what is stopped begins nothing that q takes
 --   entries-canonical     the entries are the canonical ones of all rising lists
+--   fresh-append          each of a list of new vectors is outside the span of those before it
 --   listed-new            in an entry each generator is new
 -- Assumes nothing.
 use mathlib.Core.Path.{_≡_, refl, sym, ap, ap₂, _∙_, subst, fun-ext}
@@ -151,7 +152,7 @@ module _ (S : Space) (gens targets : List (S .Vec)) where
       (listed-canonical k es m))
       (λ es m. canonical-listed k es (only-mem (canonical k) (risingLists (length gens) 0 (k - dim S targets)) es m .1))
 
-  fresh-append : (xs ys B : List Vec) (y : Vec) → Reduced S B → Fresh S B (xs ++ y ∷ ys) → ¬ Span S (inserts S B xs) y
+  pub fresh-append : (xs ys B : List Vec) (y : Vec) → Reduced S B → Fresh S B (xs ++ y ∷ ys) → ¬ Span S (inserts S B xs) y
   unfolding inserts
   fresh-append [] ys B y ρ f = f .0
   fresh-append (x ∷ xs) ys B y ρ f =

@@ -1,0 +1,5 @@
+-- The laws of the definitions beside this folder.
+pub mod Entry
+pub mod Same
+pub mod Listing
+pub mod Replies

@@ -1,0 +1,3 @@
+-- What the proofs of the recursion share.
+mod Keeping
+mod Going

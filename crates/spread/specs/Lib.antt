@@ -1,0 +1,3 @@
+-- The formulae of a space, counted and written as records.
+pub mod Spread
+pub mod laws

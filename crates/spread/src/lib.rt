@@ -1,0 +1,115 @@
+// The formulae of a space, each once and in order. Each call of the recursion yields one, so there is little work between two.
+use bases::Basis;
+use choice::Choice;
+use walk::Tally;
+ghost use mathlib.Core.Path.{_≡_};
+ghost use Prim.Native.Nat.{_-_};
+ghost use lib.ListN.{length};
+ghost use Rattle.linear.specs.Word.{word};
+ghost use Rattle.linear.specs.Spread.{completes};
+ghost use Rattle.bases.specs.Basis.{rowsOf, Valid};
+ghost use Rattle.choice.specs.Choice.{numbersOf, recordOf};
+ghost use Rattle.walk.specs.Records.{note, run};
+ghost use Rattle.walk.specs.Walk.{stateOf};
+ghost use Rattle.spread.specs.Spread.{formulaeFrom, Keeping, Node};
+
+// Whether `b` and the generators inside the space `w` from number `start` on span as many dimensions as `w` has rows.
+pub fn completes(gens: &[u64], w: &[u64], b: Basis, start: usize) -> bool
+    requires { ⌜ Valid b ⌝ }
+    ensures { λ r. ⌜ r ≡ completes word (now (gens .entry)) (now (w .entry)) (rowsOf b) start ⌝ }
+{
+    let k = w.len();
+    let n = gens.len();
+    let mut d = b;
+    let mut i = start;
+    while i < n {
+        if d.len >= k {
+            return true;
+        }
+        let g = gens[i];
+        if forms::reduce_rows(w, g) == 0 {
+            d = d.insert(g);
+            i += 1;
+        } else {
+            i += 1;
+        }
+    }
+    d.len >= k
+}
+
+// Counts the formula whose products `c` holds, unless the limit is reached, and writes its record where it fits.
+fn keep(c: Choice, targets: &[u64], t: Tally, limit: u64, out: &mut [u64]) -> Tally
+    requires { ⌜ Keeping c t limit (now out) ⌝ }
+    ensures { λ r. ⌜ stateOf r (now (out .exit)) ≡ note limit (stateOf t (now (out .entry))) (recordOf c (now (targets .entry))) ⌝ }
+{
+    if t.found == limit {
+        return t;
+    }
+    let at = t.at;
+    let size = c.len + targets.len();
+    if out.len() - at < size {
+        return Tally {
+            found: t.found + 1,
+            shown: t.shown,
+            at: at,
+        };
+    }
+    choice::write_formula(c, targets, out, at);
+    Tally {
+        found: t.found + 1,
+        shown: t.shown + 1,
+        at: at + size,
+    }
+}
+
+// Goes on from the generators of `c`, with the basis `b`, by `missing` generators from number `start` on, each inside the space `w` and not yet spanned. Where
+// those left can't complete the space it returns at once.
+pub fn spread(
+    gens: &[u64],
+    w: &[u64],
+    targets: &[u64],
+    start: usize,
+    missing: usize,
+    b: Basis,
+    c: Choice,
+    t: Tally,
+    limit: u64,
+    out: &mut [u64],
+) -> Tally
+    requires { ⌜ Node (now gens) (now w) missing b c t limit (now out) ⌝ }
+    ensures { λ r. ⌜ stateOf r (now (out .exit)) ≡ run limit (stateOf t (now (out .entry))) (formulaeFrom (now (gens .entry)) (now (w .entry)) (now (targets .entry)) (rowsOf b) (numbersOf c) (length (now (gens .entry)) - start) start missing) ⌝ }
+{
+    if missing == 0 {
+        return keep(c, targets, t, limit, out);
+    }
+    let n = gens.len();
+    let mut u = t;
+    let mut j = start;
+    while j < n {
+        if u.found == limit {
+            return u;
+        }
+        let g = gens[j];
+        if choice::is_wanted(w, b, g) {
+            u = spread(
+                gens,
+                w,
+                targets,
+                j + 1,
+                missing - 1,
+                b.insert(g),
+                choice::add(c, j, g),
+                u,
+                limit,
+                out,
+            );
+            if !completes(gens, w, b, j + 1) {
+                return u;
+            }
+            j += 1;
+        } else {
+            j += 1;
+        }
+    }
+    u
+}
