@@ -30,6 +30,8 @@ use Rattle.listing.specs.Listing.{records, flat, fitting}
 use Rattle.fewest.specs.Fewest.{Ranking, is, above, beyond, ranking}
 use Rattle.search.specs.Catalogue.{Catalogued, listing, catalogue}
 use Rattle.search.specs.Rank.{rank}
+use Rattle.spaces.specs.Spaces as space
+use Rattle.spaces.specs.Spaces.{isEntry, formulaeOf}
 use Rattle.formula.specs.Formula.{firstWrong, lengths, judged, check}
 use Rattle.sums.specs.Sums.{productForms, addersOf}
 use Rattle.forms.specs.Row.{rowForm}
@@ -41,11 +43,14 @@ pub data Line : Type 0 where
   catalogued : (number p q r k : ℕ) (gs ts old : List ℕ) → Answer Catalogued → Line
   -- a Rank: the same with k = 0; the reply is the rank with the buffer, above or beyond
   ranked : (number p q r : ℕ) (gs ts old : List ℕ) → Answer Ranking → Line
+  -- the formulae of a space: the problem as for a Catalogue, the rows, the buffer; the reply is how many are listed, whether these are all, and the buffer
+  listedFormulae : (number p q r : ℕ) (gs ts rows old : List ℕ) → Answer space.Formulae → Line
 
 abbrev pub Holds : Line → Type 0
 Holds (checked number p q r k xs ys rows reply) = check number p q r k xs ys rows ≡ reply
 Holds (catalogued number p q r k gs ts old reply) = catalogue number p q r k gs ts old ≡ reply
 Holds (ranked number p q r gs ts old reply) = rank number p q r 0 gs ts old ≡ reply
+Holds (listedFormulae number p q r gs ts rows old reply) = formulaeOf number p q r gs ts rows old ≡ reply
 
 abbrev pub entriesOf : (ell found shown : ℕ) (buffer : List ℕ) → Answer Catalogued
 entriesOf ell found shown buffer = accepted (record { ell = ell; found = found; shown = shown; buffer = buffer })
@@ -53,6 +58,10 @@ entriesOf ell found shown buffer = accepted (record { ell = ell; found = found; 
 -- P: "poly 2,2: k = 3 finds one entry, extension `-`, basis `8 6 1`"
 abbrev pub three : Line
 three = catalogued 0 2 2 0 3 [] [] (0 ∷ 0 ∷ 0 ∷ 5 ∷ []) (entriesOf 3 1 1 (8 ∷ 6 ∷ 1 ∷ 5 ∷ []))
+
+-- P: "its only formula is 0 4 8 with rows 1, 7, 2"
+abbrev pub karatsuba : Line
+karatsuba = listedFormulae 0 2 2 0 [] [] (8 ∷ 6 ∷ 1 ∷ []) (5 ∷ 5 ∷ 5 ∷ 5 ∷ 5 ∷ 5 ∷ 5 ∷ []) (accepted (record { listed = 1; whole = true; buffer = 0 ∷ 4 ∷ 8 ∷ 1 ∷ 7 ∷ 2 ∷ 5 ∷ [] }))
 
 -- P: "poly 2,2: k = 4 finds one, extension 1; k = 5 finds none."
 abbrev pub four : Line
@@ -75,6 +84,10 @@ listOne = catalogued 4 2 3 1 1 (1 ∷ 2 ∷ 3 ∷ []) (3 ∷ []) (0 ∷ []) (ent
 abbrev pub listTwo : Line
 listTwo = catalogued 4 2 3 1 2 (1 ∷ 2 ∷ 3 ∷ []) (3 ∷ []) (7 ∷ 7 ∷ 7 ∷ 7 ∷ []) (entriesOf 1 1 1 (0 ∷ 2 ∷ 1 ∷ 7 ∷ []))
 
+-- P: "with formulae 0 1, 0 2 and 1 2"
+abbrev pub listFormulae : Line
+listFormulae = listedFormulae 4 2 3 1 (1 ∷ 2 ∷ 3 ∷ []) (3 ∷ []) (2 ∷ 1 ∷ []) (7 ∷ 7 ∷ 7 ∷ 7 ∷ 7 ∷ 7 ∷ 7 ∷ 7 ∷ 7 ∷ []) (accepted (record { listed = 3; whole = true; buffer = 0 ∷ 1 ∷ 3 ∷ 0 ∷ 2 ∷ 2 ∷ 1 ∷ 2 ∷ 2 ∷ [] }))
+
 -- P: "list of 2 bits, menu 1, target 2: Beyond. Target 0 instead: Rank 0."
 abbrev pub far : Line
 far = ranked 4 2 1 1 (1 ∷ []) (2 ∷ []) [] (accepted beyond)
@@ -87,7 +100,7 @@ abbrev pub one : Line
 one = ranked 0 1 1 0 [] [] (7 ∷ 7 ∷ 7 ∷ []) (accepted (is 1 (0 ∷ 1 ∷ 7 ∷ [])))
 
 abbrev pub table : List Line
-table = three ∷ four ∷ five ∷ right ∷ wrong ∷ listOne ∷ listTwo ∷ far ∷ nothing ∷ one ∷ []
+table = three ∷ karatsuba ∷ four ∷ five ∷ right ∷ wrong ∷ listOne ∷ listTwo ∷ listFormulae ∷ far ∷ nothing ∷ one ∷ []
 
 holds-three : Holds three
 unfolding bit digitsOf top clear reduce norm place insert inserts basisOf dim risingLists anyOf only firstOfEach sameVec sameBasis inside generator chosen generatorsIn fits space entries kindNumbered within polySizes listSizes wide zeroIn formOf productForm pair targetForm generatorCount firstMask secondMask generatorForm listOf generatorForms countOf targetForms repeats listed mapped posed records flat fitting listing catalogue
@@ -129,5 +142,13 @@ holds-one : Holds one
 unfolding bit digitsOf top clear reduce norm place insert inserts basisOf dim risingLists anyOf only firstOfEach sameVec sameBasis inside generator chosen generatorsIn fits space entries formulae leastFrom missed fewest kindNumbered within polySizes listSizes wide zeroIn formOf productForm pair targetForm generatorCount firstMask secondMask generatorForm listOf generatorForms countOf targetForms repeats listed mapped posed rowOf formulaRecord ranking rank
 holds-one = refl
 
+holds-karatsuba : Holds karatsuba
+unfolding bit digitsOf top clear reduce norm place insert inserts basisOf dim risingLists anyOf only sameVec sameBasis inside generator chosen generatorsIn fits formulae kindNumbered within polySizes listSizes wide zeroIn formOf productForm pair targetForm generatorCount firstMask secondMask generatorForm listOf generatorForms countOf targetForms repeats listed mapped posed rowOf formulaRecord flat fitting isEntry space.listing formulaeOf
+holds-karatsuba = refl
+
+holds-listFormulae : Holds listFormulae
+unfolding bit digitsOf top clear reduce norm place insert inserts basisOf dim risingLists anyOf only sameVec sameBasis inside generator chosen generatorsIn fits formulae kindNumbered within polySizes listSizes wide zeroIn formOf productForm pair targetForm generatorCount firstMask secondMask generatorForm listOf generatorForms countOf targetForms repeats listed mapped posed rowOf formulaRecord flat fitting isEntry space.listing formulaeOf
+holds-listFormulae = refl
+
 pub worked : (l : Line) → List·Memᴰ l table → Holds l
-worked = mem-cons {P = Holds} holds-three (mem-cons {P = Holds} holds-four (mem-cons {P = Holds} holds-five (mem-cons {P = Holds} holds-right (mem-cons {P = Holds} holds-wrong (mem-cons {P = Holds} holds-listOne (mem-cons {P = Holds} holds-listTwo (mem-cons {P = Holds} holds-far (mem-cons {P = Holds} holds-nothing (mem-cons {P = Holds} holds-one (λ l m. absurd (List·Memᴰ·not-nil m)))))))))))
+worked = mem-cons {P = Holds} holds-three (mem-cons {P = Holds} holds-karatsuba (mem-cons {P = Holds} holds-four (mem-cons {P = Holds} holds-five (mem-cons {P = Holds} holds-right (mem-cons {P = Holds} holds-wrong (mem-cons {P = Holds} holds-listOne (mem-cons {P = Holds} holds-listTwo (mem-cons {P = Holds} holds-listFormulae (mem-cons {P = Holds} holds-far (mem-cons {P = Holds} holds-nothing (mem-cons {P = Holds} holds-one (λ l m. absurd (List·Memᴰ·not-nil m)))))))))))))
