@@ -42,7 +42,7 @@ fn next_place(b: u8, at: usize, n: usize) -> usize
     if at < n { at + 1 } else { at }
 }
 
-// The numbers of a text, each ended by a byte that is no digit; how many there are.
+// The numbers of a text, each ended by a byte below the digits; how many there are.
 fn numbers(text: &[u8], out: &mut [u64]) -> usize
     ensures { λ r. ⌜ r ≤ length (now (out .exit)) ⌝ }
 {
