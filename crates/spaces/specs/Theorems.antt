@@ -4,7 +4,7 @@
 -- The definitions: formulaeOf, isEntry (Spaces), posed (problems), Solution (linear, Entry), Formula (linear, laws/Formulae), formulaRecord (choice). Assumes nothing.
 use mathlib.Core.Path.{_≡_, refl, sym, _∙_, subst}
 use mathlib.Core.Logic.{_↔_}
-use mathlib.Core.Bool.{Bool, true, false, not, true≢false}
+use mathlib.Core.Bool.{true, false, not}
 use mathlib.Core.List.{List, [], _++_, map, List·Memᴰ, List·Memᴰ·head}
 use mathlib.Core.Option.{some}
 use Prim.Native.Nat.{ℕ, _+_, _*_, _^_, _<_}
@@ -12,6 +12,7 @@ use lib.ListN.{length, take, drop}
 use lib.Dec.{ltb}
 use borrow.Author.Tests.{eqb-true, eq-eqb}
 use Rattle.kinds.specs.Refusal.{accepted, refuse}
+use Rattle.kinds.specs.SizeLaws.{not-no}
 use Rattle.kinds.specs.RefusalLaws.{accepted-inj, follow-inv, refuse-inv}
 use Rattle.forms.specs.Row.{rowForm}
 use Rattle.problems.specs.Problem.{Problem, posed}
@@ -86,10 +87,6 @@ formulae-means number p q r gs ts rows old f e =
     let k = refuse-inv 10 (not (isEntry (x .generators) (x .targets) rows)) (accepted (listing x rows old)) f (j .1) in
     let E = is-entry (x .generators) (x .targets) rows .0 (not-no (isEntry (x .generators) (x .targets) rows) (k .0)) in
     (x, i .1, j .0, subst (FormulaeMeans (x .generators) (x .targets) rows old) (accepted-inj (listing x rows old) f (k .1)) (listing-means x rows E old))
-  where
-    not-no : (b : Bool) → not b ≡ false → b ≡ true
-    not-no true z = refl
-    not-no false z = absurd (true≢false z)
 
 -- Rank says the first formula of the first entry's space. The rows of that space are accepted, and the list for them begins with Rank's formula.
 pub record RankFirst (gens targets es : List ℕ) : Type 0 where

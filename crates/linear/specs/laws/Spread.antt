@@ -12,7 +12,7 @@
 use mathlib.Core.Path.{_≡_, refl, sym, ap, ap₂, _∙_, subst}
 use mathlib.Core.Logic.{_≢_, _⊎_, inl, inr}
 use mathlib.Core.Bool.{Bool, true, false, cond, not, _&&_, true≢false, false≢true, and-eq-true-iff}
-use mathlib.Core.List.{List, [], _∷_, _++_, map, append-nil, List·Memᴰ, List·Memᴰ·head, List·Memᴰ·tail, List·Memᴰ·not-nil, List·Memᴰ·append-cases, Memᴰ·append-left, Memᴰ·append-right}
+use mathlib.Core.List.{List, [], _∷_, _++_, map, List·Memᴰ, List·Memᴰ·head, List·Memᴰ·tail, List·Memᴰ·not-nil, List·Memᴰ·append-cases, Memᴰ·append-left, Memᴰ·append-right}
 use Prim.Native.Nat.{ℕ, zero, suc, _+_, _-_, _<_, _≤_}
 use native.Mathlib.Omega.{arith}
 use native.Mathlib.Numerals.{add-one}
@@ -29,15 +29,15 @@ use Rattle.linear.specs.Entry.{sameBasis, inside, generator, chosen, spa
 use Rattle.linear.specs.Formulae.{formulae}
 use Rattle.linear.specs.Walk.{walk}
 use Rattle.linear.specs.Spread.{later, completes, passed, spread, Inner}
-use Rattle.linear.specs.laws.Span.{mem-cons, span-mem, span-bind, span-head, span-mono}
+use Rattle.linear.specs.laws.Span.{mem-cons, span-mem, span-bind}
 use Rattle.linear.specs.laws.Reduce.{member}
-use Rattle.linear.specs.laws.Insert.{insert-old, insert-reduced, insert-span, insert-length-new, inserts-reduced, inserts-span, basisOf-reduced}
+use Rattle.linear.specs.laws.Insert.{insert-old, insert-reduced, insert-span, insert-length-new, inserts-reduced, inserts-span}
 use Rattle.linear.specs.laws.Dimension.{Fresh, unique, sub-length, same-size, basisOf-is, fresh-of-length}
 use Rattle.linear.specs.laws.Order.{rising-sound, mem-getD}
 use Rattle.linear.specs.laws.Select.{mem-only}
 use Rattle.linear.specs.laws.Entry.{sameBasis-yes, same-yes, inside-yes, yes-inside, no-inside}
 use Rattle.linear.specs.laws.Extension.{chosen-length, chosen-append}
-use Rattle.linear.specs.laws.Pruned.{pruned, pruned-is, fresh-append}
+use Rattle.linear.specs.laws.Pruned.{pruned-is, fresh-append}
 use Rattle.linear.specs.laws.Walk.{pruned-same, pruned-pruned, walk-none, Further}
 
 -- tests that agree on the members of a list choose the same

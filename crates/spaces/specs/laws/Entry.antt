@@ -5,15 +5,15 @@
 -- Assumes nothing.
 use mathlib.Core.Path.{_≡_, refl, sym, ap, ap₂, _∙_, subst}
 use mathlib.Core.Logic.{_↔_}
-use mathlib.Core.Bool.{Bool, true, false, not, _&&_, true≢false, false≢true, and-eq-true-iff}
-use mathlib.Core.List.{List, [], List·Memᴰ}
-use Prim.Native.Nat.{ℕ, _<_, _≤_}
+use mathlib.Core.Bool.{Bool, true, false, not, _&&_, false≢true, and-eq-true-iff}
+use mathlib.Core.List.{List, []}
+use Prim.Native.Nat.{ℕ, _≤_}
 use native.Mathlib.Omega.{arith}
 use lib.ListN.{length}
 use lib.Dec.{eqb, leb}
-use borrow.Author.Tests.{eq-eqb, eqb-true, eqb-false, leb-true, le-leb, lt-leb}
-use Rattle.linear.specs.Span.{Span}
-use Rattle.linear.specs.Basis.{basisOf, inserts, Reduced, dim}
+use borrow.Author.Tests.{eq-eqb, eqb-true, eqb-false, le-leb, lt-leb}
+use Rattle.kinds.specs.SizeLaws.{not-yes, not-no}
+use Rattle.linear.specs.Basis.{basisOf, Reduced, dim}
 use Rattle.linear.specs.Select.{anyOf}
 use Rattle.linear.specs.Entry.{sameBasis, inside, generatorsIn, fits, Solution}
 use Rattle.linear.specs.Spread.{later, completes}
@@ -37,14 +37,6 @@ test-same d k h = go (eqb d k) refl
 module _ (gens targets rows : List ℕ) where
   abbrev outside : ℕ → Bool
   outside t = not (inside word rows t)
-
-  not-yes : (b : Bool) → not b ≡ true → b ≡ false
-  not-yes true e = absurd (false≢true e)
-  not-yes false e = refl
-
-  not-no : (b : Bool) → not b ≡ false → b ≡ true
-  not-no true e = refl
-  not-no false e = absurd (true≢false e)
 
   pub is-entry : (isEntry gens targets rows ≡ true) ↔ Solution word gens targets (length rows) rows
   unfolding isEntry

@@ -6,13 +6,12 @@
 --   told-all, told-more                   what it gives there is the listing: all, or more
 -- Assumes nothing.
 use mathlib.Core.Path.{_≡_, refl, sym, ap, ap₂, _∙_, subst}
-use mathlib.Core.Logic.{_≢_, _⊎_, inl, inr}
+use mathlib.Core.Logic.{_≢_}
 use mathlib.Core.Bool.{Bool, true, false}
 use mathlib.Core.List.{List, [], _++_, map, List·Memᴰ}
 use Prim.Native.Nat.{ℕ, zero, suc, _+_, _-_, _*_, _/_, _<_, _≤_, min}
 use native.Mathlib.Omega.{arith}
-use native.Mathlib.Decide.{decLe}
-use lib.ListN.{length, take, drop, length-append, length-map, length-take, replicate, length-replicate}
+use lib.ListN.{length, take, drop, length-append, length-map, length-take}
 use lib.Seq.{take-take}
 use lib.Dec.{eqb}
 use borrow.Author.Tests.{eq-eqb, ne-eqb}
@@ -21,14 +20,14 @@ use Rattle.linear.specs.Entry.{chosen, Solution}
 use Rattle.linear.specs.Formulae.{formulae}
 use Rattle.linear.specs.Spread.{Inner}
 use Rattle.linear.specs.Word.{word}
-use Rattle.linear.specs.laws.Span.{span-nil, span-nul, span-none}
+use Rattle.linear.specs.laws.Span.{span-nil, span-none}
 use Rattle.linear.specs.laws.Order.{mem-map-inv}
 use Rattle.linear.specs.laws.Formulae.{formulae-are}
 use Rattle.bases.specs.declared.Basis.{Basis}
-use Rattle.bases.specs.Basis.{rowsOf, Valid, Holds}
+use Rattle.bases.specs.Basis.{rowsOf, Holds}
 use Rattle.rows.specs.Rows.{rowOf}
 use Rattle.choice.specs.declared.Choice.{Choice}
-use Rattle.choice.specs.Choice.{numbersOf, formsOf, Whole, Chose, formulaRecord}
+use Rattle.choice.specs.Choice.{Whole, formulaRecord}
 use Rattle.walk.specs.declared.Tally.{Tally}
 use Rattle.walk.specs.Records.{State, run}
 use Rattle.walk.specs.Walk.{stateOf}

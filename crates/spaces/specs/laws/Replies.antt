@@ -14,6 +14,7 @@ use lib.ListN.{length, take}
 use lib.Seq.{length-take-le}
 use lib.Dec.{ltb}
 use borrow.Author.Tests.{lt-ltb, le-ltb}
+use Rattle.kinds.specs.SizeLaws.{not-no}
 use Rattle.kinds.specs.Refusal.{Answer, refused, accepted, refuse, follow}
 use Rattle.problems.specs.Problem.{Problem, problem, posed}
 use Rattle.problems.specs.declared.Posed.{Posed}
@@ -79,19 +80,12 @@ module _ (gens targets rows old : List ℕ) where
         no true q z = absurd (let y : _≡_ {A = ℕ} 0 1 = cc in omega arith)
         no false q z = near false q
 
-    truth : not t ≡ false → t ≡ true
-    truth e = go t e
-      where
-        go : (u : Bool) → not u ≡ false → u ≡ true
-        go true z = refl
-        go false z = sym z
-
     pub is-accepted : not t ≡ false → Some targets → Accepted gens targets rows
-    is-accepted e S = record { entry = is-entry gens targets rows .0 (sym (R .is) ∙ truth e); few = R .room (truth e); some-target = S .some-target; targets-few = S .few }
+    is-accepted e S = record { entry = is-entry gens targets rows .0 (sym (R .is) ∙ not-no t e); few = R .room (not-no t e); some-target = S .some-target; targets-few = S .few }
 
     pub given-yes : not t ≡ false → (r : Reply) (after : List ℕ) → Told gens targets rows old r after → Given gens targets rows old r after
     given-yes e r after T =
-        let q = near true (truth e) in
+        let q = near true (not-no t e) in
         record {
           replied = (
             q ∙ T .answer,

@@ -19,55 +19,42 @@ Inv-loop gens w start k n d₀ i₀ d i = Completing gens w (rowsOf d₀) start 
 abbrev μ-loop : tie.MeasureT-loop
 μ-loop gens w start k n d₀ i₀ d i = length gens - i
 
--- src/lib.rt:25:5
 loop-holds : tie.Need-loop-holds Inv-loop μ-loop
 loop-holds c = record { valid = c .before .before .pre; is = refl }
 
--- src/lib.rt:27:13
 returns : tie.Need-returns Inv-loop μ-loop
 returns c = completing-full (c .before .before .before .before .before .before .args .gens .now) (c .before .before .before .before .before .before .args .w .now) (rowsOf (c .before .before .before .before .before .before .args .b)) (c .before .before .before .before .before .before .args .start) (c .before .before .before .loop .d) (c .before .before .before .loop .i) (c .before .before .before .loop .inv) (c .if1 .taken)
 
--- src/lib.rt:29:17
 mul-g : tie.Need-mul-g Inv-loop μ-loop
 mul-g c = omega arith
 
--- src/lib.rt:29:17
 shared-slice-read-g : tie.Need-shared-slice-read-g Inv-loop μ-loop
 shared-slice-read-g c = omega arith
 
--- src/lib.rt:30:12
 reduce-rows-requires : tie.Need-reduce-rows-requires Inv-loop μ-loop
 reduce-rows-requires c κs = search needs
 
--- src/lib.rt:31:13
 insert-requires : tie.Need-insert-requires Inv-loop μ-loop
 insert-requires c κs = c .before .before .before .before .before .before .loop .inv .valid
 
--- src/lib.rt:32:13
 add-i : tie.Need-add-i Inv-loop μ-loop
 add-i c = omega arith
 
--- src/lib.rt:25:5
 loop-less : tie.Need-loop-less Inv-loop μ-loop
 loop-less c = omega arith
 
--- src/lib.rt:25:5
 loop-again : tie.Need-loop-again Inv-loop μ-loop
 loop-again c = completing-in (c .before .before .before .before .before .before .before .before .before .before .args .gens .now) (c .before .before .before .before .before .before .before .before .before .before .args .w .now) (rowsOf (c .before .before .before .before .before .before .before .before .before .before .args .b)) (c .before .before .before .before .before .before .before .before .before .before .args .start) (c .before .before .before .before .before .before .before .loop .d) (c .before .before .before .before .before .before .before .loop .i) (c .before .before .before .before .before .before .before .loop .inv) (c .before .before .before .before .before .before .loop-test .taken) (c .before .before .reduce-rows .result) (c .before .before .reduce-rows .ensures) (c .before .if2 .taken) (c .insert .result) (c .insert .ensures)
 
--- src/lib.rt:34:13
 add-i-2 : tie.Need-add-i-2 Inv-loop μ-loop
 add-i-2 c = omega arith
 
--- src/lib.rt:25:5
 loop-less-2 : tie.Need-loop-less-2 Inv-loop μ-loop
 loop-less-2 c = omega arith
 
--- src/lib.rt:25:5
 loop-again-2 : tie.Need-loop-again-2 Inv-loop μ-loop
 loop-again-2 c = completing-out (c .before .before .before .before .before .before .before .before .before .args .gens .now) (c .before .before .before .before .before .before .before .before .before .args .w .now) (rowsOf (c .before .before .before .before .before .before .before .before .before .args .b)) (c .before .before .before .before .before .before .before .before .before .args .start) (c .before .before .before .before .before .before .loop .d) (c .before .before .before .before .before .before .loop .i) (c .before .before .before .before .before .before .loop .inv) (c .before .before .before .before .before .loop-test .taken) (c .before .reduce-rows .result) (c .before .reduce-rows .ensures) (c .if2 .left)
 
--- src/lib.rt:17:1
 returns-2 : tie.Need-returns-2 Inv-loop μ-loop
 returns-2 c = completing-end (c .before .before .before .before .before .args .gens .now) (c .before .before .before .before .before .args .w .now) (rowsOf (c .before .before .before .before .before .args .b)) (c .before .before .before .before .before .args .start) (c .before .before .loop .d) (c .before .before .loop .i) (c .before .before .loop .inv) (c .before .loop-test .left)
 

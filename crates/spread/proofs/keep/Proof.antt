@@ -8,47 +8,36 @@ use Rattle.spread.proofs.keep.Reads as reads
 use Rattle.spread.proofs.keep.Lts as lts
 use Rattle.choice.proofs.write_formula.Reads as write-formula-reads
 
--- src/lib.rt:46:9
 returns : tie.Need-returns
 returns c = keep-full (c .before .before .before .before .args .limit) (c .before .before .before .before .args .t) (c .before .before .before .before .args .out .now) (c .before .before .before .before .args .c) (c .before .before .before .before .args .targets .now) (c .if1 .taken)
 
--- src/lib.rt:49:16
 add-size : tie.Need-add-size
 add-size c = search needs
 
--- src/lib.rt:50:8
 sub-if2 : tie.Need-sub-if2
 sub-if2 c = search needs
 
--- src/lib.rt:52:20
 add-t11 : tie.Need-add-t11
 add-t11 c = search needs
 
--- src/lib.rt:51:9
 returns-2 : tie.Need-returns-2
 returns-2 c = let i = c .before .before .before .before .before .before .before .pre .sane .inside in let h = c .before .if2 .taken in keep-short (c .before .before .before .before .before .before .before .args .limit) (c .before .before .before .before .before .before .before .args .t) (c .before .before .before .before .before .before .before .args .out .now) (c .before .before .before .before .before .before .before .args .c) (c .before .before .before .before .before .before .before .args .targets .now) (c .before .before .before .before .before .before .before .pre .whole) (c .before .before .before .if1 .left) (omega arith)
 
--- src/lib.rt:57:5
 write-formula-requires : tie.Need-write-formula-requires
 write-formula-requires c κs = search needs
 
--- src/lib.rt:59:16
 add-t15 : tie.Need-add-t15
 add-t15 c = search needs
 
--- src/lib.rt:60:16
 add-t9 : tie.Need-add-t9
 add-t9 c = search needs
 
--- src/lib.rt:61:13
 add-t10 : tie.Need-add-t10
 add-t10 c = search needs
 
--- src/lib.rt:41:1
 same-length : tie.Need-same-length
 same-length c = search needs
 
--- src/lib.rt:41:1
 returns-3 : tie.Need-returns-3
 returns-3 c = let i = c .before .before .before .before .before .before .before .before .before .before .before .before .pre .sane .inside in let h = c .before .before .before .before .before .before .if2 .left in keep-fits (c .before .before .before .before .before .before .before .before .before .before .before .before .args .limit) (c .before .before .before .before .before .before .before .before .before .before .before .before .args .t) (c .before .before .before .before .before .before .before .before .before .before .before .before .args .out .now) (c .before .before .before .before .before .before .before .before .before .before .before .before .args .c) (c .before .before .before .before .before .before .before .before .before .before .before .before .args .targets .now) (c .before .before .before .before .before .before .before .before .before .before .before .before .pre .whole) (c .before .before .before .before .before .before .before .before .if1 .left) (omega arith) _ (c .before .before .before .before .write-formula .ensures)
 
