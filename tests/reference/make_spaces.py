@@ -9,8 +9,8 @@ one line of decimal numbers:
     call number p q r w c u v x  g_0 .. g_(c-1)  t_0 .. t_(u-1)  o_0 .. o_(v-1)
 
 with the kind by its number.  Call 0 asks for the formulae of the space with the
-rows o, in a buffer of w words, at most 4096, of which word i holds 1000000 + i
-before the call; call 1 whether the form x is a sum of the selection o; call 2
+rows o, in a buffer of w words, at most 4096, each of which holds 1000000 before
+the call; call 1 whether the form x is a sum of the selection o; call 2
 whether the product with the number x is redundant in it.  The reply is one line
 as well; behind it, in a call 0, ` :` and the buffer after the call, or its
 digest alone where it has more than 64 words:
@@ -51,7 +51,7 @@ def shown(words):
 
 def reply(call, number, p, q, r, w, x, gs, ts, others):
     """What is said, and what stands behind it."""
-    before = [1000000 + i for i in range(w)]
+    before = [1000000] * w
     kind = KINDS[number] if number < 5 else b"?"
     try:
         if call == FORMULAE:

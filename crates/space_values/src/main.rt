@@ -81,15 +81,6 @@ fn print_number(word: &[u8], x: u64) {
     print_next(x);
 }
 
-// Word i of a buffer holds 1000000 + i before a call.
-fn mark(out: &mut [u64]) {
-    let mut i: usize = 0;
-    while i < out.len() {
-        out[i] = 1000000 + i as u64;
-        i += 1;
-    }
-}
-
 // What is said of a space's formulae.
 fn print_listed(said: Listed) {
     match said {
@@ -143,17 +134,16 @@ fn list_formulae(
     rows: &[u64],
     out: &mut [u64],
 ) {
-    mark(out);
     let said = spaces::formulae(number, p, q, r, gs, ts, rows, out);
     print_listed(said);
     print_buffer(out);
 }
 
-// The formulae of a space, in a buffer of as many words as the call asks for, of 4096 at most.
+// The formulae of a space, in a buffer of as many words as the call asks for, of 4096 at most; each holds 1000000 before the call.
 fn call_formulae(head: &[u64], gs: &[u64], ts: &[u64], rows: &[u64])
     requires { ⌜ 10 ≤ length (now head) ⌝ }
 {
-    let mut buffer = [0u64; 4096];
+    let mut buffer = [1000000u64; 4096];
     let w = head[5] as usize;
     if w > 4096 {
         return;
@@ -174,13 +164,16 @@ fn call_formulae(head: &[u64], gs: &[u64], ts: &[u64], rows: &[u64])
 fn call_selection(head: &[u64], gs: &[u64], ts: &[u64], sel: &[u64])
     requires { ⌜ 10 ≤ length (now head) ⌝ }
 {
+    let number = head[1];
+    let p = head[2];
+    let q = head[3];
+    let r = head[4];
+    let x = head[9];
     if head[0] == 1 {
-        print_said(selections::is_sum(head[1], head[2], head[3], head[4], gs, ts, sel, head[9]));
+        print_said(selections::is_sum(number, p, q, r, gs, ts, sel, x));
         return;
     }
-    print_said(
-        selections::is_redundant(head[1], head[2], head[3], head[4], gs, ts, sel, head[9]),
-    );
+    print_said(selections::is_redundant(number, p, q, r, gs, ts, sel, x));
 }
 
 // The call that some words start with: 0 for the formulae of a space.
@@ -194,6 +187,18 @@ fn call_one(head: &[u64], gs: &[u64], ts: &[u64], others: &[u64])
     call_selection(head, gs, ts, others);
 }
 
+// The end of a stretch of some words from a place, or the end of all n where they are too few.
+fn past(at: usize, some: u64, n: usize) -> usize
+    requires { ⌜ at ≤ n ⌝ }
+    ensures { λ r. ⌜ (at ≤ r) × (r ≤ n) ⌝ }
+{
+    let m = some as usize;
+    if m > n - at {
+        return n;
+    }
+    at + m
+}
+
 // The call at the start of some words; the number of words it takes, or all of them where they are too few.
 fn call_at(words: &[u64]) -> usize
     ensures { λ r. ⌜ (1 ≤ length (now (words .entry)) → 1 ≤ r) × (r ≤ length (now (words .entry))) ⌝ }
@@ -202,21 +207,9 @@ fn call_at(words: &[u64]) -> usize
     if n < 10 {
         return n;
     }
-    let c = words[6] as usize;
-    if c > n - 10 {
-        return n;
-    }
-    let a = 10 + c;
-    let u = words[7] as usize;
-    if u > n - a {
-        return n;
-    }
-    let b = a + u;
-    let v = words[8] as usize;
-    if v > n - b {
-        return n;
-    }
-    let end = b + v;
+    let a = past(10, words[6], n);
+    let b = past(a, words[7], n);
+    let end = past(b, words[8], n);
     call_one(words, &words[10..a], &words[a..b], &words[b..end]);
     io::write_all(STDOUT_FILENO, b"\n");
     end
@@ -231,9 +224,9 @@ fn call_all(words: &[u64]) {
 }
 
 fn main() {
-    let mut text = [0u8; 65536];
+    let mut text = [0u8; 131072];
     let n = io::read_full(STDIN_FILENO, &mut text);
-    let mut found = [0u64; 32768];
+    let mut found = [0u64; 65536];
     let c = numbers(&text[..n], &mut found);
     call_all(&found[..c]);
 }

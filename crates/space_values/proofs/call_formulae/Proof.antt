@@ -33,7 +33,7 @@ slice-aggregate-list-formulae : tie.Need-slice-aggregate-list-formulae
 slice-aggregate-list-formulae c =
     let w = getD (c .before .before .before .before .before .before .before .before .before .before .before .args .head .now) 5 0 in
     let most : w ≤ 4096 = omega arith in
-    sym (length-take-le w (replicate 4096 0) most)
+    sym (length-take-le w (replicate 4096 1000000) most)
 
 list-formulae-requires : tie.Need-list-formulae-requires
 list-formulae-requires c κs = search needs
