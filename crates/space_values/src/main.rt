@@ -1,0 +1,232 @@
+// Runs each call that standard input has, and prints its reply and the lent buffer. `tests/reference/make_spaces.py` has the form of a call.
+ghost use Prim.Native.Nat.{_≤_};
+ghost use lib.ListN.{length};
+use libc::STDIN_FILENO;
+use libc::STDOUT_FILENO;
+use selections::Said;
+use spaces::Listed;
+
+// x with the decimal digit d behind it, where that is a word.
+fn with_digit(x: u64, d: u64) -> u64
+    requires { ⌜ d ≤ 9 ⌝ }
+{
+    if x > 1844674407370955161 {
+        return 0;
+    }
+    let y = x * 10;
+    if d > 18446744073709551615 - y {
+        return 0;
+    }
+    y + d
+}
+
+// The number read so far, behind the byte b; 0 behind a byte that is no digit.
+fn next_value(b: u8, x: u64) -> u64 {
+    if b < 48 {
+        return 0;
+    }
+    if b > 57 {
+        return 0;
+    }
+    with_digit(x, (b - 48) as u64)
+}
+
+// The place of the next number, among n.
+fn next_place(b: u8, at: usize, n: usize) -> usize
+    requires { ⌜ at ≤ n ⌝ }
+    ensures { λ r. ⌜ r ≤ n ⌝ }
+{
+    if b > 47 {
+        return at;
+    }
+    if at < n { at + 1 } else { at }
+}
+
+// The numbers of a text, each ended by a byte below the digits; how many there are.
+fn numbers(text: &[u8], out: &mut [u64]) -> usize
+    ensures { λ r. ⌜ r ≤ length (now (out .exit)) ⌝ }
+{
+    let mut x: u64 = 0;
+    let mut at: usize = 0;
+    let mut i: usize = 0;
+    while i < text.len() {
+        let b = text[i];
+        words::put_word(out, at, x);
+        at = next_place(b, at, out.len());
+        x = next_value(b, x);
+        i += 1;
+    }
+    at
+}
+
+// A space and a number.
+fn print_next(x: u64) {
+    io::write_all(STDOUT_FILENO, b" ");
+    io::print_decimal(STDOUT_FILENO, x);
+}
+
+// Some numbers, and a colon before them.
+fn print_words(xs: &[u64]) {
+    io::write_all(STDOUT_FILENO, b" :");
+    let mut i: usize = 0;
+    while i < xs.len() {
+        print_next(xs[i]);
+        i += 1;
+    }
+}
+
+// A word, and a number behind it.
+fn print_number(word: &[u8], x: u64) {
+    io::write_all(STDOUT_FILENO, word);
+    print_next(x);
+}
+
+// What is said of a space's formulae.
+fn print_listed(said: Listed) {
+    match said {
+        Listed::Refused(e) => print_number(b"refused", e),
+        Listed::All(n) => print_number(b"all", n as u64),
+        Listed::More(n) => print_number(b"more", n as u64),
+    }
+}
+
+// What is said of a selection.
+fn print_said(said: Said) {
+    match said {
+        Said::Refused(e) => print_number(b"refused", e),
+        Said::Yes => {
+            io::write_all(STDOUT_FILENO, b"yes");
+        }
+        Said::No => {
+            io::write_all(STDOUT_FILENO, b"no");
+        }
+    }
+}
+
+// One number for all words of a buffer and their order.
+fn digest(xs: &[u64]) -> u64 {
+    let mut x: u64 = 0;
+    let mut i: usize = 0;
+    while i < xs.len() {
+        x = (x >> 1 | x << 63) ^ xs[i];
+        i += 1;
+    }
+    x
+}
+
+// A buffer: its words where they are few, else its digest.
+fn print_buffer(out: &[u64]) {
+    if out.len() > 64 {
+        print_next(digest(out));
+        return;
+    }
+    print_words(out);
+}
+
+// The formulae of a space, in a lent buffer.
+fn list_formulae(
+    number: u64,
+    p: u64,
+    q: u64,
+    r: u64,
+    gs: &[u64],
+    ts: &[u64],
+    rows: &[u64],
+    out: &mut [u64],
+) {
+    let said = spaces::formulae(number, p, q, r, gs, ts, rows, out);
+    print_listed(said);
+    print_buffer(out);
+}
+
+// The formulae of a space, in a buffer of as many words as the call asks for, of 4096 at most; each holds 1000000 before the call.
+fn call_formulae(head: &[u64], gs: &[u64], ts: &[u64], rows: &[u64])
+    requires { ⌜ 10 ≤ length (now head) ⌝ }
+{
+    let mut buffer = [1000000u64; 4096];
+    let w = head[5] as usize;
+    if w > 4096 {
+        return;
+    }
+    list_formulae(
+        head[1],
+        head[2],
+        head[3],
+        head[4],
+        gs,
+        ts,
+        rows,
+        &mut buffer[..w],
+    );
+}
+
+// A question on a selection: 1 for a sum, else a redundant product.
+fn call_selection(head: &[u64], gs: &[u64], ts: &[u64], sel: &[u64])
+    requires { ⌜ 10 ≤ length (now head) ⌝ }
+{
+    let number = head[1];
+    let p = head[2];
+    let q = head[3];
+    let r = head[4];
+    let x = head[9];
+    if head[0] == 1 {
+        print_said(selections::is_sum(number, p, q, r, gs, ts, sel, x));
+        return;
+    }
+    print_said(selections::is_redundant(number, p, q, r, gs, ts, sel, x));
+}
+
+// The call that some words start with: 0 for the formulae of a space.
+fn call_one(head: &[u64], gs: &[u64], ts: &[u64], others: &[u64])
+    requires { ⌜ 10 ≤ length (now head) ⌝ }
+{
+    if head[0] == 0 {
+        call_formulae(head, gs, ts, others);
+        return;
+    }
+    call_selection(head, gs, ts, others);
+}
+
+// The end of a stretch of some words from a place, or the end of all n where they are too few.
+fn past(at: usize, some: u64, n: usize) -> usize
+    requires { ⌜ at ≤ n ⌝ }
+    ensures { λ r. ⌜ (at ≤ r) × (r ≤ n) ⌝ }
+{
+    let m = some as usize;
+    if m > n - at {
+        return n;
+    }
+    at + m
+}
+
+// The call at the start of some words; the number of words it takes, or all of them where they are too few.
+fn call_at(words: &[u64]) -> usize
+    ensures { λ r. ⌜ (1 ≤ length (now (words .entry)) → 1 ≤ r) × (r ≤ length (now (words .entry))) ⌝ }
+{
+    let n = words.len();
+    if n < 10 {
+        return n;
+    }
+    let a = past(10, words[6], n);
+    let b = past(a, words[7], n);
+    let end = past(b, words[8], n);
+    call_one(words, &words[10..a], &words[a..b], &words[b..end]);
+    io::write_all(STDOUT_FILENO, b"\n");
+    end
+}
+
+// The calls of some words, one after the other.
+fn call_all(words: &[u64]) {
+    let mut at: usize = 0;
+    while at < words.len() {
+        at += call_at(&words[at..]);
+    }
+}
+
+fn main() {
+    let mut text = [0u8; 131072];
+    let n = io::read_full(STDIN_FILENO, &mut text);
+    let mut found = [0u64; 65536];
+    let c = numbers(&text[..n], &mut found);
+    call_all(&found[..c]);
+}
