@@ -30,14 +30,7 @@ fn put_entry(i: u64, xs: &[u64], ys: &[u64], out: &mut [u8], at: usize) -> usize
 }
 
 // The lines of the entries of a listing, whose records have d numbers and k rows, likewise.
-fn put_entries(
-    listing: &[u64],
-    d: usize,
-    k: usize,
-    shown: usize,
-    out: &mut [u8],
-    at: usize,
-) -> usize
+fn put_entries(listing: &[u64], d: usize, k: usize, shown: usize, out: &mut [u8], at: usize) -> usize
     requires { ⌜ Records (now listing) d k shown at ⌝ }
     ensures { λ e. ⌜ Piece (now (out .entry)) at (entriesText d k 0 shown (now (listing .entry))) (21 * (shown * (d + k)) + 25 * shown) (now (out .exit)) e ⌝ }
 {
@@ -45,13 +38,7 @@ fn put_entries(
     let mut i = 0;
     while i < shown {
         let s = i * (d + k);
-        e = put_entry(
-            i as u64,
-            &listing[s..s + d],
-            &listing[s + d..s + d + k],
-            out,
-            e,
-        );
+        e = put_entry(i as u64, &listing[s..s + d], &listing[s + d..s + d + k], out, e);
         i += 1;
     }
     e
@@ -80,14 +67,7 @@ pub fn put_counts(
 }
 
 // The lines of a Catalogue under the first two: the names, and a line for every entry shown.
-fn put_listing(
-    listing: &[u64],
-    d: usize,
-    k: usize,
-    shown: usize,
-    out: &mut [u8],
-    at: usize,
-) -> usize
+fn put_listing(listing: &[u64], d: usize, k: usize, shown: usize, out: &mut [u8], at: usize) -> usize
     requires { ⌜ Records (now listing) d k shown (at + 22) ⌝ }
     ensures { λ e. ⌜ Piece (now (out .entry)) at (entryNames ++ entriesText d k 0 shown (now (listing .entry))) (22 + (21 * (shown * (d + k)) + 25 * shown)) (now (out .exit)) e ⌝ }
 {
