@@ -1,0 +1,3 @@
+-- The steps of the theorem.
+pub mod ListBack
+pub mod FormsBack
