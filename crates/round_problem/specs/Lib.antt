@@ -2,3 +2,4 @@
 pub mod ProblemText
 pub mod laws
 pub mod PrintThenRead
+pub mod AcceptedOnly

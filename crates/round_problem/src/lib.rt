@@ -1,1 +1,1 @@
-// A problem's file that is printed is read back. No code: the texts and the theorem are in specs/.
+// Printing and reading a problem's file are inverse. No code: the texts and the theorems are in specs/.
