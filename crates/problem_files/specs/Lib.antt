@@ -1,0 +1,4 @@
+-- The file of a problem, read.
+pub mod ProblemFile
+pub mod Lent
+pub mod laws

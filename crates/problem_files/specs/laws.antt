@@ -1,0 +1,3 @@
+-- What the code's proofs cite, and what an accepted file has been through.
+pub mod Steps
+pub mod Accepted

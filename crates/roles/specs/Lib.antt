@@ -1,0 +1,4 @@
+-- The lines of a list under the first two.
+pub mod Roles
+pub mod Views
+pub mod laws

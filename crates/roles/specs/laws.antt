@@ -1,0 +1,4 @@
+-- What the code's proofs cite.
+pub mod Line
+pub mod Loop
+pub mod Body

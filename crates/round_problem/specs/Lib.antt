@@ -1,0 +1,5 @@
+-- Printing and reading a problem's file.
+pub mod ProblemText
+pub mod laws
+pub mod PrintThenRead
+pub mod AcceptedOnly

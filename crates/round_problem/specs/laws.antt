@@ -1,0 +1,4 @@
+-- The steps of the theorem.
+pub mod ListBack
+pub mod FormsBack
+pub mod LinesOnly
