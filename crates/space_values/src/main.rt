@@ -139,29 +139,26 @@ fn list_formulae(
     print_buffer(out);
 }
 
-// The formulae of a space, in a buffer of as many words as the call asks for, of 4096 at most; each holds 1000000 before the call.
-fn call_formulae(head: &[u64], gs: &[u64], ts: &[u64], rows: &[u64])
-    requires { ⌜ 10 ≤ length (now head) ⌝ }
-{
-    let mut buffer = [1000000u64; 4096];
-    let w = head[5] as usize;
+// The formulae of a space, in a buffer of w words, 4096 at most; each holds 1000000 before the call.
+fn call_formulae(
+    number: u64,
+    p: u64,
+    q: u64,
+    r: u64,
+    w: u64,
+    gs: &[u64],
+    ts: &[u64],
+    rows: &[u64],
+) {
     if w > 4096 {
         return;
     }
-    list_formulae(
-        head[1],
-        head[2],
-        head[3],
-        head[4],
-        gs,
-        ts,
-        rows,
-        &mut buffer[..w],
-    );
+    let mut buffer = [1000000u64; 4096];
+    list_formulae(number, p, q, r, gs, ts, rows, &mut buffer[..w as usize]);
 }
 
-// A question on a selection: 1 for a sum, else a redundant product.
-fn call_selection(head: &[u64], gs: &[u64], ts: &[u64], sel: &[u64])
+// The call that some words start with: 0 for the formulae of a space, 1 for a sum of a selection, else for a redundant product.
+fn call_one(head: &[u64], gs: &[u64], ts: &[u64], others: &[u64])
     requires { ⌜ 10 ≤ length (now head) ⌝ }
 {
     let number = head[1];
@@ -169,22 +166,15 @@ fn call_selection(head: &[u64], gs: &[u64], ts: &[u64], sel: &[u64])
     let q = head[3];
     let r = head[4];
     let x = head[9];
-    if head[0] == 1 {
-        print_said(selections::is_sum(number, p, q, r, gs, ts, sel, x));
-        return;
-    }
-    print_said(selections::is_redundant(number, p, q, r, gs, ts, sel, x));
-}
-
-// The call that some words start with: 0 for the formulae of a space.
-fn call_one(head: &[u64], gs: &[u64], ts: &[u64], others: &[u64])
-    requires { ⌜ 10 ≤ length (now head) ⌝ }
-{
     if head[0] == 0 {
-        call_formulae(head, gs, ts, others);
+        call_formulae(number, p, q, r, head[5], gs, ts, others);
         return;
     }
-    call_selection(head, gs, ts, others);
+    if head[0] == 1 {
+        print_said(selections::is_sum(number, p, q, r, gs, ts, others, x));
+        return;
+    }
+    print_said(selections::is_redundant(number, p, q, r, gs, ts, others, x));
 }
 
 // The end of a stretch of some words from a place, or the end of all n where they are too few.
