@@ -6,7 +6,7 @@ use mathlib.Core.Path.{_≡_, refl, sym, ap, _∙_, subst}
 use mathlib.Core.Logic.{_⊎_, inl, inr, _↔_}
 use mathlib.Core.Bool.{false, not}
 use mathlib.Core.List.{List, [], _∷_, _++_, map, List·Memᴰ, List·Memᴰ·head}
-use Prim.Native.Nat.{ℕ, _+_, _-_, _*_, _<_, _≤_}
+use Prim.Native.Nat.{ℕ, _+_, _-_, _*_, _^_, _<_, _≤_}
 use native.Mathlib.Omega.{arith}
 use lib.ListN.{length, take, drop}
 use lib.Dec.{ltb, eqb}
@@ -28,7 +28,8 @@ use Rattle.linear.specs.laws.Order.{mem-map, mem-map-inv}
 use Rattle.linear.specs.laws.Rank.{solution-within, entries-below}
 use Rattle.linear.specs.laws.Fewest.{RankFormula}
 use Rattle.rows.specs.Rows.{rowOf}
-use Rattle.rows.specs.laws.Rows.{row-sum}
+use Rattle.rows.specs.laws.Rows.{row-sum, row-only}
+use Rattle.listing.specs.laws.Run.{fitting-none}
 use Rattle.listing.specs.Listing.{records, recordLength, flat, fitting}
 use Rattle.choice.specs.Choice.{formulaRecord}
 use Rattle.fewest.specs.Fewest.{Ranking, is, above, beyond, written, ranking}
@@ -53,7 +54,7 @@ pub record CatalogueMeans (gens targets : List ℕ) (k : ℕ) (old : List ℕ) (
   pub shown : c .shown ≡ fitting (recordLength targets k) (c .found) (length old)
   pub buffer : c .buffer ≡ flat (take (c .shown) (map (λ es. es ++ space word gens targets es) extensions)) ++ drop (c .shown * recordLength targets k) old
   -- "For k below ℓ, or above what the menu spans, found and shown are 0."
-  pub outside : (k < dim word targets) ⊎ (dim word gens < k) → c .found ≡ 0
+  pub outside : (k < dim word targets) ⊎ (dim word gens < k) → (c .found ≡ 0) × (c .shown ≡ 0)
   -- no entry, though the generators span k dimensions: no k or fewer of them compute the targets
   pub none : c .found ≡ 0 → k ≤ dim word gens → (xs : List ℕ) → Chosen word gens xs → length xs ≤ k → Computes word targets xs → ⊥
 
@@ -65,6 +66,7 @@ pub record RankMeans (gens targets old : List ℕ) (a : Ranking) : Type 0 where
       → (es : List ℕ) × (length es ≡ r) × RankFormula word gens targets es × (buffer ≡ filled (es ++ map (rowOf (chosen word gens es)) targets) old)
       -- each target is the sum that its row says, and no other row of r bits says it
       × ((t : ℕ) → List·Memᴰ t targets → rowForm (chosen word gens es) (rowOf (chosen word gens es) t) 0 ≡ t)
+      × ((t row : ℕ) → row < 2 ^ length (chosen word gens es) → rowForm (chosen word gens es) row 0 ≡ t → row ≡ rowOf (chosen word gens es) t)
   -- a number is replied exactly if some ℓ + 6 or fewer generators compute the targets
   pub exactly : ((r : ℕ) × (buffer : List ℕ) × (a ≡ is r buffer)) ↔ ((xs : List ℕ) × Chosen word gens xs × (length xs ≤ dim word targets + 6) × Computes word targets xs)
   -- above exactly if the generators span the targets and no k from ℓ to ℓ + 6 has an entry; beyond exactly if they don't span the targets
@@ -109,7 +111,7 @@ module _ (gens targets : List ℕ) (k : ℕ) where
         first = extension-first word gens targets k;
         shown = refl;
         buffer = refl;
-        outside = nothing-outside;
+        outside = λ h. (nothing-outside h, ap (λ (c : ℕ). fitting (recordLength targets k) c (length old)) (nothing-outside h) ∙ fitting-none (recordLength targets k) (length old));
         none = λ e h xs. no-fewer word gens targets k h (no-entries e) xs;
       }
 
@@ -140,7 +142,7 @@ module _ (gens targets old : List ℕ) where
           let j = refuse-inv 9 (ltb (length old) (length es + length targets)) (accepted (is (length es) (filled (formulaRecord gens targets es) old))) a w in
           subst (RankMeans gens targets old) (accepted-inj (is (length es) (filled (formulaRecord gens targets es) old)) a (j .1))
           (record {
-            number = λ r buffer p. (es, (let z : length es ≡ r = cc in z), rank-formula word gens targets es q, (let z : filled (formulaRecord gens targets es) old ≡ buffer = cc in sym z), formula-means es (rank-formula word gens targets es q));
+            number = λ r buffer p. (es, (let z : length es ≡ r = cc in z), rank-formula word gens targets es q, (let z : filled (formulaRecord gens targets es) old ≡ buffer = cc in sym z), formula-means es (rank-formula word gens targets es q), λ t row h e. row-only (chosen word gens es) t row (rank-formula word gens targets es q .independent) h e);
             exactly = (λ m. rank-exactly word gens targets .0 (es, q), λ m. (length es, filled (formulaRecord gens targets es) old, refl));
             above-exactly = (λ p. clash cc, λ h. clash (let z = rank-above word gens targets .1 h in let y : formula es ≡ formulae.above = sym q ∙ z in cc));
             beyond-exactly = (λ p. clash cc, λ h. clash (let z = rank-beyond word gens targets .1 h in let y : formula es ≡ formulae.beyond = sym q ∙ z in cc));
