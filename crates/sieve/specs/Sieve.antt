@@ -3,7 +3,7 @@
 --   known h i             == by the residues h, the number i brings in nothing, or what an earlier one would
 --   withResidue x gens h  == the generators whose residue is x, in their order
 --   Mapped f l out        == an array of 4,096 words that begins with the list l, mapped by f
---   Barren gens h j k m   == at a space with the residues h, no space for k comes about by the new number j and m - 1 later ones
+--   Barren gens h j k m   == at a space with the residues h, no space for k comes about by the number j, if it is next, and m - 1 later ones, each next in its turn
 --   Worth .. r            == the mark r is 0 only where the child of j is barren
 --   Judged .. r           == the mark r of j is 0 only where j is known or its child barren, and else j is not known
 --   Sieved .. lo hi marks == the numbers from lo on and below hi are so marked
@@ -18,8 +18,9 @@ use lib.Dec.{eqb}
 use Rattle.linear.specs.Basis.{reduce, insert, inserts, Reduced, dim}
 use Rattle.linear.specs.Select.{anyOf}
 use Rattle.linear.specs.Entry.{generator, chosen, generatorsIn}
+use Rattle.linear.specs.Walk.{Next}
 use Rattle.linear.specs.Word.{word, isZero}
-use Rattle.linear.specs.laws.Order.{RisingList}
+use Rattle.linear.specs.laws.Canonical.{Steps}
 
 unfoldable pub residues : List ℕ → List ℕ → List ℕ
 residues gens C = map (reduce word C) gens
@@ -37,8 +38,8 @@ pub record Mapped (f : ℕ → ℕ) (l out : List ℕ) : Type 0 where
   pub is : take (length l) out ≡ map f l
 
 pub record Barren (gens h : List ℕ) (j k missing : ℕ) : Type 0 where
-  pub none : (C : List ℕ) → Reduced word C → h ≡ residues gens C → reduce word C (generator word gens j) ≢ 0
-      → (es : List ℕ) → RisingList (missing - 1) (j + 1) (length gens) es
+  pub none : (C : List ℕ) → Reduced word C → h ≡ residues gens C → Next word gens C j
+      → (es : List ℕ) → length es ≡ missing - 1 → Steps word gens (insert word C (generator word gens j)) (j + 1) (length gens) es
       → dim word (generatorsIn word gens (inserts word (insert word C (generator word gens j)) (chosen word gens es))) ≢ k
 
 pub record Worth (gens h : List ℕ) (j k missing r : ℕ) : Type 0 where
