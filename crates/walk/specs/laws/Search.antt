@@ -20,9 +20,10 @@ use Rattle.linear.specs.Entry.{generator, chosen, generatorsIn, space, entries}
 use Rattle.linear.specs.Walk.{spans, walk}
 use Rattle.linear.specs.Word.{word}
 use Rattle.linear.specs.laws.Walk.{walk-is, walk-none}
-use Rattle.sieve.specs.Sieve.{residues, known, withResidue, Barren}
-use Rattle.sieve.specs.laws.Known.{known-yes, known-no, known-ne}
-use Rattle.sieve.specs.laws.Child.{residue-at, with-zero}
+use Rattle.residues.specs.Residues.{residues, known, withResidue}
+use Rattle.sieve.specs.Sieve.{Barren}
+use Rattle.residues.specs.laws.Known.{known-yes, known-no, known-ne}
+use Rattle.residues.specs.laws.Child.{residue-at, with-zero}
 use Rattle.walk.specs.Records.{State, note, run}
 use Rattle.walk.specs.Walk.{search}
 
