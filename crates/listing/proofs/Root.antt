@@ -10,8 +10,8 @@ use Rattle.linear.specs.Basis.{reduce, basisOf}
 use Rattle.linear.specs.Word.{word}
 use Rattle.bases.specs.Basis.{rowsOf, Holds}
 use Rattle.bases.specs.declared.Basis.{Basis}
-use Rattle.sieve.specs.Sieve.{residues, Mapped}
-use Rattle.sieve.specs.laws.Marks.{holds-dim}
+use Rattle.residues.specs.Residues.{residues, Mapped}
+use Rattle.residues.specs.laws.Held.{holds-dim}
 use Rattle.walk.specs.declared.Tally.{Tally}
 use Rattle.walk.specs.Records.{run}
 use Rattle.walk.specs.Walk.{search, stateOf, Node}

@@ -25,7 +25,7 @@ pub fn list_entries(gens: &[u64], targets: &[u64], k: usize, limit: u64, out: &m
         };
     }
     let mut h = [0u64; 4096];
-    sieve::residues(gens, b, &mut h);
+    residues::residues(gens, b, &mut h);
     let n = gens.len();
     let c = Chain {
         numbers: [0u64; 8],

@@ -1,4 +1,2 @@
 -- The laws of the definitions beside this folder.
-pub mod Known
-pub mod Child
 pub mod Marks

@@ -1,81 +1,14 @@
 // Which numbers a walk goes on with from a space. A space is given by `h`, the residues of the generators: what is left of each when the
-// leads of the space's basis are cleared in it. The residue is 0 exactly for a generator in the space.
+// leads of the space's basis are cleared in it.
 use bases::Basis;
 ghost use mathlib.Core.Path.{_≡_};
 ghost use Prim.Native.Nat.{_<_, _≤_};
 ghost use lib.ListN.{length};
-ghost use lib.Dec.{eqb};
-ghost use Rattle.linear.specs.Basis.{clear, reduce, inserts, basisOf, dim};
+ghost use Rattle.linear.specs.Basis.{basisOf};
 ghost use Rattle.linear.specs.Word.{word};
-ghost use Rattle.bases.specs.Basis.{rowsOf, Valid, Holds};
-ghost use Rattle.sieve.specs.Sieve.{known, withResidue, Mapped, Worth, Sieved};
-
-// The residues of the generators for the basis `b`.
-pub fn residues(gens: &[u64], b: Basis, out: &mut [u64; 4096])
-    requires { ⌜ (Valid b) × (length (now gens) ≤ 4096) × (length (now out) ≡ 4096) ⌝ }
-    ensures { λ _. ⌜ Mapped (reduce word (rowsOf b)) (now (gens .entry)) (now (out .exit)) ⌝ }
-{
-    let mut i = 0;
-    while i < gens.len() {
-        out[i] = b.reduce(gens[i]);
-        i += 1;
-    }
-}
-
-// The residues after a new row, `x`, from those before.
-pub fn child(h: &[u64], x: u64, out: &mut [u64; 4096])
-    requires { ⌜ (length (now h) ≤ 4096) × (length (now out) ≡ 4096) ⌝ }
-    ensures { λ _. ⌜ Mapped (clear word x) (now (h .entry)) (now (out .exit)) ⌝ }
-{
-    let mut i = 0;
-    while i < h.len() {
-        out[i] = forms::clear(x, h[i]);
-        i += 1;
-    }
-}
-
-// Whether the generator with the number `j` brings in nothing, or what an earlier one would.
-fn known(h: &[u64], j: usize) -> bool
-    requires { ⌜ j < length (now h) ⌝ }
-    ensures { λ r. ⌜ r ≡ known (now (h .entry)) j ⌝ }
-{
-    let v = h[j];
-    if v == 0 {
-        return true;
-    }
-    let mut i = 0;
-    while i < j {
-        if h[i] == v {
-            return true;
-        }
-        i += 1;
-    }
-    false
-}
-
-// The basis `s` with the generators of residue `x` put in.
-fn with_residue(gens: &[u64], h: &[u64], x: u64, s: Basis) -> Basis
-    requires { ⌜ (Valid s) × (length (now gens) ≡ length (now h)) ⌝ }
-    ensures { λ r. ⌜ Holds (inserts word (rowsOf s) (withResidue x (now (gens .entry)) (now (h .entry)))) r ⌝ }
-{
-    let mut b = s;
-    let mut i = 0;
-    while i < gens.len() {
-        if h[i] == x {
-            b = b.insert(gens[i]);
-        }
-        i += 1;
-    }
-    b
-}
-
-// Whether the generators in the space span `k` dimensions.
-pub fn spanned(gens: &[u64], h: &[u64], k: usize) -> bool
-    requires { ⌜ length (now gens) ≡ length (now h) ⌝ }
-    ensures { λ r. ⌜ r ≡ eqb (dim word (withResidue 0 (now (gens .entry)) (now (h .entry)))) k ⌝ }
-{
-    with_residue(gens, h, 0, Basis::empty()).len == k
-}
+ghost use Rattle.bases.specs.Basis.{Holds};
+ghost use Rattle.residues.specs.Residues.{withResidue};
+ghost use Rattle.sieve.specs.Sieve.{Worth, Sieved};
 
 // The mark of the number `j`, which is not known: 0 where its child leads to no entry. With one dimension missing the generators in the child
 // are those of residue 0, whose basis is `s`, and those of the residue of `j`.
@@ -86,7 +19,7 @@ fn worth(gens: &[u64], h: &[u64], s: Basis, j: usize, k: usize, missing: usize) 
     if missing != 1 {
         return 1;
     }
-    if with_residue(gens, h, h[j], s).len == k {
+    if residues::with_residue(gens, h, h[j], s).len == k {
         1
     } else {
         0
@@ -105,10 +38,10 @@ pub fn sieve(
     requires { ⌜ (length (now gens) ≡ length (now h)) × (length (now h) ≤ 4096) × (length (now marks) ≡ 4096) × (start ≤ length (now gens)) ⌝ }
     ensures { λ _. ⌜ Sieved (now (gens .entry)) (now (h .entry)) start (length (now (gens .entry))) k missing (now (marks .exit)) ⌝ }
 {
-    let s = with_residue(gens, h, 0, Basis::empty());
+    let s = residues::with_residue(gens, h, 0, Basis::empty());
     let mut j = start;
     while j < h.len() {
-        if known(h, j) {
+        if residues::known(h, j) {
             marks[j] = 0;
         } else {
             marks[j] = worth(gens, h, s, j, k, missing);

@@ -16,9 +16,10 @@ use Rattle.linear.specs.Word.{word}
 use Rattle.linear.specs.laws.Residue.{insert-residue}
 use Rattle.bases.specs.Basis.{rowsOf, Valid, Holds}
 use Rattle.bases.specs.declared.Basis.{Basis}
-use Rattle.sieve.specs.Sieve.{residues, known, Mapped, Barren, Judged}
-use Rattle.sieve.specs.laws.Known.{known-ne}
-use Rattle.sieve.specs.laws.Child.{residue-at, residues-length, child-residues}
+use Rattle.residues.specs.Residues.{residues, known, Mapped}
+use Rattle.sieve.specs.Sieve.{Barren, Judged}
+use Rattle.residues.specs.laws.Known.{known-ne}
+use Rattle.residues.specs.laws.Child.{residue-at, residues-length, child-residues}
 use Rattle.walk.specs.declared.Chain.{Chain}
 use Rattle.walk.specs.declared.Tally.{Tally}
 use Rattle.walk.specs.Records.{State, run, Sane}

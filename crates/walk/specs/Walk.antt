@@ -15,7 +15,7 @@ use Rattle.linear.specs.Word.{word}
 use Rattle.linear.specs.Walk.{spans, walk}
 use Rattle.bases.specs.Basis.{rowsOf, Valid}
 use Rattle.bases.specs.declared.Basis.{Basis}
-use Rattle.sieve.specs.Sieve.{residues, known}
+use Rattle.residues.specs.Residues.{residues, known}
 use Rattle.walk.specs.Records.{State, Sane}
 use Rattle.walk.specs.declared.Chain.{Chain}
 use Rattle.walk.specs.declared.Tally.{Tally}

@@ -81,7 +81,7 @@ pub fn walk(
     ensures { λ r. ⌜ stateOf r (now (out .exit)) ≡ run limit (stateOf t (now (out .entry))) (search (now (gens .entry)) k (rowsOf b) (chainOf c) (length (now (gens .entry)) - start) start missing) ⌝ }
 {
     if missing == 0 {
-        if sieve::spanned(gens, h, k) {
+        if residues::spanned(gens, h, k) {
             return keep(b, c, t, limit, out);
         }
         return t;
@@ -100,7 +100,7 @@ pub fn walk(
             j += 1;
         } else {
             let x = h[j];
-            sieve::child(h, x, &mut mine);
+            residues::child(h, x, &mut mine);
             u = walk(
                 gens,
                 &mine[..n],

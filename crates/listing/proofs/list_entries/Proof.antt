@@ -3,7 +3,7 @@ use mathlib.Core.Path.{sym}
 use native.Mathlib.Omega.{arith}
 use lib.ListN.{length}
 use lib.Seq.{length-take-le}
-use Rattle.sieve.specs.laws.Marks.{holds-dim}
+use Rattle.residues.specs.laws.Held.{holds-dim}
 use Rattle.listing.specs.laws.Listing.{listed-below}
 use Rattle.listing.proofs.Root.{root-node, listed-end}
 use borrow.Author.Needs.{needs}

@@ -3,8 +3,10 @@ use mathlib.Core.Path.{_≡_, sym, _∙_, subst}
 use mathlib.Core.Logic.{⊎-elim}
 use Prim.Native.Nat.{ℕ, _+_, _-_, _<_, _≤_}
 use lib.ListN.{length}
-use Rattle.sieve.specs.Sieve.{withResidue, Sieved}
-use Rattle.sieve.specs.laws.Marks.{from-empty, judged-known, judged-worth, sieved-start, sieved-next}
+use Rattle.residues.specs.Residues.{withResidue}
+use Rattle.residues.specs.laws.Held.{from-empty}
+use Rattle.sieve.specs.Sieve.{Sieved}
+use Rattle.sieve.specs.laws.Marks.{judged-known, judged-worth, sieved-start, sieved-next}
 use native.Mathlib.Omega.{arith}
 use Rattle.sieve.proofs.sieve.Statement.{statement}
 use Rattle.sieve.proofs.sieve.Tie as tie

@@ -1,7 +1,5 @@
 -- The marks of a node, one number after the other.
 --   barren-last                  with one dimension missing: a child whose generators don't make k rows is barren
---   holds-length, holds-dim      how many rows a record has that holds a basis, and the basis of a list
---   from-empty                   a list put into the empty basis makes its basis
 --   worth-off                    the mark of such a child
 --   judged-known, judged-worth   the mark of a known number, and of another
 --   sieved-start, sieved-next    no number is marked; one more
@@ -19,10 +17,12 @@ use Rattle.linear.specs.Basis.{reduce, insert, inserts, basisOf, Reduced, dim}
 use Rattle.linear.specs.Entry.{generator, chosen, generatorsIn}
 use Rattle.linear.specs.Word.{word}
 use Rattle.linear.specs.laws.Reduce.{member}
-use Rattle.bases.specs.Basis.{rowsOf, Holds, rows-length}
+use Rattle.bases.specs.Basis.{rowsOf, Holds}
 use Rattle.bases.specs.declared.Basis.{Basis}
-use Rattle.sieve.specs.Sieve.{residues, withResidue, known, Barren, Worth, Judged, Sieved}
-use Rattle.sieve.specs.laws.Child.{residue-at, child-dim}
+use Rattle.residues.specs.Residues.{residues, withResidue, known}
+use Rattle.residues.specs.laws.Child.{residue-at, child-dim}
+use Rattle.residues.specs.laws.Held.{holds-length}
+use Rattle.sieve.specs.Sieve.{Barren, Worth, Judged, Sieved}
 
 pub barren-last : (gens h : List ℕ) (j k r : ℕ) → r ≡ length (inserts word (basisOf word (withResidue 0 gens h)) (withResidue (getD h j 0) gens h)) → (r ≡ k → ⊥)
     → Barren gens h j k 1
@@ -42,18 +42,6 @@ barren-last gens h j k r d ne = record { none = λ C ρ l n es c st q. last C ρ
         ∙ ap₂ (λ (y : ℕ) (v : List ℕ). length (inserts word (basisOf word (withResidue 0 gens v)) (withResidue y gens v))) (ap (λ (v : List ℕ). getD v j 0) l ∙ residue-at gens C j) l
         ∙ child-dim gens C ρ f n ∙ ap (λ (W : List ℕ). dim word (generatorsIn word gens W)) (sym (none C)) ∙ q)
     last C ρ l n (e ∷ es) c q = absurd (omega arith)
-
--- ---- records of bases
-pub holds-length : (B : List ℕ) (b : Basis) → Holds B b → b .len ≡ length B
-holds-length B b H = sym (rows-length b (H .valid)) ∙ ap length (H .is)
-
-pub holds-dim : (xs : List ℕ) (b : Basis) → Holds (basisOf word xs) b → b .len ≡ dim word xs
-unfolding dim
-holds-dim xs b H = holds-length (basisOf word xs) b H
-
-pub from-empty : (xs : List ℕ) (e b : Basis) → Holds [] e → Holds (inserts word (rowsOf e) xs) b → Holds (basisOf word xs) b
-unfolding basisOf
-from-empty xs e b E H = record { valid = H .valid; is = H .is ∙ ap (λ (B : List ℕ). inserts word B xs) (E .is) }
 
 -- ---- one mark
 pub worth-off : (gens h : List ℕ) (j k missing : ℕ) (s r : Basis) → Holds (basisOf word (withResidue 0 gens h)) s

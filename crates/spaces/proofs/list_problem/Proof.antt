@@ -1,6 +1,6 @@
 -- `spaces::list_problem` meets its contract. Assumes nothing.
 use native.Mathlib.Omega.{arith}
-use Rattle.sieve.specs.laws.Marks.{holds-dim}
+use Rattle.residues.specs.laws.Held.{holds-dim}
 use Rattle.spaces.specs.laws.Replies.{given-far, given-no, is-accepted, given-yes}
 use borrow.Author.Needs.{needs}
 use Rattle.spaces.proofs.list_problem.Statement.{statement}

@@ -9,8 +9,8 @@ use lib.Seq.{length-take-le}
 use borrow.Fn.Kinds.{In}
 use borrow.Fn.PlainCycle.{Measures, is, falls, and}
 use Rattle.bases.specs.Basis.{rowsOf}
-use Rattle.sieve.specs.Sieve.{known}
-use Rattle.sieve.specs.laws.Child.{residues-length}
+use Rattle.residues.specs.Residues.{known}
+use Rattle.residues.specs.laws.Child.{residues-length}
 use Rattle.walk.specs.Records.{run}
 use Rattle.walk.specs.Walk.{search, chainOf, stateOf}
 use Rattle.walk.specs.laws.Search.{leaf-yes, leaf-no}
@@ -19,9 +19,9 @@ use Rattle.walk.proofs.walk.Reads as walk
 use Rattle.walk.proofs.walk.Kinds as walk-kinds
 use Rattle.walk.proofs.+walk.Lts-walk as walk-lts
 use Rattle.bases.proofs.Basis.insert.Reads as insert-reads
-use Rattle.sieve.proofs.child.Reads as child-reads
+use Rattle.residues.proofs.child.Reads as child-reads
 use Rattle.sieve.proofs.sieve.Reads as sieve-reads
-use Rattle.sieve.proofs.spanned.Reads as spanned-reads
+use Rattle.residues.proofs.spanned.Reads as spanned-reads
 use Rattle.walk.proofs.keep.Reads as keep-reads
 use Rattle.walk.proofs.push.Reads as push-reads
 use Rattle.walk.proofs.+walk.{statement}

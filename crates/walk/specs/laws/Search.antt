@@ -23,9 +23,10 @@ use Rattle.linear.specs.Word.{word}
 use Rattle.linear.specs.laws.Insert.{insert-reduced}
 use Rattle.linear.specs.laws.Canonical.{Steps}
 use Rattle.linear.specs.laws.Walk.{walk-is, Free, walk-none, free-steps}
-use Rattle.sieve.specs.Sieve.{residues, known, withResidue, Barren}
-use Rattle.sieve.specs.laws.Known.{known-yes, known-no}
-use Rattle.sieve.specs.laws.Child.{with-zero}
+use Rattle.residues.specs.Residues.{residues, known, withResidue}
+use Rattle.residues.specs.laws.Known.{known-yes, known-no}
+use Rattle.residues.specs.laws.Child.{with-zero}
+use Rattle.sieve.specs.Sieve.{Barren}
 use Rattle.walk.specs.Records.{State, note, run}
 use Rattle.walk.specs.Walk.{search}
 

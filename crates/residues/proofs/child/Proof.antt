@@ -1,13 +1,13 @@
--- `sieve::child` meets its contract: the words so far are the residues, cleared. Assumes nothing.
+-- `residues::child` meets its contract: the words so far are the residues, cleared. Assumes nothing.
 use mathlib.Core.Path.{refl}
 use lib.ListN.{length}
 use Prim.Native.Nat.{_-_}
 use Rattle.linear.specs.Basis.{clear}
 use Rattle.linear.specs.Word.{word}
-use Rattle.sieve.proofs.Loops.{Mapping, mapping-next, mapping-end}
+use Rattle.residues.proofs.Loops.{Mapping, mapping-next, mapping-end}
 use native.Mathlib.Omega.{arith}
-use Rattle.sieve.proofs.child.Statement.{statement}
-use Rattle.sieve.proofs.child.Tie as tie
+use Rattle.residues.proofs.child.Statement.{statement}
+use Rattle.residues.proofs.child.Tie as tie
 
 abbrev Inv-loop : tie.InvT-loop
 Inv-loop h x out₀ i₀ out i = Mapping (clear word x) h out i

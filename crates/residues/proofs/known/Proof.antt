@@ -1,13 +1,13 @@
--- `sieve::known` meets its contract: no residue so far is the one looked for. Assumes nothing.
+-- `residues::known` meets its contract: no residue so far is the one looked for. Assumes nothing.
 use mathlib.Core.Path.{_≡_, refl}
 use mathlib.Core.Logic.{_≢_}
 use Prim.Native.Nat.{ℕ, _-_, _<_, _≤_}
 use lib.ListN.{getD}
 use borrow.Author.Count.{below-more}
-use Rattle.sieve.specs.laws.Known.{known-zero, known-found, known-none}
+use Rattle.residues.specs.laws.Known.{known-zero, known-found, known-none}
 use native.Mathlib.Omega.{arith}
-use Rattle.sieve.proofs.known.Statement.{statement}
-use Rattle.sieve.proofs.known.Tie as tie
+use Rattle.residues.proofs.known.Statement.{statement}
+use Rattle.residues.proofs.known.Tie as tie
 
 abbrev Inv-loop : tie.InvT-loop
 Inv-loop h j v i₀ i = (i ≤ j) × (v ≡ getD h j 0) × ((k : ℕ) → k < i → getD h k 0 ≢ v)

@@ -1,11 +1,11 @@
--- `sieve::spanned` meets its contract: the rows made from the empty basis are the dimension. Assumes nothing.
+-- `residues::spanned` meets its contract: the rows made from the empty basis are the dimension. Assumes nothing.
 use mathlib.Core.Path.{ap}
 use Prim.Native.Nat.{ℕ}
 use lib.Dec.{eqb}
-use Rattle.sieve.specs.Sieve.{withResidue}
-use Rattle.sieve.specs.laws.Marks.{holds-dim, from-empty}
-use Rattle.sieve.proofs.spanned.Statement.{statement}
-use Rattle.sieve.proofs.spanned.Tie as tie
+use Rattle.residues.specs.Residues.{withResidue}
+use Rattle.residues.specs.laws.Held.{holds-dim, from-empty}
+use Rattle.residues.proofs.spanned.Statement.{statement}
+use Rattle.residues.proofs.spanned.Tie as tie
 
 empty-requires : tie.Need-empty-requires
 empty-requires c κs = tt

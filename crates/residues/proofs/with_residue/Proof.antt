@@ -1,14 +1,14 @@
--- `sieve::with_residue` meets its contract: the generators to come, put into the basis so far, make the basis of all. Assumes nothing.
+-- `residues::with_residue` meets its contract: the generators to come, put into the basis so far, make the basis of all. Assumes nothing.
 use mathlib.Core.Path.{sym, subst}
 use mathlib.Core.Logic.{⊎-elim}
 use lib.ListN.{length}
 use Prim.Native.Nat.{_+_, _-_, _<_}
 use Rattle.bases.specs.Basis.{rowsOf}
 use Rattle.bases.specs.declared.Basis.{Basis}
-use Rattle.sieve.proofs.Loops.{Putting, putting-start, putting-in, putting-out, putting-end}
+use Rattle.residues.proofs.Loops.{Putting, putting-start, putting-in, putting-out, putting-end}
 use native.Mathlib.Omega.{arith}
-use Rattle.sieve.proofs.with_residue.Statement.{statement}
-use Rattle.sieve.proofs.with_residue.Tie as tie
+use Rattle.residues.proofs.with_residue.Statement.{statement}
+use Rattle.residues.proofs.with_residue.Tie as tie
 
 abbrev Inv-loop : tie.InvT-loop
 Inv-loop gens h x b₀ i₀ b i = Putting gens h x (rowsOf b₀) b i

@@ -1,14 +1,14 @@
--- `sieve::residues` meets its contract: the words so far are the residues. Assumes nothing.
+-- `residues::residues` meets its contract: the words so far are the residues. Assumes nothing.
 use mathlib.Core.Path.{refl}
 use lib.ListN.{length}
 use Prim.Native.Nat.{_-_}
 use Rattle.linear.specs.Basis.{reduce}
 use Rattle.linear.specs.Word.{word}
 use Rattle.bases.specs.Basis.{rowsOf}
-use Rattle.sieve.proofs.Loops.{Mapping, mapping-next, mapping-end}
+use Rattle.residues.proofs.Loops.{Mapping, mapping-next, mapping-end}
 use native.Mathlib.Omega.{arith}
-use Rattle.sieve.proofs.residues.Statement.{statement}
-use Rattle.sieve.proofs.residues.Tie as tie
+use Rattle.residues.proofs.residues.Statement.{statement}
+use Rattle.residues.proofs.residues.Tie as tie
 
 abbrev Inv-loop : tie.InvT-loop
 Inv-loop gens b out₀ i₀ out i = Mapping (reduce word (rowsOf b)) gens out i

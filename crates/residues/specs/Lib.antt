@@ -1,0 +1,3 @@
+-- Residues of the generators.
+pub mod Residues
+pub mod laws

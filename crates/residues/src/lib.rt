@@ -1,0 +1,78 @@
+// The residues of the generators at a space: what is left of each when the leads of the space's basis are cleared in it. The residue is 0
+// exactly for a generator in the space.
+use bases::Basis;
+ghost use mathlib.Core.Path.{_≡_};
+ghost use Prim.Native.Nat.{_<_, _≤_};
+ghost use lib.ListN.{length};
+ghost use lib.Dec.{eqb};
+ghost use Rattle.linear.specs.Basis.{clear, reduce, inserts, dim};
+ghost use Rattle.linear.specs.Word.{word};
+ghost use Rattle.bases.specs.Basis.{rowsOf, Valid, Holds};
+ghost use Rattle.residues.specs.Residues.{known, withResidue, Mapped};
+
+// The residues of the generators for the basis `b`.
+pub fn residues(gens: &[u64], b: Basis, out: &mut [u64; 4096])
+    requires { ⌜ (Valid b) × (length (now gens) ≤ 4096) × (length (now out) ≡ 4096) ⌝ }
+    ensures { λ _. ⌜ Mapped (reduce word (rowsOf b)) (now (gens .entry)) (now (out .exit)) ⌝ }
+{
+    let mut i = 0;
+    while i < gens.len() {
+        out[i] = b.reduce(gens[i]);
+        i += 1;
+    }
+}
+
+// The residues after a new row, `x`, from those before.
+pub fn child(h: &[u64], x: u64, out: &mut [u64; 4096])
+    requires { ⌜ (length (now h) ≤ 4096) × (length (now out) ≡ 4096) ⌝ }
+    ensures { λ _. ⌜ Mapped (clear word x) (now (h .entry)) (now (out .exit)) ⌝ }
+{
+    let mut i = 0;
+    while i < h.len() {
+        out[i] = forms::clear(x, h[i]);
+        i += 1;
+    }
+}
+
+// Whether the generator with the number `j` brings in nothing, or what an earlier one would.
+pub fn known(h: &[u64], j: usize) -> bool
+    requires { ⌜ j < length (now h) ⌝ }
+    ensures { λ r. ⌜ r ≡ known (now (h .entry)) j ⌝ }
+{
+    let v = h[j];
+    if v == 0 {
+        return true;
+    }
+    let mut i = 0;
+    while i < j {
+        if h[i] == v {
+            return true;
+        }
+        i += 1;
+    }
+    false
+}
+
+// The basis `s` with the generators of residue `x` put in.
+pub fn with_residue(gens: &[u64], h: &[u64], x: u64, s: Basis) -> Basis
+    requires { ⌜ (Valid s) × (length (now gens) ≡ length (now h)) ⌝ }
+    ensures { λ r. ⌜ Holds (inserts word (rowsOf s) (withResidue x (now (gens .entry)) (now (h .entry)))) r ⌝ }
+{
+    let mut b = s;
+    let mut i = 0;
+    while i < gens.len() {
+        if h[i] == x {
+            b = b.insert(gens[i]);
+        }
+        i += 1;
+    }
+    b
+}
+
+// Whether the generators in the space span `k` dimensions.
+pub fn spanned(gens: &[u64], h: &[u64], k: usize) -> bool
+    requires { ⌜ length (now gens) ≡ length (now h) ⌝ }
+    ensures { λ r. ⌜ r ≡ eqb (dim word (withResidue 0 (now (gens .entry)) (now (h .entry)))) k ⌝ }
+{
+    with_residue(gens, h, 0, Basis::empty()).len == k
+}
