@@ -157,6 +157,13 @@ def tables():
     add(CATALOGUE, MAT, 2, 2, 2, 7, 48, want="found 36")
 
 
+def published():
+    """Numbers of spaces in document 000 that the reference would take too long for: Table 1, rows 5,4 and 5,5, 6,4, 7,3; Table 4, row 4 of both rings. No record is asked for."""
+    for number, p, q, k, found in ((POLY, 5, 4, 12, 4113), (POLY, 5, 5, 13, 27), (POLY, 6, 4, 13, 9), (POLY, 7, 3, 13, 87), (SHORT, 4, 4, 8, 1440), (CIRC, 4, 4, 8, 1440)):
+        ell = len(reduced(catalogue.map_targets(KINDS[number], p, q, 0, p, q, p + q - 1 if number == POLY else p)))
+        write([CATALOGUE, number, p, q, 0, k, 0, 0, 0], line("entries %d %d 0" % (ell, found), [], []))
+
+
 def lists():
     """Random lists, for every k from 0 to one that is refused."""
     chance = random.Random(2)
@@ -212,7 +219,7 @@ def lookups():
 
 
 def main():
-    for make in (worked, limits, refusals, tables, lists, ranks, lookups):
+    for make in (worked, limits, refusals, tables, published, lists, ranks, lookups):
         make()
     assert len("".join(calls)) <= 65536
     for name, lines in (("stdin", calls), ("stdout", replies)):

@@ -1,11 +1,12 @@
 -- The texts that Catalogue, Rank and Formulae print.
 --   listsText xs ys        == two inner lists, numbers and forms, and the line's end
 --   entryText i xs ys      == the line of entry i: its number, extension and basis
---   entriesText d k i n listing == the lines of n entries from number i on; a record has d numbers and k rows
+--   recordLines line d k i n listing == the lines of n records from number i on; a record has d numbers and k rows, `line` makes its line
+--   entriesText ..         == that, for entries
 --   catalogueText ..       == what the Catalogue prints
 --   rankText ..            == what Rank prints: a number with its formula, `above` or `beyond`
 --   formulaText e i xs ys  == the line of formula i of entry e
---   formulaeText ..        == the lines of an entry's formulae, and `more` where one was left out
+--   moreText               == after an entry's number: a formula of it was left out
 -- Document 01: "For `poly,2,3,0,5` under its name line it prints in whole: .."; "`ell` is ℓ; `entry` counts from 0". What Rank and Formulae print is decided
 -- (docs/DECISIONS.md). Assumes nothing.
 use Prim.Native.Nat.{ℕ, zero, suc, _+_, _-_, _*_}
@@ -25,9 +26,12 @@ listsText xs ys = numbersText xs ++ (comma ∷ formsText ys) ++ (LF ∷ [])
 unfoldable pub entryText : ℕ → List ℕ → List ℕ → List ℕ
 entryText i xs ys = numberText i ++ (comma ∷ listsText xs ys)
 
-unfoldable pub entriesText : (d k i n : ℕ) → List ℕ → List ℕ
-entriesText d k i zero listing = []
-entriesText d k i (suc n) listing = entryText i (take d (drop (i * (d + k)) listing)) (take k (drop (i * (d + k) + d) listing)) ++ entriesText d k (suc i) n listing
+unfoldable pub recordLines : (ℕ → List ℕ → List ℕ → List ℕ) → (d k i n : ℕ) → List ℕ → List ℕ
+recordLines line d k i zero listing = []
+recordLines line d k i (suc n) listing = line i (take d (drop (i * (d + k)) listing)) (take k (drop (i * (d + k) + d) listing)) ++ recordLines line d k (suc i) n listing
+
+abbrev pub entriesText : (d k i n : ℕ) → List ℕ → List ℕ
+entriesText d k i n listing = recordLines entryText d k i n listing
 
 -- `kind,p,q,r,k,ell,found,shown`, `entry,extension,basis`
 abbrev pub catalogueNames : List ℕ

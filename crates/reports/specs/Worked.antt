@@ -8,7 +8,7 @@ use Rattle.kinds.specs.declared.Kind.the-variants as kind
 use Rattle.print.specs.Print.{printed}
 use Rattle.pieces.specs.Fields.{sizesText}
 use Rattle.inner.specs.Inner.{spacedText, innerText}
-use Rattle.reports.specs.Reports.{listsText, entryText, entriesText, countsText, catalogueText, rankHead, rankText}
+use Rattle.reports.specs.Reports.{listsText, entryText, recordLines, countsText, catalogueText, rankHead, rankText}
 
 pub worked-catalogue : catalogueText kind.Poly 2 3 0 5 4 3 3 (1 ∷ 32 ∷ 20 ∷ 8 ∷ 2 ∷ 1 ∷ 3 ∷ 32 ∷ 16 ∷ 10 ∷ 4 ∷ 1 ∷ 5 ∷ 32 ∷ 18 ∷ 10 ∷ 6 ∷ 1 ∷ [])
     ≡ (107 ∷ 105 ∷ 110 ∷ 100 ∷ 44 ∷ 112 ∷ 44 ∷ 113 ∷ 44 ∷ 114 ∷ 44 ∷ 107 ∷ 44 ∷ 101 ∷ 108 ∷ 108 ∷ 44 ∷ 102 ∷ 111 ∷ 117 ∷ 110 ∷ 100 ∷ 44 ∷ 115 ∷ 104 ∷ 111 ∷ 119 ∷ 110 ∷ 10 ∷ [])
@@ -17,7 +17,7 @@ pub worked-catalogue : catalogueText kind.Poly 2 3 0 5 4 3 3 (1 ∷ 32 ∷ 20 �
     ++ (48 ∷ 44 ∷ 49 ∷ 44 ∷ 50 ∷ 48 ∷ 32 ∷ 49 ∷ 52 ∷ 32 ∷ 56 ∷ 32 ∷ 50 ∷ 32 ∷ 49 ∷ 10 ∷ [])
     ++ (49 ∷ 44 ∷ 51 ∷ 44 ∷ 50 ∷ 48 ∷ 32 ∷ 49 ∷ 48 ∷ 32 ∷ 97 ∷ 32 ∷ 52 ∷ 32 ∷ 49 ∷ 10 ∷ [])
     ++ (50 ∷ 44 ∷ 53 ∷ 44 ∷ 50 ∷ 48 ∷ 32 ∷ 49 ∷ 50 ∷ 32 ∷ 97 ∷ 32 ∷ 54 ∷ 32 ∷ 49 ∷ 10 ∷ [])
-unfolding printed sizesText spacedText innerText listsText entryText entriesText countsText catalogueText
+unfolding printed sizesText spacedText innerText listsText entryText recordLines countsText catalogueText
 worked-catalogue = refl
 
 pub worked-rank : rankText kind.Poly 2 2 0 0 3 (0 ∷ 4 ∷ 8 ∷ []) (1 ∷ 7 ∷ 2 ∷ [])

@@ -20,7 +20,7 @@ fn put_lists(xs: &[u64], ys: &[u64], out: &mut [u8], at: usize) -> usize
 }
 
 // The line of entry i, likewise.
-fn put_entry(i: u64, xs: &[u64], ys: &[u64], out: &mut [u8], at: usize) -> usize
+pub fn put_entry(i: u64, xs: &[u64], ys: &[u64], out: &mut [u8], at: usize) -> usize
     requires { ⌜ Short (now xs) (now ys) at 3000000000 ⌝ }
     ensures { λ e. ⌜ Piece (now (out .entry)) at (entryText i (now (xs .entry)) (now (ys .entry))) (21 * length (now (xs .entry)) + 21 * length (now (ys .entry)) + 25) (now (out .exit)) e ⌝ }
 {

@@ -32,7 +32,7 @@ use Rattle.reports.specs.laws.Lines.{Records}
 use Rattle.answers.specs.Answers.{listingRoom, catalogueAnswer, catalogueReply}
 
 -- ---- how much is listed
-fits-in : (n c w : ℕ) → fitting n c w * n ≤ w
+pub fits-in : (n c w : ℕ) → fitting n c w * n ≤ w
 unfolding fitting
 fits-in zero c w = omega arith
 fits-in (suc n) c w =

@@ -1,0 +1,3 @@
+-- The formulae of an entry as text.
+pub mod FormulaAnswers
+pub mod laws

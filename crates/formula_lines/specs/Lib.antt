@@ -1,0 +1,3 @@
+-- The lines of an entry's formulae.
+pub mod FormulaLines
+pub mod laws
