@@ -1,0 +1,66 @@
+-- `problem_answers::run_entries`: what is written is within its page. Assumes nothing.
+use Prim.Native.Nat.{_-_}
+use mathlib.Core.Path.{_≡_, sym, _∙_}
+use lib.ListN.{length}
+use lib.Seq.{length-take-le}
+use borrow.Author.Needs.{needs}
+use native.Mathlib.Omega.{arith}
+use Rattle.problem_answers.proofs.run_entries.Statement.{statement}
+use Rattle.problem_answers.proofs.run_entries.Tie as tie
+use Rattle.problem_answers.proofs.run_entries.Reads as reads
+use Rattle.problem_answers.proofs.run_entries.Lts as lts
+use Rattle.formulae_program.proofs.entry_page.Reads as entry-page-reads
+use Rattle.io.proofs.write_all.Reads as write-all-reads
+
+abbrev Inv-loop : tie.InvT-loop
+Inv-loop plan gs ts listing page₀ i₀ page i = length page ≡ 278528
+
+abbrev μ-loop : tie.MeasureT-loop
+μ-loop plan gs ts listing page₀ i₀ page i = plan .shown - i
+
+loop-holds : tie.Need-loop-holds Inv-loop μ-loop
+loop-holds c = c .before .before .before .before .pre .1
+
+entry-page-requires : tie.Need-entry-page-requires Inv-loop μ-loop
+entry-page-requires c κs = (c .before .before .before .before .before .before .before .before .pre .0, c .before .if1 .taken, c .before .before .before .loop .inv)
+
+slice-reshare-prefix-write-all : tie.Need-slice-reshare-prefix-write-all Inv-loop μ-loop
+slice-reshare-prefix-write-all c = let e = c .before .before .entry-page .ensures .1 in let l = c .before .before .entry-page .kept .1 .1 .1 .1 .1 .0 in let m = c .before .before .before .before .before .before .loop .inv in omega arith
+
+slice-aggregate-write-all : tie.Need-slice-aggregate-write-all Inv-loop μ-loop
+slice-aggregate-write-all c = let e = c .before .before .before .entry-page .ensures .1 in let l = c .before .before .before .entry-page .kept .1 .1 .1 .1 .1 .0 in let m = c .before .before .before .before .before .before .before .loop .inv in sym (length-take-le (c .before .before .before .entry-page .result) (c .before .before .before .entry-page .last .1 .1 .1 .1 .1 .0) (omega arith))
+
+write-all-requires : tie.Need-write-all-requires Inv-loop μ-loop
+write-all-requires c κs = search needs
+
+add-i : tie.Need-add-i Inv-loop μ-loop
+add-i c = omega arith
+
+loop-less : tie.Need-loop-less Inv-loop μ-loop
+loop-less c = omega arith
+
+loop-again : tie.Need-loop-again Inv-loop μ-loop
+loop-again c = c .before .before .before .before .entry-page .kept .1 .1 .1 .1 .1 .0 ∙ c .before .before .before .before .before .before .before .before .loop .inv
+
+same-length : tie.Need-same-length Inv-loop μ-loop
+same-length c = c .before .before .loop .inv ∙ sym (c .before .before .before .before .before .before .before .pre .1)
+
+returns : tie.Need-returns Inv-loop μ-loop
+returns c = search needs
+
+pub run-entries-spec : {M : Type 1} → statement M
+run-entries-spec =
+    tie.close
+    (tie.spec
+    Inv-loop
+    μ-loop
+    loop-holds
+    entry-page-requires
+    slice-reshare-prefix-write-all
+    slice-aggregate-write-all
+    write-all-requires
+    add-i
+    loop-less
+    loop-again
+    same-length
+    returns)
