@@ -6,6 +6,7 @@ pub mod Order
 pub mod Select
 pub mod Entry
 pub mod Walk
+pub mod Share
 pub mod Spread
 pub mod Rank
 pub mod Formulae

@@ -1,0 +1,5 @@
+-- The filter of a walk's children.
+pub mod Bucket
+pub mod Filter
+pub mod Table
+pub mod laws
