@@ -2,9 +2,12 @@
 // Residues are put into buckets, any number of residues into one: a bucket's rank is at least the rank of the generators with each of them.
 ghost use mathlib.Core.Path.{_≡_};
 ghost use Prim.Native.Nat.{_<_, _≤_};
-ghost use lib.ListN.{length};
+ghost use lib.ListN.{length, replicate};
+ghost use Rattle.linear.specs.Basis.{basisOf};
+ghost use Rattle.linear.specs.Word.{word};
+ghost use Rattle.residues.specs.Residues.{withResidue};
 ghost use Rattle.buckets.specs.Bucket.{bucketOf, Grown, Growing};
-ghost use Rattle.buckets.specs.Table.{Entering, Entered};
+ghost use Rattle.buckets.specs.Table.{Sizes, Entering, Entered, Filled};
 
 // The bucket of a residue.
 pub fn bucket(v: u64) -> usize
@@ -76,4 +79,31 @@ fn enter(
     let q = grow(s, gens[i] ^ gens[f], r - 1, f, rows) + 1;
     ranks[b] = q as u8;
     q
+}
+
+// Fills the table, `ranks` all 0 before, with the generators from `start` on, and marks them. `s` has the rows of those of residue 0; what
+// `firsts` and `rows` hold before plays no part. The largest rank.
+pub fn fill(
+    gens: &[u64],
+    h: &[u64],
+    start: usize,
+    s: &[u64],
+    ranks: &mut [u8],
+    firsts: &mut [u16],
+    rows: &mut [u64],
+    marks: &mut [u8],
+) -> usize
+    requires { ⌜ Sizes (now gens) (now h) (now ranks) (now firsts) (now rows) (now marks) × (start ≤ length (now h)) × (now ranks ≡ replicate 65536 0) × (now s ≡ basisOf word (withResidue 0 (now gens) (now h))) ⌝ }
+    ensures { λ r. ⌜ Filled (now (gens .entry)) (now (h .entry)) start (now (ranks .exit)) (now (marks .exit)) r ⌝ }
+{
+    let mut top = 0;
+    let mut i = start;
+    while i < h.len() {
+        let q = enter(gens, h, i, s, ranks, firsts, rows, marks);
+        if top < q {
+            top = q;
+        }
+        i += 1;
+    }
+    top
 }
