@@ -2,4 +2,5 @@
 pub mod Bucket
 pub mod Filter
 pub mod Table
+pub mod Thin
 pub mod laws

@@ -2,3 +2,5 @@
 pub mod Grow
 pub mod Enter
 pub mod Fill
+pub mod Thin
+pub mod Weigh
