@@ -5,6 +5,8 @@
 --   Small p need top ranks          == no product of these is large; no rank is above top
 --   Heavies .. heavy weights n j    == each number from j on that is not known and heavy has its value and weight among the first n of the lists
 --   Ruled .. lo marks               == an unmarked number from lo on is known or ruled out
+--   Seen h lo hi marks              == an unmarked number from lo on and below hi is known
+--   Marking h start ranks marks     == what `thin` and `cut` ask
 --   Weighing .. n j marks           == the numbers from j on are ruled, and the heavy ones of them listed
 -- Laws: laws/Thin. Assumes nothing.
 use mathlib.Core.Path.{_≡_}
@@ -30,7 +32,6 @@ pub record Unreached (x p left : ℕ) (ranks heavy weights : List ℕ) : Type 0 
 pub record Small (p top : ℕ) (ranks : List ℕ) : Type 0 where
   pub pairs-few : p ≤ 127
   pub top-low : top ≤ 255
-  pub ranks-all : length ranks ≡ 65536
   pub most : (b : ℕ) → getD ranks b 0 ≤ top
 
 abbrev pub Heavies : List ℕ → ℕ → ℕ → ℕ → List ℕ → List ℕ → List ℕ → ℕ → ℕ → Type 0
@@ -41,8 +42,19 @@ Heavies h need p top ranks heavy weights n j =
 pub record Ruled (h : List ℕ) (need p : ℕ) (ranks : List ℕ) (lo : ℕ) (marks : List ℕ) : Type 0 where
   pub out : (i : ℕ) → lo ≤ i → i < length h → getD marks i 0 ≡ 0 → (true ≡ known h i) ⊎ Dropped h (boundOf ranks) i need p
 
+abbrev pub Seen : List ℕ → ℕ → ℕ → List ℕ → Type 0
+Seen h lo hi marks = (i : ℕ) → lo ≤ i → i < hi → getD marks i 0 ≡ 0 → true ≡ known h i
+
+pub record Marking (h : List ℕ) (start : ℕ) (ranks marks : List ℕ) : Type 0 where
+  pub ranks-all : length ranks ≡ 65536
+  pub few : length h ≤ 4096
+  pub begin : start ≤ length h
+  pub marks-all : length marks ≡ 4096
+  pub seen : Seen h start (length h) marks
+
 pub record Weighing (h : List ℕ) (need p top : ℕ) (ranks heavy weights : List ℕ) (n j : ℕ) (marks : List ℕ) : Type 0 where
   pub small : Small p top ranks
+  pub ranks-all : length ranks ≡ 65536
   pub few : length h ≤ 4096
   pub marks-all : length marks ≡ 4096
   pub heavy-all : length heavy ≡ 4096

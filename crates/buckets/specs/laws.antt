@@ -4,3 +4,4 @@ pub mod Enter
 pub mod Fill
 pub mod Thin
 pub mod Weigh
+pub mod Cut

@@ -2,13 +2,14 @@
 // Residues are put into buckets, any number of residues into one: a bucket's rank is at least the rank of the generators with each of them.
 ghost use mathlib.Core.Path.{_≡_};
 ghost use mathlib.Core.Bool.{true, false};
+ghost use mathlib.Core.Logic.{_⊎_};
 ghost use Prim.Native.Nat.{_+_, _-_, _<_, _≤_};
 ghost use lib.ListN.{length, getD, replicate};
 ghost use Rattle.linear.specs.Basis.{basisOf};
 ghost use Rattle.linear.specs.Word.{word};
 ghost use Rattle.residues.specs.Residues.{known, withResidue};
 ghost use Rattle.buckets.specs.Bucket.{bucketOf, Grown, Growing};
-ghost use Rattle.buckets.specs.Thin.{boundOf, Light, Unreached, Small, Weighing, Weighed};
+ghost use Rattle.buckets.specs.Thin.{boundOf, Light, Unreached, Small, Ruled, Marking, Weighing, Weighed};
 ghost use Rattle.buckets.specs.Table.{Sizes, Entering, Entered, Filled};
 
 // The bucket of a residue.
@@ -183,4 +184,65 @@ fn weigh(
     heavy[n] = x;
     weights[n] = r;
     n + 1
+}
+
+// Takes the marks from `start` on away that the ranks rule out, with `p` pairs of values: from the last number down, so that the heavy values of later
+// numbers are at hand.
+pub fn thin(
+    h: &[u64],
+    start: usize,
+    need: usize,
+    p: usize,
+    top: usize,
+    ranks: &[u8],
+    marks: &mut [u8],
+)
+    requires { ⌜ Marking (now h) start (now ranks) (now marks) × Small p top (now ranks) ⌝ }
+    ensures { λ _. ⌜ Ruled (now (h .entry)) need p (now (ranks .entry)) start (now (marks .exit)) ⌝ }
+{
+    let mut heavy = [0u64; 4096];
+    let mut weights = [0u8; 4096];
+    let mut n = 0;
+    let mut j = h.len();
+    while start < j {
+        j -= 1;
+        n = weigh(
+            h,
+            j,
+            need,
+            p,
+            top,
+            ranks,
+            &mut heavy,
+            &mut weights,
+            n,
+            marks,
+        );
+    }
+}
+
+// The mark `m` of a number with the residue `x`, or 0 where its rank is below `need`.
+fn still(x: u64, m: u8, need: usize, ranks: &[u8]) -> u8
+    requires { ⌜ length (now ranks) ≡ 65536 ⌝ }
+    ensures { λ r. ⌜ (r ≡ 0 → (m ≡ 0) ⊎ (boundOf (now (ranks .entry)) x < need)) ⌝ }
+{
+    if m == 0 {
+        return 0;
+    }
+    if (ranks[bucket(x)] as usize) < need {
+        return 0;
+    }
+    m
+}
+
+// The same where there are no pairs, since one dimension is missing.
+pub fn cut(h: &[u64], start: usize, need: usize, ranks: &[u8], marks: &mut [u8])
+    requires { ⌜ Marking (now h) start (now ranks) (now marks) ⌝ }
+    ensures { λ _. ⌜ Ruled (now (h .entry)) need 0 (now (ranks .entry)) start (now (marks .exit)) ⌝ }
+{
+    let mut j = start;
+    while j < h.len() {
+        marks[j] = still(h[j], marks[j], need, ranks);
+        j += 1;
+    }
 }

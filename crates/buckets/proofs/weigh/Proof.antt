@@ -43,7 +43,7 @@ slice-aggregate-judge-2 c = let a = c .before .before .before .before .before .b
 judge-requires : tie.Need-judge-requires
 judge-requires c κs =
     let a = c .before .before .before .before .before .before .before .before .before .before .before .before .args in
-    (c .before .before .before .before .before .before .before .before .before .before .before .before .pre .0 .small .pairs-few, c .before .before .before .before .before .before .before .before .before .before .before .before .pre .0 .small .ranks-all, length-take-le (a .n) (a .heavy .now) (omega (arith, c .before .before .before .before .before .before .before .before .before .before .before .before .pre .0)) ∙ sym (length-take-le (a .n) (a .weights .now) (omega (arith, c .before .before .before .before .before .before .before .before .before .before .before .before .pre .0))))
+    (c .before .before .before .before .before .before .before .before .before .before .before .before .pre .0 .small .pairs-few, c .before .before .before .before .before .before .before .before .before .before .before .before .pre .0 .ranks-all, length-take-le (a .n) (a .heavy .now) (omega (arith, c .before .before .before .before .before .before .before .before .before .before .before .before .pre .0)) ∙ sym (length-take-le (a .n) (a .weights .now) (omega (arith, c .before .before .before .before .before .before .before .before .before .before .before .before .pre .0))))
 
 slice-write-marks : tie.Need-slice-write-marks
 slice-write-marks c = search needs

@@ -3,7 +3,6 @@
 --   weighed-known  the number is known
 --   weighed-slight, weighed-heavy   its mark is judged; it is heavy or not
 --   Thinning       == the numbers from j on are weighed, and those below it still to be; thinning-start, thinning-next, thinning-end: none, one more, and all
---   cut-next       a mark judged by the rank alone, where there are no pairs
 -- Assumes nothing.
 use mathlib.Core.Path.{_≡_, refl, sym, ap, ap₂, _∙_, subst}
 use mathlib.Core.Logic.{_≢_, _⊎_, inl, inr}
@@ -22,7 +21,7 @@ use Rattle.residues.specs.Residues.{known}
 use Rattle.residues.specs.laws.Known.{known-ne, known-found}
 use Rattle.buckets.specs.Bucket.{bucketOf}
 use Rattle.buckets.specs.Filter.{Dropped}
-use Rattle.buckets.specs.Thin.{boundOf, Light, Unreached, Small, Heavies, Ruled, Weighing, Weighed}
+use Rattle.buckets.specs.Thin.{boundOf, Light, Unreached, Small, Heavies, Ruled, Seen, Marking, Weighing, Weighed}
 
 xor-zero : (x y : ℕ) → bitXor x y ≡ 0 → x ≡ y
 unfolding sameVec
@@ -77,6 +76,7 @@ module _ (h : List ℕ) (need p top : ℕ) (ranks heavy weights : List ℕ) (n j
         weighed =
             record {
               small = W .small;
+              ranks-all = W .ranks-all;
               few = W .few;
               marks-all = W .marks-all;
               heavy-all = W .heavy-all;
@@ -109,6 +109,7 @@ module _ (h : List ℕ) (need p top : ℕ) (ranks heavy weights : List ℕ) (n j
           weighed =
               record {
                 small = W .small;
+                ranks-all = W .ranks-all;
                 few = W .few;
                 marks-all = length-set marks j m ∙ W .marks-all;
                 heavy-all = W .heavy-all;
@@ -131,6 +132,7 @@ module _ (h : List ℕ) (need p top : ℕ) (ranks heavy weights : List ℕ) (n j
           weighed =
               record {
                 small = W .small;
+                ranks-all = W .ranks-all;
                 few = W .few;
                 marks-all = length-set marks j m ∙ W .marks-all;
                 heavy-all = length-set heavy n x ∙ W .heavy-all;
@@ -155,3 +157,45 @@ module _ (h : List ℕ) (need p top : ℕ) (ranks heavy weights : List ℕ) (n j
         theirs i (q, c, eh, ew) =
             let ne : q ≢ n = λ z. omega arith in
             (q, omega arith, getD-set-other heavy n q x 0 ne ∙ eh, getD-set-other weights n q r 0 ne ∙ ew)
+
+-- ---- down to start
+pub record Thinning (h : List ℕ) (start need p top : ℕ) (ranks heavy weights : List ℕ) (n j : ℕ) (marks : List ℕ) : Type 0 where
+  pub from : start ≤ j
+  pub weighing : Weighing h need p top ranks heavy weights n j marks
+  pub seen : Seen h start j marks
+
+pub thinning-start : (h : List ℕ) (start need p top : ℕ) (ranks heavy weights marks : List ℕ) → Marking h start ranks marks → Small p top ranks → length heavy ≡ 4096 → length weights ≡ 4096
+    → Thinning h start need p top ranks heavy weights 0 (length h) marks
+thinning-start h start need p top ranks heavy weights marks M N a b =
+    record {
+      from = M .begin;
+      weighing =
+          record {
+            small = N;
+            ranks-all = M .ranks-all;
+            few = M .few;
+            marks-all = M .marks-all;
+            heavy-all = a;
+            weights-all = b;
+            room = omega arith;
+            listed = λ i c d. absurd (omega arith);
+            ruled = record { out = λ i c d. absurd (omega arith) };
+          };
+      seen = M .seen;
+    }
+
+module _ (h : List ℕ) (start need p top : ℕ) (ranks heavy weights : List ℕ) (n j : ℕ) (marks : List ℕ) (T : Thinning h start need p top ranks heavy weights n j marks) where
+  pub thinning-weigh : start < j → Weighing h need p top ranks heavy weights n (j - 1 + 1) marks × (getD marks (j - 1) 0 ≡ 0 → true ≡ known h (j - 1))
+  thinning-weigh l =
+      let e : j ≡ j - 1 + 1 = omega arith in
+      (subst (λ (k : ℕ). Weighing h need p top ranks heavy weights n k marks) e (T .weighing), T .seen (j - 1) (omega arith) (omega arith))
+
+  pub thinning-next : start < j → (heavy′ weights′ : List ℕ) (n′ : ℕ) (marks′ : List ℕ) → Weighed h need p top ranks heavy′ weights′ n′ (j - 1) marks marks′
+      → Thinning h start need p top ranks heavy′ weights′ n′ (j - 1) marks′
+  thinning-next l heavy′ weights′ n′ marks′ W =
+      record { from = omega arith; weighing = W .weighed; seen = λ i a b c. T .seen i a (omega arith) (sym (W .below i b) ∙ c) }
+
+  pub thinning-end : j ≤ start → Ruled h need p ranks start marks
+  thinning-end l =
+      let e : j ≡ start = omega (arith, T .from) in
+      subst (λ (k : ℕ). Ruled h need p ranks k marks) e (T .weighing .ruled)
