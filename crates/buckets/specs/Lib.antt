@@ -1,6 +1,5 @@
--- The filter of a walk's children.
+-- Bounds on the ranks of the generators with one residue.
 pub mod Bucket
 pub mod Filter
 pub mod Table
-pub mod Thin
 pub mod laws

@@ -2,6 +2,3 @@
 pub mod Grow
 pub mod Enter
 pub mod Fill
-pub mod Thin
-pub mod Weigh
-pub mod Cut

@@ -1,12 +1,12 @@
--- `buckets::still` meets its contract, test by test. Assumes nothing.
+-- `thin::still` meets its contract, test by test. Assumes nothing.
 use mathlib.Core.Path.{_≡_, sym, ap, subst}
 use mathlib.Core.Logic.{inl, inr}
 use Prim.Native.Nat.{ℕ, _<_}
 use borrow.Author.Needs.{needs}
 use native.Mathlib.Omega.{arith}
 use lib.ListN.{getD}
-use Rattle.buckets.proofs.still.Statement.{statement}
-use Rattle.buckets.proofs.still.Tie as tie
+use Rattle.thin.proofs.still.Statement.{statement}
+use Rattle.thin.proofs.still.Tie as tie
 
 returns : tie.Need-returns
 returns c = λ e. inl (c .if1 .taken)

@@ -1,14 +1,14 @@
--- `buckets::weigh` meets its contract, by the law of each way through it. Assumes nothing.
+-- `thin::weigh` meets its contract, by the law of each way through it. Assumes nothing.
 use mathlib.Core.Path.{_≡_, refl, sym, ap, _∙_}
 use Prim.Native.Nat.{ℕ, _*_, _≤_}
 use borrow.Author.Needs.{needs}
 use native.Mathlib.Omega.{arith}
 use lib.ListN.{getD}
 use lib.Seq.{length-take-le}
-use Rattle.buckets.specs.laws.Thin.{product-low}
-use Rattle.buckets.specs.laws.Weigh.{weighed-known, weighed-slight, weighed-heavy}
-use Rattle.buckets.proofs.weigh.Statement.{statement}
-use Rattle.buckets.proofs.weigh.Tie as tie
+use Rattle.thin.specs.laws.Thin.{product-low}
+use Rattle.thin.specs.laws.Weigh.{weighed-known, weighed-slight, weighed-heavy}
+use Rattle.thin.proofs.weigh.Statement.{statement}
+use Rattle.thin.proofs.weigh.Tie as tie
 
 slice-read-if1 : tie.Need-slice-read-if1
 slice-read-if1 c = search needs

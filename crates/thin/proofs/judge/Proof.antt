@@ -1,8 +1,8 @@
--- `buckets::judge` meets its contract. Assumes nothing.
+-- `thin::judge` meets its contract. Assumes nothing.
 use borrow.Author.Needs.{needs}
 use native.Mathlib.Omega.{arith}
-use Rattle.buckets.proofs.judge.Statement.{statement}
-use Rattle.buckets.proofs.judge.Tie as tie
+use Rattle.thin.proofs.judge.Statement.{statement}
+use Rattle.thin.proofs.judge.Tie as tie
 
 returns : tie.Need-returns
 returns c = search needs

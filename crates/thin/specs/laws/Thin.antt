@@ -7,8 +7,8 @@ use mathlib.Core.Path.{_≡_, refl, sym, ap, _∙_, subst}
 use mathlib.Core.List.{List}
 use lib.Bits.{bitXor}
 use lib.ListN.{length, getD}
 use Rattle.buckets.specs.Bucket.{bucketOf}
-use Rattle.buckets.specs.Thin.{boundOf, Light, Unreached, Small, Heavies, Ruled, Weighing, Weighed}
+use Rattle.thin.specs.Thin.{boundOf, Light, Unreached, Small, Heavies, Ruled, Weighing, Weighed}
 use Prim.Native.Nat.{ℕ, _+_, _-_, _*_, _<_, _≤_}
 use native.Mathlib.Nat.{le-trans, mul-le-mul-right}
 use native.Mathlib.Omega.{arith}

@@ -1,11 +1,11 @@
--- `buckets::thin` meets its contract: the numbers from j on are weighed. Assumes nothing.
+-- `thin::thin` meets its contract: the numbers from j on are weighed. Assumes nothing.
 use mathlib.Core.Path.{_≡_, refl, sym, _∙_}
 use native.Mathlib.Omega.{arith}
 use Prim.Native.Nat.{ℕ}
 use lib.ListN.{replicate, length-replicate}
-use Rattle.buckets.specs.laws.Weigh.{Thinning, thinning-start, thinning-weigh, thinning-next, thinning-end}
-use Rattle.buckets.proofs.thin.Statement.{statement}
-use Rattle.buckets.proofs.thin.Tie as tie
+use Rattle.thin.specs.laws.Weigh.{Thinning, thinning-start, thinning-weigh, thinning-next, thinning-end}
+use Rattle.thin.proofs.thin.Statement.{statement}
+use Rattle.thin.proofs.thin.Tie as tie
 
 abbrev Inv-loop : tie.InvT-loop
 Inv-loop h start need p top ranks marks₀ heavy₀ weights₀ n₀ j₀ marks heavy weights n j = Thinning h start need p top ranks heavy weights n j marks
