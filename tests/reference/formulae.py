@@ -9,6 +9,7 @@ in two ways:
     by completion  numbers taken one by one, each only where it is independent
                    of those taken and the later ones still complete the space
 
+    formulae.py < FILE        prints what the Formulae program prints
     formulae.py --self-test   compares the two ways with each other, and checks
                               what must hold of every answer
 """
@@ -20,9 +21,10 @@ import sys
 
 sys.dont_write_bytecode = True
 import catalogue
-from catalogue import Refused, grown, inside, posed, reduced, residue, rows, spanned
+from catalogue import Refused, grown, inner, inside, posed, reduced, residue, rows, spanned
 
 MORE, ALL = "more", "all"
+ROOM = 4096                                             # words of a program's buffer
 
 
 # The formulae of a space: tuples of ascending numbers, in dictionary order.
@@ -110,6 +112,26 @@ def is_redundant(kind, p, q, r, gs, ts, selection, j):
     return not any(residue(others, word) for word in targets)
 
 
+# The program: Catalogue's first two lines, then the formulae of each shown entry.
+
+def formulae_program(data):
+    try:
+        kind, p, q, r, k, gs, ts = catalogue.read(data)
+        ell, found, shown, _, listed = catalogue.catalogue(kind, p, q, r, k, gs, ts, [0] * ROOM)
+    except Refused as refusal:
+        return "refused %d\n" % refusal.args[0]
+    outputs = catalogue.sizes(kind, p, q, r)[2]
+    lines = ["kind,p,q,r,k,ell,found,shown", "%s,%d,%d,%d,%d,%d,%d,%d" % (kind.decode(), p, q, r, k, ell, found, shown), "entry,formula,products,rows"]
+    for number, (_, space) in enumerate(listed[:shown]):
+        count, said, words = formulae(kind, p, q, r, gs, ts, space, [0] * ROOM)
+        for at in range(count):
+            record = words[at * (k + outputs):(at + 1) * (k + outputs)]
+            lines.append("%d,%d,%s,%s" % (number, at, inner(record[:k], "%d"), inner(record[k:], "%x")))
+        if said == MORE:
+            lines.append("%d,more,-,-" % number)
+    return "\n".join(lines) + "\n"
+
+
 # The self-test.
 
 def sums(words):
@@ -142,10 +164,16 @@ def self_test():
                 assert is_redundant(b"list", p, len(gs), len(ts), gs, ts, selection, j) == (set(ts) <= sums(gs[i] for i in selection if i != j))
     space = reduced([1, 2])
     assert list(of_space([1, 2, 3], space)) == [(0, 1), (0, 2), (1, 2)]
+    assert formulae_program(b"kind,p,q,r,k\npoly,2,2,0,3\n").endswith("poly,2,2,0,3,3,1,1\nentry,formula,products,rows\n0,0,0 4 8,1 7 2\n")
     print("self-test passed")
 
 
+def main():
+    if sys.argv[1:] == ["--self-test"]:
+        self_test()
+        return
+    sys.stdout.write(formulae_program(sys.stdin.buffer.read()))
+
+
 if __name__ == "__main__":
-    if sys.argv[1:] != ["--self-test"]:
-        sys.exit(__doc__)
-    self_test()
+    main()

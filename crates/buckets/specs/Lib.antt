@@ -1,5 +1,4 @@
 -- Bounds on the ranks of the generators with one residue.
 pub mod Bucket
-pub mod Filter
 pub mod Table
 pub mod laws

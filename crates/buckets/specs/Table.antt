@@ -15,7 +15,7 @@ use Rattle.linear.specs.Span.{Span}
 use Rattle.linear.specs.Word.{word}
 use Rattle.residues.specs.Residues.{known}
 use Rattle.buckets.specs.Bucket.{bucketOf, stretch}
-use Rattle.buckets.specs.Filter.{Bounded}
+use Rattle.residues.specs.Filter.{Bounded}
 
 abbrev pub bucketRows : List ℕ → ℕ → ℕ → List ℕ → List ℕ
 bucketRows gens zero f rows = []

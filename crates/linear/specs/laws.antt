@@ -15,6 +15,7 @@ pub mod Residue
 pub mod Pruned
 pub mod Canonical
 pub mod Walk
+pub mod Share
 pub mod Spread
 pub mod Rank
 pub mod Formulae

@@ -34,7 +34,7 @@ fn is_list(kind: Kind) -> bool
 }
 
 // How many forms are handed in, where a list hands in c.
-fn handed(kind: Kind, c: u64) -> u64
+pub fn handed(kind: Kind, c: u64) -> u64
     ensures { λ r. ⌜ r ≡ handed kind c ⌝ }
 {
     if is_list(kind) { c } else { 0 }

@@ -4,12 +4,13 @@
 -- The definitions: catalogue (Catalogue), rank (Rank), posed (problems), entries and Solution (linear, Entry), Rank and Computes (linear, Rank). Assumes nothing.
 use mathlib.Core.Path.{_≡_, refl, sym, ap, _∙_, subst}
 use mathlib.Core.Logic.{_⊎_, inl, inr, _↔_}
-use mathlib.Core.Bool.{false, not}
+use mathlib.Core.Bool.{Bool, true, false, not}
 use mathlib.Core.List.{List, [], _∷_, _++_, map, List·Memᴰ, List·Memᴰ·head}
 use Prim.Native.Nat.{ℕ, _+_, _-_, _*_, _^_, _<_, _≤_}
 use native.Mathlib.Omega.{arith}
 use lib.ListN.{length, take, drop}
 use lib.Dec.{ltb, eqb}
+use borrow.Author.Tests.{eqb-true, ltb-false}
 use Rattle.kinds.specs.Refusal.{accepted, refuse}
 use Rattle.kinds.specs.RefusalLaws.{accepted-inj, follow-inv, refuse-inv}
 use Rattle.words.specs.Buffers.{filled}
@@ -116,12 +117,12 @@ module _ (gens targets : List ℕ) (k : ℕ) where
       }
 
 pub catalogue-means : (number p q r k : ℕ) (gs ts old : List ℕ) (c : Catalogued) → catalogue number p q r k gs ts old ≡ accepted c
-    → (x : Problem) × (posed number p q r gs ts [] ≡ accepted x) × CatalogueMeans (x .generators) (x .targets) k old c
+    → (x : Problem) × (posed number p q r gs ts [] ≡ accepted x) × (k ≤ dim word (x .targets) + 6) × CatalogueMeans (x .generators) (x .targets) k old c
 unfolding catalogue
 catalogue-means number p q r k gs ts old c e =
     let i = follow-inv (posed number p q r gs ts []) (λ x. refuse 8 (ltb (dim word (x .targets) + 6) k) (accepted (listing x k old))) c e in
     let j = refuse-inv 8 (ltb (dim word (i .0 .targets) + 6) k) (accepted (listing (i .0) k old)) c (i .2) in
-    (i .0, i .1, subst (CatalogueMeans (i .0 .generators) (i .0 .targets) k old) (accepted-inj (listing (i .0) k old) c (j .1)) (listing-means (i .0 .generators) (i .0 .targets) k old))
+    (i .0, i .1, ltb-false (dim word (i .0 .targets) + 6) k (j .0), subst (CatalogueMeans (i .0 .generators) (i .0 .targets) k old) (accepted-inj (listing (i .0) k old) c (j .1)) (listing-means (i .0 .generators) (i .0 .targets) k old))
 
 module _ (gens targets old : List ℕ) where
   formula-means : (es : List ℕ) → RankFormula word gens targets es → (t : ℕ) → List·Memᴰ t targets → rowForm (chosen word gens es) (rowOf (chosen word gens es) t) 0 ≡ t
@@ -165,9 +166,13 @@ module _ (gens targets old : List ℕ) where
           })
 
 pub rank-means : (number p q r k : ℕ) (gs ts old : List ℕ) (a : Ranking) → rank number p q r k gs ts old ≡ accepted a
-    → (x : Problem) × (posed number p q r gs ts [] ≡ accepted x) × (not (eqb k 0) ≡ false) × RankMeans (x .generators) (x .targets) old a
+    → (x : Problem) × (posed number p q r gs ts [] ≡ accepted x) × (k ≡ 0) × RankMeans (x .generators) (x .targets) old a
 unfolding rank
 rank-means number p q r k gs ts old a e =
     let i = follow-inv (posed number p q r gs ts []) (λ x. refuse 8 (not (eqb k 0)) (ranking (x .generators) (x .targets) old)) a e in
     let j = refuse-inv 8 (not (eqb k 0)) (ranking (i .0 .generators) (i .0 .targets) old) a (i .2) in
-    (i .0, i .1, j .0, ranking-means (i .0 .generators) (i .0 .targets) old a (j .1))
+    (i .0, i .1, eqb-true k 0 (is-true (eqb k 0) (j .0)), ranking-means (i .0 .generators) (i .0 .targets) old a (j .1))
+  where
+    is-true : (t : Bool) → not t ≡ false → t ≡ true
+    is-true true e = refl
+    is-true false e = sym e

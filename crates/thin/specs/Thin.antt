@@ -18,7 +18,7 @@ use lib.Bits.{bitXor}
 use lib.ListN.{length, getD}
 use Rattle.residues.specs.Residues.{known}
 use Rattle.buckets.specs.Bucket.{bucketOf}
-use Rattle.buckets.specs.Filter.{Dropped}
+use Rattle.residues.specs.Filter.{Dropped}
 
 abbrev pub boundOf : List ℕ → ℕ → ℕ
 boundOf ranks v = getD ranks (bucketOf v) 0

@@ -25,7 +25,7 @@ use Rattle.linear.specs.laws.Span.{span-bind, span-mem, span-mono}
 use Rattle.linear.specs.laws.Word.{Below, at-most, inserts-below, basisOf-below}
 use Rattle.residues.specs.Residues.{known, withResidue}
 use Rattle.buckets.specs.Bucket.{bucketOf, stretch}
-use Rattle.buckets.specs.Filter.{Bounded}
+use Rattle.residues.specs.Filter.{Bounded}
 use Rattle.buckets.specs.Table.{bucketRows, Sound, Cover, Sizes, Entering, Entered, Filled}
 
 -- ---- rows bound a rank

@@ -1,8 +1,9 @@
 -- The walk finds the entries, in order.
 --   walk-is     what it emits is what is emitted for the entries: for every test `stop` that stops only numbers that bring in nothing, or a multiple of what a
 --               smaller number would, and that lets only next numbers pass
---   Further     m rising numbers from i on and below hi that lead from C to a space that passes
+--   Further     m rising numbers from i on and below hi, none of them stopped, that lead from C to a space that passes
 --   walk-none   where there are none, nothing is emitted
+--   free-steps  numbers that are not stopped are next ones, if the test lets only these pass
 -- Assumes nothing.
 use mathlib.Core.Path.{_≡_, refl, sym, ap, ap₂, _∙_, subst}
 use mathlib.Core.Logic.{_⊎_, inl, inr}
@@ -15,12 +16,13 @@ use lib.Dec.{eqb}
 use borrow.Author.Tests.{eq-eqb, eqb-true, eqb-false}
 use Rattle.linear.specs.Space.{Field, Space}
 use Rattle.linear.specs.Basis.{reduce, insert, inserts, basisOf, Reduced, dim}
+use Rattle.linear.specs.Order.{Rising}
 use Rattle.linear.specs.Entry.{generatorsIn, generator, chosen, space, fits, entries}
 use Rattle.linear.specs.Walk.{Next, spans, walk}
 use Rattle.linear.specs.laws.Space.{scale-nul}
 use Rattle.linear.specs.laws.Span.{mem-cons, span-mem}
 use Rattle.linear.specs.laws.Reduce.{member}
-use Rattle.linear.specs.laws.Insert.{inserts-span, basisOf-reduced}
+use Rattle.linear.specs.laws.Insert.{insert-reduced, inserts-span, basisOf-reduced}
 use Rattle.linear.specs.laws.Order.{RisingList, rising-from}
 use Rattle.linear.specs.laws.Entry.{space-reduced}
 use Rattle.linear.specs.laws.Extension.{extension, prune, space-append}
@@ -214,13 +216,22 @@ module _ (S : Space) (gens targets : List (S .Vec)) (stop : List (S .Vec) → �
             }
 
 -- ---- what the walk emits comes from numbers further on
+module _ (S : Space) (gens : List (S .Vec)) (stop : List (S .Vec) → ℕ → Bool) where
+  open Space S using (Vec)
+
+  -- no number is stopped at the space that those before it lead to
+  abbrev pub Free : List Vec → List ℕ → Type 0
+  Free C [] = Unit {0}
+  Free C (e ∷ es) = (stop C e ≡ false) × Free (insert S C (generator S gens e)) es
+
 module _ (S : Space) (gens : List (S .Vec)) (stop : List (S .Vec) → ℕ → Bool) (leaf : List (S .Vec) → Bool) {A : Type 0} (emit : List ℕ → List (S .Vec) → A) where
   open Space S using (Vec)
 
-  -- m rising numbers from i on and below hi, that lead from C to a space that passes
+  -- m rising numbers from i on and below hi, none of them stopped, that lead from C to a space that passes
   pub record Further (C : List Vec) (i hi m : ℕ) : Type 0 where
     pub numbers : List ℕ
     pub rising : RisingList m i hi numbers
+    pub free : Free S gens stop C numbers
     pub good : leaf (inserts S C (chosen S gens numbers)) ≡ true
 
   pub walk-some : (C : List Vec) (p : List ℕ) (n i m hi : ℕ) → i + n ≡ hi → (x : A) → List·Memᴰ x (walk S gens stop leaf emit C p n i m) → Further C i hi m
@@ -228,17 +239,17 @@ module _ (S : Space) (gens : List (S .Vec)) (stop : List (S .Vec) → ℕ → Bo
   walk-some C p n i zero hi q x = go (leaf C) refl
     where
       go : (t : Bool) → leaf C ≡ t → List·Memᴰ x (cond t (emit p C ∷ []) []) → Further C i hi zero
-      go true e m = record { numbers = []; rising = (refl, tt); good = e }
+      go true e m = record { numbers = []; rising = (refl, tt); free = tt; good = e }
       go false e m = absurd (List·Memᴰ·not-nil m)
   walk-some C p zero i (suc m) hi q x = λ k. absurd (List·Memᴰ·not-nil k)
   walk-some C p (suc n) i (suc m) hi q x =
-      go (stop C i) (λ k. up (walk-some (insert S C (generator S gens i)) (p ++ i ∷ []) n (suc i) m hi (omega arith) x k)) (λ k. on (walk-some C p n (suc i) (suc m) hi (omega arith) x k))
+      go (stop C i) refl (λ b k. up b (walk-some (insert S C (generator S gens i)) (p ++ i ∷ []) n (suc i) m hi (omega arith) x k)) (λ k. on (walk-some C p n (suc i) (suc m) hi (omega arith) x k))
     where
-      up : Further (insert S C (generator S gens i)) (suc i) hi m → Further C i hi (suc m)
-      up f = record { numbers = i ∷ f .numbers; rising = (ap suc (f .rising .0), (omega arith, omega arith, f .rising .1)); good = f .good }
+      up : stop C i ≡ false → Further (insert S C (generator S gens i)) (suc i) hi m → Further C i hi (suc m)
+      up b f = record { numbers = i ∷ f .numbers; rising = (ap suc (f .rising .0), (omega arith, omega arith, f .rising .1)); free = (b, f .free); good = f .good }
 
       on : Further C (suc i) hi (suc m) → Further C i hi (suc m)
-      on f = record { numbers = f .numbers; rising = (f .rising .0, rising-from i (suc i) hi (f .numbers) (omega arith) (f .rising .1)); good = f .good }
+      on f = record { numbers = f .numbers; rising = (f .rising .0, rising-from i (suc i) hi (f .numbers) (omega arith) (f .rising .1)); free = f .free; good = f .good }
 
       here : List A
       here = walk S gens stop leaf emit (insert S C (generator S gens i)) (p ++ i ∷ []) n (suc i) m
@@ -250,9 +261,10 @@ module _ (S : Space) (gens : List (S .Vec)) (stop : List (S .Vec) → ℕ → Bo
       cases f g (inl k) = f k
       cases f g (inr k) = g k
 
-      go : (t : Bool) → (List·Memᴰ x here → Further C i hi (suc m)) → (List·Memᴰ x there → Further C i hi (suc m)) → List·Memᴰ x (elim t [ true ↦ there | false ↦ here ++ there ]) → Further C i hi (suc m)
-      go true f g k = g k
-      go false f g k = cases f g (List·Memᴰ·append-cases here k)
+      go : (t : Bool) → stop C i ≡ t → (stop C i ≡ false → List·Memᴰ x here → Further C i hi (suc m)) → (List·Memᴰ x there → Further C i hi (suc m))
+          → List·Memᴰ x (elim t [ true ↦ there | false ↦ here ++ there ]) → Further C i hi (suc m)
+      go true b f g k = g k
+      go false b f g k = cases (f b) g (List·Memᴰ·append-cases here k)
 
   pub walk-none : (C : List Vec) (p : List ℕ) (n i m hi : ℕ) → i + n ≡ hi → (Further C i hi m → ⊥) → walk S gens stop leaf emit C p n i m ≡ []
   walk-none C p n i m hi q h = go (walk S gens stop leaf emit C p n i m) refl
@@ -260,3 +272,10 @@ module _ (S : Space) (gens : List (S .Vec)) (stop : List (S .Vec) → ℕ → Bo
       go : (l : List A) → walk S gens stop leaf emit C p n i m ≡ l → l ≡ []
       go [] e = refl
       go (x ∷ l) e = absurd (h (walk-some C p n i m hi q x (subst (λ (y : List A). List·Memᴰ x y) (sym e) (List·Memᴰ·head refl))))
+
+-- such numbers are next ones, each in its turn
+pub free-steps : (S : Space) (gens : List (S .Vec)) (stop : List (S .Vec) → ℕ → Bool) → ((C : List (S .Vec)) (i : ℕ) → Reduced S C → stop C i ≡ false → Next S gens C i)
+    → (es : List ℕ) (C : List (S .Vec)) (lo hi : ℕ) → Reduced S C → Rising lo hi es → Free S gens stop C es → Steps S gens C lo hi es
+free-steps S gens stop nx [] C lo hi ρ r f = tt
+free-steps S gens stop nx (e ∷ es) C lo hi ρ r f =
+    (r .0, r .1, nx C e ρ (f .0), free-steps S gens stop nx es (insert S C (generator S gens e)) (suc e) hi (insert-reduced S C (generator S gens e) ρ) (r .2) (f .1))

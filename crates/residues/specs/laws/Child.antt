@@ -3,6 +3,7 @@
 --   residue-at, residues-length    the residue with a number; how many there are
 --   clear-zero                     the row x clears to 0 only 0 and x
 --   with-zero                      the generators of residue 0 are those in the space
+--   with-mem, mem-with             the generators of a residue
 --   child-dim                      those in the child span as many dimensions as the generators of residue x make rows on those of residue 0
 -- Assumes nothing.
 use mathlib.Core.Path.{_≡_, refl, sym, ap, ap₂, _∙_, subst}
@@ -92,12 +93,12 @@ with-zero [] C = refl
 with-zero (g ∷ gens) C = ap₂ (λ (t : Bool) (r : List ℕ). cond t (g ∷ r) r) (eqb-zero (reduce word C g)) (with-zero gens C)
 
 module _ (gens C : List ℕ) where
-  with-mem : (y m : ℕ) → List·Memᴰ m (withResidue y gens (residues gens C)) → List·Memᴰ m gens × (reduce word C m ≡ y)
+  pub with-mem : (y m : ℕ) → List·Memᴰ m (withResidue y gens (residues gens C)) → List·Memᴰ m gens × (reduce word C m ≡ y)
   with-mem y m k =
       let r = only-mem (λ g. eqb (reduce word C g) y) gens m (subst (λ (l : List ℕ). List·Memᴰ m l) (with-only y gens C) k) in
       (r .0, eqb-true (reduce word C m) y (r .1))
 
-  mem-with : (y m : ℕ) → List·Memᴰ m gens → reduce word C m ≡ y → List·Memᴰ m (withResidue y gens (residues gens C))
+  pub mem-with : (y m : ℕ) → List·Memᴰ m gens → reduce word C m ≡ y → List·Memᴰ m (withResidue y gens (residues gens C))
   mem-with y m k e =
       subst (λ (l : List ℕ). List·Memᴰ m l) (sym (with-only y gens C)) (mem-only (λ g. eqb (reduce word C g) y) gens m k (eq-eqb (reduce word C m) y e))
 

@@ -16,16 +16,18 @@ use lib.Seq.{getD-set-same, getD-set-other}
 use Rattle.linear.specs.Basis.{reduce, insert, inserts, basisOf, Reduced, dim}
 use Rattle.linear.specs.Entry.{generator, chosen, generatorsIn}
 use Rattle.linear.specs.Word.{word}
+use Rattle.linear.specs.laws.Reduce.{member}
 use Rattle.bases.specs.Basis.{rowsOf, Holds}
 use Rattle.bases.specs.declared.Basis.{Basis}
 use Rattle.residues.specs.Residues.{residues, withResidue, known}
 use Rattle.residues.specs.laws.Child.{residue-at, child-dim}
 use Rattle.residues.specs.laws.Held.{holds-length}
-use Rattle.sieve.specs.Sieve.{Barren, Worth, Judged, Sieved}
+use Rattle.residues.specs.Barren.{Barren}
+use Rattle.sieve.specs.Sieve.{Worth, Judged, Sieved}
 
 pub barren-last : (gens h : List ℕ) (j k r : ℕ) → r ≡ length (inserts word (basisOf word (withResidue 0 gens h)) (withResidue (getD h j 0) gens h)) → (r ≡ k → ⊥)
     → Barren gens h j k 1
-barren-last gens h j k r d ne = record { none = λ C ρ l n es c q. last C ρ l n es (c .0) q }
+barren-last gens h j k r d ne = record { none = λ C ρ l n es c st q. last C ρ l (λ z. n .new (member word C ρ f .1 z)) es c q }
   where
     f : ℕ
     f = generator word gens j

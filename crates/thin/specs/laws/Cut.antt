@@ -13,7 +13,7 @@ use lib.Bits.{bitXor}
 use lib.ListN.{length, getD, set, length-set}
 use lib.Seq.{getD-set-same, getD-set-other}
 use Rattle.residues.specs.Residues.{known}
-use Rattle.buckets.specs.Filter.{Dropped}
+use Rattle.residues.specs.Filter.{Dropped}
 use Rattle.thin.specs.Thin.{boundOf, Ruled, Seen, Marking}
 
 -- without pairs a rank below need is enough

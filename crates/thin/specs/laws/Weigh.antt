@@ -20,7 +20,7 @@ use Rattle.linear.specs.laws.Entry.{sameVec-yes}
 use Rattle.residues.specs.Residues.{known}
 use Rattle.residues.specs.laws.Known.{known-ne, known-found}
 use Rattle.buckets.specs.Bucket.{bucketOf}
-use Rattle.buckets.specs.Filter.{Dropped}
+use Rattle.residues.specs.Filter.{Dropped}
 use Rattle.thin.specs.Thin.{boundOf, Light, Unreached, Small, Heavies, Ruled, Seen, Marking, Weighing, Weighed}
 
 xor-zero : (x y : ℕ) → bitXor x y ≡ 0 → x ≡ y

@@ -12,18 +12,21 @@ use mathlib.Core.List.{List, [], _∷_, _++_, map}
 use Prim.Native.Nat.{ℕ, zero, suc, _+_, _-_, _<_, _≤_}
 use native.Mathlib.Omega.{arith}
 use native.Mathlib.Numerals.{add-one}
-use lib.ListN.{length, getD}
+use lib.ListN.{length}
 use lib.Dec.{eqb}
 use borrow.Author.Tests.{eqb-true}
-use Rattle.linear.specs.Basis.{reduce, insert, inserts, basisOf, Reduced, dim}
+use Rattle.linear.specs.Basis.{insert, inserts, basisOf, Reduced, dim}
 use Rattle.linear.specs.Entry.{generator, chosen, generatorsIn, space, entries}
-use Rattle.linear.specs.Walk.{spans, walk}
+use Rattle.linear.specs.Order.{Rising}
+use Rattle.linear.specs.Walk.{Next, spans, walk}
 use Rattle.linear.specs.Word.{word}
-use Rattle.linear.specs.laws.Walk.{walk-is, walk-none}
+use Rattle.linear.specs.laws.Insert.{insert-reduced}
+use Rattle.linear.specs.laws.Canonical.{Steps}
+use Rattle.linear.specs.laws.Walk.{walk-is, Free, walk-none, free-steps}
 use Rattle.residues.specs.Residues.{residues, known, withResidue}
-use Rattle.sieve.specs.Sieve.{Barren}
-use Rattle.residues.specs.laws.Known.{known-yes, known-no, known-ne}
-use Rattle.residues.specs.laws.Child.{residue-at, with-zero}
+use Rattle.residues.specs.laws.Known.{known-yes, known-no}
+use Rattle.residues.specs.laws.Child.{with-zero}
+use Rattle.residues.specs.Barren.{Barren}
 use Rattle.walk.specs.Records.{State, note, run}
 use Rattle.walk.specs.Walk.{search}
 
@@ -94,13 +97,16 @@ module _ (gens : List ℕ) (k : ℕ) (C p : List ℕ) where
         → search gens k (insert word C (generator word gens j)) (p ++ j ∷ []) (length gens - (j + 1)) (j + 1) (m - 1) ≡ []
     turn-drop ρ g e B =
         walk-none word gens (λ D i. known (residues gens D) i) (spans word gens k) (λ q D. q ++ D) (insert word C f) (p ++ j ∷ []) (length gens - (j + 1)) (j + 1) (m - 1) (length gens) (omega arith)
-        (λ a. B .none C ρ l nz (a .numbers) (a .rising) (passes (inserts word (insert word C f) (chosen word gens (a .numbers))) (a .good)))
+        (λ a. B .none C ρ l nx (a .numbers) (a .rising .0) (steps (a .numbers) (a .rising .1) (a .free)) (passes (inserts word (insert word C f) (chosen word gens (a .numbers))) (a .good)))
       where
         f : ℕ
         f = generator word gens j
 
-        nz : reduce word C f ≢ 0
-        nz z = known-ne h j e (ap (λ (x : List ℕ). getD x j 0) l ∙ residue-at gens C j ∙ z)
+        nx : Next word gens C j
+        nx = known-no gens C j ρ (ap (λ (x : List ℕ). known x j) (sym l) ∙ sym e)
+
+        steps : (es : List ℕ) → Rising (j + 1) (length gens) es → Free word gens (λ D i. known (residues gens D) i) (insert word C f) es → Steps word gens (insert word C f) (j + 1) (length gens) es
+        steps es = free-steps word gens (λ D i. known (residues gens D) i) (known-no gens) es (insert word C f) (j + 1) (length gens) (insert-reduced word C f ρ)
 
         passes : (W : List ℕ) → spans word gens k W ≡ true → dim word (generatorsIn word gens W) ≡ k
         passes W q = unfold spans in eqb-true (dim word (generatorsIn word gens W)) k q

@@ -1,0 +1,87 @@
+-- `programs::problem_program` meets its contract. Assumes nothing.
+use mathlib.Core.Path.{sym}
+use native.Mathlib.Omega.{arith}
+use lib.Seq.{length-take-le}
+use Rattle.programs.specs.laws.Input.{input-room, program-refused, program-said}
+use borrow.Author.Needs.{needs}
+use Rattle.programs.proofs.problem_program.Statement.{statement}
+use Rattle.programs.proofs.problem_program.Tie as tie
+use Rattle.programs.proofs.problem_program.Reads as reads
+use Rattle.programs.proofs.problem_program.Lts as lts
+use Rattle.answers.proofs.refused_page.Reads as refused-page-reads
+use Rattle.problem_files.proofs.handed.Reads as handed-reads
+use Rattle.programs.proofs.read_input.Reads as read-input-reads
+use Rattle.programs.proofs.reply.Reads as reply-reads
+
+slice-aggregate-read-input : tie.Need-slice-aggregate-read-input
+slice-aggregate-read-input c = search needs
+
+slice-aggregate-read-input-2 : tie.Need-slice-aggregate-read-input-2
+slice-aggregate-read-input-2 c = search needs
+
+read-input-requires : tie.Need-read-input-requires
+read-input-requires c κs = search needs
+
+enum-known-e : tie.Need-enum-known-e
+enum-known-e c = search needs
+
+refused-page-requires : tie.Need-refused-page-requires
+refused-page-requires c κs = search needs
+
+enum-known-kind : tie.Need-enum-known-kind
+enum-known-kind c = search needs
+
+handed-requires : tie.Need-handed-requires
+handed-requires c κs = search needs
+
+handed-requires-2 : tie.Need-handed-requires-2
+handed-requires-2 c κs = search needs
+
+array-share-prefix-gs : tie.Need-array-share-prefix-gs
+array-share-prefix-gs c = let m = input-room (c .before .before .before .before .before .before .before .before .before .before .before .before .args .purpose) (c .before .before .before .before .before .before .before .before .before .before .before .before .args .file .now) (c .before .before .before .before .before .before .before .read-input .result) _ _ (c .before .before .before .before .before .before .before .read-input .ensures) (c .before .before .before .kind .given .0 .0) (c .before .before .before .kind .given .0 .1 .0) (c .before .before .before .kind .given .0 .1 .1 .0) (c .before .before .before .kind .given .0 .1 .1 .1 .0) (c .before .before .before .kind .given .0 .1 .1 .1 .1 .0) (c .before .before .before .kind .given .1) .0 in let e = c .before .handed .ensures in let l = c .before .before .before .before .before .before .before .read-input .kept .1 .1 .0 in omega arith
+
+slice-aggregate-reply : tie.Need-slice-aggregate-reply
+slice-aggregate-reply c = let m = input-room (c .before .before .before .before .before .before .before .before .before .before .before .before .before .args .purpose) (c .before .before .before .before .before .before .before .before .before .before .before .before .before .args .file .now) (c .before .before .before .before .before .before .before .before .read-input .result) _ _ (c .before .before .before .before .before .before .before .before .read-input .ensures) (c .before .before .before .before .kind .given .0 .0) (c .before .before .before .before .kind .given .0 .1 .0) (c .before .before .before .before .kind .given .0 .1 .1 .0) (c .before .before .before .before .kind .given .0 .1 .1 .1 .0) (c .before .before .before .before .kind .given .0 .1 .1 .1 .1 .0) (c .before .before .before .before .kind .given .1) .0 in let e = c .before .before .handed .ensures in let l = c .before .before .before .before .before .before .before .before .read-input .kept .1 .1 .0 in sym (length-take-le (c .before .before .handed .result) (c .before .before .before .before .before .before .before .before .read-input .last .1 .1 .0) (omega arith))
+
+array-share-prefix-ts : tie.Need-array-share-prefix-ts
+array-share-prefix-ts c = let m = input-room (c .before .before .before .before .before .before .before .before .before .before .before .before .before .args .purpose) (c .before .before .before .before .before .before .before .before .before .before .before .before .before .args .file .now) (c .before .before .before .before .before .before .before .before .read-input .result) _ _ (c .before .before .before .before .before .before .before .before .read-input .ensures) (c .before .before .before .before .kind .given .0 .0) (c .before .before .before .before .kind .given .0 .1 .0) (c .before .before .before .before .kind .given .0 .1 .1 .0) (c .before .before .before .before .kind .given .0 .1 .1 .1 .0) (c .before .before .before .before .kind .given .0 .1 .1 .1 .1 .0) (c .before .before .before .before .kind .given .1) .1 in let e = c .before .handed2 .ensures in let l = c .before .before .before .before .before .before .before .before .read-input .kept .1 .1 .1 .0 in omega arith
+
+slice-aggregate-reply-2 : tie.Need-slice-aggregate-reply-2
+slice-aggregate-reply-2 c = let m = input-room (c .before .before .before .before .before .before .before .before .before .before .before .before .before .before .args .purpose) (c .before .before .before .before .before .before .before .before .before .before .before .before .before .before .args .file .now) (c .before .before .before .before .before .before .before .before .before .read-input .result) _ _ (c .before .before .before .before .before .before .before .before .before .read-input .ensures) (c .before .before .before .before .before .kind .given .0 .0) (c .before .before .before .before .before .kind .given .0 .1 .0) (c .before .before .before .before .before .kind .given .0 .1 .1 .0) (c .before .before .before .before .before .kind .given .0 .1 .1 .1 .0) (c .before .before .before .before .before .kind .given .0 .1 .1 .1 .1 .0) (c .before .before .before .before .before .kind .given .1) .1 in let e = c .before .before .handed2 .ensures in let l = c .before .before .before .before .before .before .before .before .before .read-input .kept .1 .1 .1 .0 in sym (length-take-le (c .before .before .handed2 .result) (c .before .before .before .before .before .before .before .before .before .read-input .last .1 .1 .1 .0) (omega arith))
+
+reply-requires : tie.Need-reply-requires
+reply-requires c κs = search needs
+
+same-length : tie.Need-same-length
+same-length c = c .before .before .refused-page .kept .1 .0
+
+returns : tie.Need-returns
+returns c = program-refused (c .before .before .before .before .before .before .before .before .before .before .before .before .before .before .args .purpose) (c .before .before .before .before .before .before .before .before .before .before .before .before .before .before .args .file .now) (c .before .before .before .before .before .before .before .before .before .read-input .result) _ _ (c .before .before .before .before .before .before .before .before .before .read-input .ensures) (c .before .before .before .before .before .e .given .0 .0) _ _ (c .before .before .before .before .before .e .given .1) (c .before .before .refused-page .ensures)
+
+same-length-2 : tie.Need-same-length-2
+same-length-2 c = c .before .before .reply .kept .1 .1 .1 .1 .1 .1 .1 .1 .0
+
+returns-2 : tie.Need-returns-2
+returns-2 c = program-said (c .before .before .before .before .before .before .before .before .before .before .before .before .before .before .before .before .before .before .args .purpose) (c .before .before .before .before .before .before .before .before .before .before .before .before .before .before .before .before .before .before .args .file .now) (c .before .before .before .before .before .before .before .before .before .before .before .before .before .read-input .result) _ _ (c .before .before .before .before .before .before .before .before .before .before .before .before .before .read-input .ensures) (c .before .before .before .before .before .before .before .before .before .kind .given .0 .0) (c .before .before .before .before .before .before .before .before .before .kind .given .0 .1 .0) (c .before .before .before .before .before .before .before .before .before .kind .given .0 .1 .1 .0) (c .before .before .before .before .before .before .before .before .before .kind .given .0 .1 .1 .1 .0) (c .before .before .before .before .before .before .before .before .before .kind .given .0 .1 .1 .1 .1 .0) (c .before .before .before .before .before .before .before .before .before .kind .given .1) _ _ _ _ (c .before .before .before .before .before .before .before .handed .ensures) (c .before .before .before .before .before .before .handed2 .ensures) (c .before .before .reply .ensures)
+
+pub problem-program-spec : {M : Type 1} → statement M
+problem-program-spec =
+    tie.close
+    (tie.spec
+    slice-aggregate-read-input
+    slice-aggregate-read-input-2
+    read-input-requires
+    enum-known-e
+    refused-page-requires
+    enum-known-kind
+    handed-requires
+    handed-requires-2
+    array-share-prefix-gs
+    slice-aggregate-reply
+    array-share-prefix-ts
+    slice-aggregate-reply-2
+    reply-requires
+    same-length
+    returns
+    same-length-2
+    returns-2)

@@ -1,0 +1,49 @@
+-- `programs::reply` meets its contract. Assumes nothing.
+use mathlib.Core.Path.{ap, sym, _∙_}
+use Rattle.problem_files.specs.ProblemFile.{problemOf}
+use Rattle.problem_files.specs.declared.Purpose.{Purpose}
+use Rattle.programs.specs.Programs.{replyTo}
+use borrow.Author.Needs.{needs}
+use Rattle.programs.proofs.reply.Statement.{statement}
+use Rattle.programs.proofs.reply.Tie as tie
+use Rattle.programs.proofs.reply.Reads as reads
+use Rattle.programs.proofs.reply.Lts as lts
+use Rattle.answers.proofs.catalogue_reply.Reads as catalogue-reply-reads
+use Rattle.answers.proofs.rank_reply.Reads as rank-reply-reads
+
+enum-told : tie.Need-enum-told
+enum-told c = search needs
+
+catalogue-reply-requires : tie.Need-catalogue-reply-requires
+catalogue-reply-requires c κs = search needs
+
+enum-told-2 : tie.Need-enum-told-2
+enum-told-2 c = search needs
+
+rank-reply-requires : tie.Need-rank-reply-requires
+rank-reply-requires c κs = search needs
+
+same-length : tie.Need-same-length
+same-length c = c .before .before .catalogue-reply .kept .1 .1 .1 .1 .1 .1 .1 .0
+
+returns : tie.Need-returns
+returns c = (c .before .before .catalogue-reply .ensures .0 ∙ ap (λ (a : Purpose). replyTo a (problemOf (c .before .before .before .before .before .before .before .before .before .args .kind) (c .before .before .before .before .before .before .before .before .before .args .p) (c .before .before .before .before .before .before .before .before .before .args .q) (c .before .before .before .before .before .before .before .before .before .args .r) (c .before .before .before .before .before .before .before .before .before .args .k) (c .before .before .before .before .before .before .before .before .before .args .gs .now) (c .before .before .before .before .before .before .before .before .before .args .ts .now))) (sym (c .before .before .before .before .enum-told .given .1)), c .before .before .catalogue-reply .ensures .1)
+
+same-length-2 : tie.Need-same-length-2
+same-length-2 c = c .before .before .rank-reply .kept .1 .1 .1 .1 .1 .1 .1 .0
+
+returns-2 : tie.Need-returns-2
+returns-2 c = (c .before .before .rank-reply .ensures .0 ∙ ap (λ (a : Purpose). replyTo a (problemOf (c .before .before .before .before .before .before .before .before .before .args .kind) (c .before .before .before .before .before .before .before .before .before .args .p) (c .before .before .before .before .before .before .before .before .before .args .q) (c .before .before .before .before .before .before .before .before .before .args .r) (c .before .before .before .before .before .before .before .before .before .args .k) (c .before .before .before .before .before .before .before .before .before .args .gs .now) (c .before .before .before .before .before .before .before .before .before .args .ts .now))) (sym (c .before .before .before .before .enum-told2 .given .1)), c .before .before .rank-reply .ensures .1)
+
+pub reply-spec : {M : Type 1} → statement M
+reply-spec =
+    tie.close
+    (tie.spec
+    enum-told
+    catalogue-reply-requires
+    enum-told-2
+    rank-reply-requires
+    same-length
+    returns
+    same-length-2
+    returns-2)

@@ -1,0 +1,3 @@
+-- What the programs print of an input.
+pub mod Programs
+pub mod laws

@@ -1,0 +1,3 @@
+-- The laws behind the programs.
+pub mod Handed
+pub mod Input

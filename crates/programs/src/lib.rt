@@ -1,0 +1,75 @@
+// What the Catalogue and Rank programs print of an input.
+ghost use mathlib.Core.Path.{_≡_};
+ghost use Prim.Native.Nat.{_≤_};
+ghost use lib.ListN.{length, take};
+ghost use Rattle.problem_files.specs.ProblemFile.{problemOf};
+ghost use Rattle.programs.specs.Programs.{replyTo, problemProgram, catalogueProgram, rankProgram};
+ghost use Rattle.programs.specs.laws.Input.{Input};
+use kinds::Kind;
+use problem_files::ProblemRead;
+use problem_files::Purpose;
+
+// Reads the problem of an input of at most 65,536 bytes; the forms of a list from the buffers' start.
+pub fn read_input(file: &[u8], purpose: Purpose, gs: &mut [u64], ts: &mut [u64]) -> ProblemRead
+    requires { ⌜ (length (now gs) ≡ 4096) × (length (now ts) ≡ 4096) ⌝ }
+    ensures { λ x. ⌜ Input purpose (now (file .entry)) x (now (gs .exit)) (now (ts .exit)) ⌝ }
+{
+    if 65536 < file.len() {
+        return ProblemRead::Refused(1);
+    }
+    problem_files::read_problem(file, purpose, gs, ts)
+}
+
+// What is printed of a problem, from the start of a page; its length.
+fn reply(
+    purpose: Purpose,
+    kind: Kind,
+    p: u64,
+    q: u64,
+    r: u64,
+    k: u64,
+    gs: &[u64],
+    ts: &[u64],
+    page: &mut [u8],
+) -> usize
+    requires { ⌜ length (now page) ≡ 196608 ⌝ }
+    ensures { λ e. ⌜ (take e (now (page .exit)) ≡ replyTo purpose (problemOf kind p q r k (now (gs .entry)) (now (ts .entry)))) × (e ≤ 196608) ⌝ }
+{
+    match purpose {
+        Purpose::Catalogue => answers::catalogue_reply(kind, p, q, r, k, gs, ts, page),
+        Purpose::Rank => answers::rank_reply(kind, p, q, r, k, gs, ts, page),
+    }
+}
+
+// What is printed of an input, likewise.
+fn problem_program(purpose: Purpose, file: &[u8], page: &mut [u8]) -> usize
+    requires { ⌜ length (now page) ≡ 196608 ⌝ }
+    ensures { λ e. ⌜ (take e (now (page .exit)) ≡ problemProgram purpose (now (file .entry))) × (e ≤ 196608) ⌝ }
+{
+    let mut gs = [0u64; 4096];
+    let mut ts = [0u64; 4096];
+    match read_input(file, purpose, &mut gs, &mut ts) {
+        ProblemRead::Refused(e) => answers::refused_page(e, page),
+        ProblemRead::Problem(kind, p, q, r, k) => {
+            let c = problem_files::handed(kind, q) as usize;
+            let d = problem_files::handed(kind, r) as usize;
+            reply(purpose, kind, p, q, r, k, &gs[..c], &ts[..d], page)
+        }
+    }
+}
+
+// What the Catalogue program prints of an input, from the start of a page; its length.
+pub fn catalogue_program(file: &[u8], page: &mut [u8]) -> usize
+    requires { ⌜ length (now page) ≡ 196608 ⌝ }
+    ensures { λ e. ⌜ (take e (now (page .exit)) ≡ catalogueProgram (now (file .entry))) × (e ≤ 196608) ⌝ }
+{
+    problem_program(Purpose::Catalogue, file, page)
+}
+
+// What the Rank program prints of an input, likewise.
+pub fn rank_program(file: &[u8], page: &mut [u8]) -> usize
+    requires { ⌜ length (now page) ≡ 196608 ⌝ }
+    ensures { λ e. ⌜ (take e (now (page .exit)) ≡ rankProgram (now (file .entry))) × (e ≤ 196608) ⌝ }
+{
+    problem_program(Purpose::Rank, file, page)
+}

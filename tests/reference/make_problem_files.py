@@ -1,0 +1,130 @@
+#!/usr/bin/env python3
+"""Writes the problem files of crates/problem_answers/data, their names to its file args, and the replies expected of it to its file stdout.
+
+Each file is asked by all three programs, Catalogue, Rank and Formulae; the
+replies come from catalogue.py and formulae.py, which share nothing with the
+code under test.  Where a file is made for a refusal, its number is written
+beside it and all three must agree, but for 8, which depends on what is asked.
+The random lists come from a fixed seed.  A name is three digits, a short name
+padded with '-', and `.txt`: 24 bytes.
+"""
+
+import glob
+import os
+import random
+import sys
+
+sys.dont_write_bytecode = True
+from catalogue import catalogue_program, random_list, rank_program
+from formulae import formulae_program
+
+CRATE = os.path.join(os.path.dirname(os.path.abspath(__file__)), "..", "..", "crates", "problem_answers")
+DATA = os.path.join(CRATE, "data")
+HEAD = b"kind,p,q,r,k\n"
+PROGRAMS = (catalogue_program, rank_program, formulae_program)
+
+files = []
+
+
+def add(name, data, refusal=None):
+    stem = "%03d-%s" % (len(files), name)
+    assert len(stem) <= 20, stem
+    files.append((stem.ljust(20, "-") + ".txt", data, refusal))
+
+
+def problem(kind, p, q, r, k, gs=None, ts=None):
+    data = HEAD + b"%s,%d,%d,%d,%d\n" % (kind, p, q, r, k)
+    if gs is not None:
+        data += b"role,form\n" + b"".join(b"g,%x\n" % g for g in gs) + b"".join(b"t,%x\n" % t for t in ts)
+    return data
+
+
+def listed(p, k, gs, ts):
+    return problem(b"list", p, len(gs), len(ts), k, gs, ts)
+
+
+def padded(length):
+    return problem(b"poly", 2, 2, 0, 3).ljust(length, b"\n")
+
+
+# Problems that are answered.
+
+def answered():
+    for kind, p, q, r, ks in ((b"poly", 1, 1, 0, (0, 1, 2)), (b"poly", 2, 2, 0, (0, 3, 4, 5, 9)), (b"poly", 2, 3, 0, (0, 5, 6)), (b"poly", 3, 2, 0, (5,)),
+                              (b"poly", 3, 3, 0, (0, 5, 6)), (b"poly", 4, 1, 0, (0, 4)), (b"poly", 4, 2, 0, (0, 6)), (b"poly", 4, 4, 0, (9,)),
+                              (b"poly", 6, 1, 0, (6,)), (b"short", 1, 1, 0, (0, 1)), (b"short", 2, 2, 0, (0, 3)), (b"short", 3, 3, 0, (0, 5)),
+                              (b"circ", 1, 1, 0, (1,)), (b"circ", 2, 2, 0, (0, 3)), (b"circ", 3, 3, 0, (0, 4)), (b"mat", 1, 1, 1, (0, 1)),
+                              (b"mat", 1, 2, 1, (0, 2)), (b"mat", 2, 1, 1, (0, 2)), (b"mat", 1, 2, 2, (0, 4)), (b"mat", 2, 1, 2, (0, 4))):
+        for k in ks:
+            add("%s-%d-%d-%d-%d" % (kind.decode(), p, q, r, k), problem(kind, p, q, r, k))
+    add("list-two-bits-1", listed(2, 1, [1, 2, 3], [3]))
+    add("list-two-bits-2", listed(2, 2, [1, 2, 3], [3]))
+    add("list-beyond", listed(2, 0, [1], [2]))
+    add("list-rank-0", listed(2, 0, [1], [0]))
+    add("list-wide", listed(64, 0, [2 ** 63, 2 ** 64 - 1, 1], [2 ** 63 - 2]))
+    add("list-above", listed(8, 0, [1 << i for i in range(8)], [255]))
+    add("list-64-targets", listed(3, 3, list(range(1, 8)), [t % 8 for t in range(64)]))
+    add("list-order", listed(3, 2, [6, 5, 3, 1], [3, 5]))
+    add("list-most", listed(12, 1, list(range(1, 4096)), [1]))
+    chance = random.Random(6)
+    for at in range(24):
+        p, gs, ts = random_list(chance)
+        add("list-random-%d" % at, listed(p, chance.choice((0, 0, 1, 2, 3, 4)), gs, ts))
+
+
+# Files that are refused, by the list's numbers.
+
+def damaged():
+    good = listed(3, 2, [1, 2, 4], [3])
+    lines = good.split(b"\n")
+    for name, data in (("empty", b""), ("no-lf", HEAD[:-1]), ("names-only", HEAD), ("names-upper", b"Kind,p,q,r,k\npoly,2,2,0,3\n"),
+                       ("names-space", b"kind,p,q,r,k \npoly,2,2,0,3\n"), ("names-cr", b"kind,p,q,r,k\r\npoly,2,2,0,3\n"), ("second-no-lf", HEAD + b"poly,2,2,0,3"),
+                       ("three-counts", HEAD + b"poly,2,2,0\n"), ("five-counts", HEAD + b"poly,2,2,0,3,0\n"), ("count-zero-2", HEAD + b"poly,02,2,0,3\n"),
+                       ("count-letter", HEAD + b"poly,2,x,0,3\n"), ("count-empty", HEAD + b"poly,2,,0,3\n"), ("count-five", HEAD + b"poly,2,2,0,10000\n"),
+                       ("count-sign", HEAD + b"poly,2,2,0,+3\n"), ("count-cr", HEAD + b"poly,2,2,0,3\r\n"), ("no-comma", HEAD + b"poly\n"),
+                       ("blank-second", HEAD + b"\n"), ("too-long", padded(65537))):
+        add("1-" + name, data, 1)
+    for name, data in (("unknown", HEAD + b"cube,2,2,0,3\n"), ("upper", HEAD + b"Poly,2,2,0,3\n"), ("none", HEAD + b",2,2,0,3\n"), ("longer", HEAD + b"polys,2,2,0,3\n"),
+                       ("odd-bytes", HEAD + b"\xff\x00,2,2,0,3\n"), ("before-3", HEAD + b"cube,0,0,0,0\n")):
+        add("2-" + name, data, 2)
+    for name, args in (("p-0", (b"poly", 0, 2, 0, 3)), ("q-0", (b"poly", 2, 0, 0, 3)), ("r-1", (b"poly", 2, 2, 1, 3)), ("too-wide", (b"poly", 9, 8, 0, 3)),
+                       ("short-uneven", (b"short", 2, 3, 0, 3)), ("circ-uneven", (b"circ", 3, 2, 0, 3)), ("circ-r", (b"circ", 2, 2, 2, 3)), ("mat-r-0", (b"mat", 2, 2, 0, 3)),
+                       ("mat-wide", (b"mat", 3, 3, 3, 3)), ("list-p-65", (b"list", 65, 1, 1, 1)), ("list-p-0", (b"list", 0, 1, 1, 1)), ("list-q-0", (b"list", 2, 0, 1, 1)),
+                       ("list-r-0", (b"list", 2, 1, 0, 1)), ("list-r-65", (b"list", 2, 1, 65, 1)), ("before-5", (b"list", 2, 9999, 65, 1))):
+        add("3-" + name, problem(*args), 3)
+    for name, data in (("poly-7-6", problem(b"poly", 7, 6, 0, 12)), ("poly-13-1", problem(b"poly", 13, 1, 0, 13)), ("poly-64-1", problem(b"poly", 64, 1, 0, 64)),
+                       ("poly-1-64", problem(b"poly", 1, 64, 0, 64)), ("poly-8-8", problem(b"poly", 8, 8, 0, 22)), ("mat-3-2-4", problem(b"mat", 3, 2, 4, 14)),
+                       ("list-4096", listed(13, 1, list(range(1, 4097)), [1])), ("list-9999", listed(1, 1, [1] * 9999, [1])), ("before-5", problem(b"list", 2, 4096, 1, 1))):
+        add("4-" + name, data, 4)
+    for name, data in (("line-after", problem(b"poly", 2, 2, 0, 3) + b"\n"), ("bytes-after", problem(b"poly", 2, 2, 0, 3) + b"x"), ("list-no-lines", problem(b"list", 2, 1, 1, 1)),
+                       ("role-name", good.replace(b"role,form", b"form,role")), ("line-too-few", b"\n".join(lines[:-2]) + b"\n"), ("line-too-many", good + b"t,1\n"),
+                       ("no-last-lf", good[:-1]), ("target-first", good.replace(b"g,4", b"t,4")), ("generator-last", good.replace(b"\nt,3", b"\ng,3")), ("upper-hex", listed(8, 1, [10, 1], [1]).replace(b"g,a", b"g,A")),
+                       ("leading-zero", good.replace(b"g,4", b"g,04")), ("form-empty", good.replace(b"g,4", b"g,")), ("form-17", good.replace(b"g,4", b"g,10000000000000000")),
+                       ("form-two", good.replace(b"g,4", b"g,4,4")), ("form-cr", good.replace(b"g,4\n", b"g,4\r\n")), ("space", good.replace(b"g,4", b"g, 4")), ("before-6", good.replace(b"g,4", b"g,8") + b"\n"), ("longest", padded(65536))):
+        add("5-" + name, data, 5)
+    for name, data in (("generator", listed(3, 2, [1, 2, 8], [3])), ("target", listed(3, 2, [1, 2, 4], [8])), ("before-7", listed(3, 2, [1, 1, 2], [9])), ("wide", listed(63, 1, [2 ** 63], [1]))):
+        add("6-" + name, data, 6)
+    for name, data in (("zero", listed(3, 2, [1, 0, 4], [3])), ("repeat", listed(3, 2, [1, 2, 1], [3])), ("repeat-next", listed(3, 2, [4, 4], [4])), ("before-8", listed(3, 100, [1, 1], [1]))):
+        add("7-" + name, data, 7)
+    add("8-poly-2-2-10", problem(b"poly", 2, 2, 0, 10), 8)
+    add("8-list-9999", listed(2, 9999, [1, 2, 3], [3]), 8)
+
+
+def main():
+    answered()
+    damaged()
+    os.makedirs(DATA, exist_ok=True)
+    for path in glob.glob(os.path.join(DATA, "*.txt")):
+        os.remove(path)
+    with open(os.path.join(CRATE, "args"), "w") as args, open(os.path.join(CRATE, "stdout"), "w") as out:
+        for name, data, refusal in files:
+            replies = [program(data) for program in PROGRAMS]
+            assert refusal is None or set(replies) == {"refused %d\n" % refusal}, (name, replies)
+            assert refusal is not None or not all(reply.startswith("refused") for reply in replies), (name, replies)
+            with open(os.path.join(DATA, name), "wb") as file:
+                file.write(data)
+            args.write(name + "\n")
+            out.write(name + "\n" + "".join(replies))
+
+
+main()
