@@ -3,7 +3,7 @@
 --   Sound h i ranks firsts            == a bucket in use has as its first number one below i whose residue is in it; a rank above 9 stands for "no bound", and is at least 64
 --   Cover gens h start S i ..         == each generator from start on and below i is in the span of S and of its bucket's rows
 --   Entering, Entered                 == what `enter` asks, and gives: the same with one number more, and the mark of that number is 0 only if it is known
---   Filled gens h start ranks top ..  == the ranks are bounds, none is above top, and the marks from start on are 0 only for known numbers
+--   Filled gens h start ranks top ..  == the ranks are bounds, none is above top, which is at most 200, and the marks from start on are 0 only for known numbers
 -- Laws: laws/Enter, laws/Fill. Assumes nothing.
 use mathlib.Core.Path.{_≡_}
 use mathlib.Core.Logic.{_≢_}
@@ -45,6 +45,7 @@ pub record Entering (gens h : List ℕ) (i : ℕ) (ranks firsts rows marks : Lis
   pub sound : Sound h i ranks firsts
 
 pub record Entered (gens h S : List ℕ) (i : ℕ) (ranks firsts rows marks ranks′ firsts′ rows′ marks′ : List ℕ) (q : ℕ) : Type 0 where
+  pub low : q ≤ 200
   pub sound : Sound h (i + 1) ranks′ firsts′
   pub cover : (start : ℕ) → Cover gens h start S i ranks firsts rows → Cover gens h start S (i + 1) ranks′ firsts′ rows′
   pub most : (t : ℕ) → q ≤ t → ((b : ℕ) → getD ranks b 0 ≤ t) → (b : ℕ) → getD ranks′ b 0 ≤ t
@@ -54,5 +55,6 @@ pub record Entered (gens h S : List ℕ) (i : ℕ) (ranks firsts rows marks rank
 
 pub record Filled (gens h : List ℕ) (start : ℕ) (ranks marks : List ℕ) (top : ℕ) : Type 0 where
   pub bounded : Bounded gens h start (λ v. getD ranks (bucketOf v) 0)
+  pub low : top ≤ 200
   pub most : (b : ℕ) → getD ranks b 0 ≤ top
   pub seen : (n : ℕ) → start ≤ n → n < length h → getD marks n 0 ≡ 0 → true ≡ known h n

@@ -1,6 +1,6 @@
 -- `buckets::fill` meets its contract: the numbers so far are in the table. Assumes nothing.
 use mathlib.Core.Path.{_≡_, sym, _∙_}
-use mathlib.Core.Logic.{⊎-elim}
+use mathlib.Core.Logic.{_⊎_, inl, inr, ⊎-elim}
 use Prim.Native.Nat.{_-_, _<_, _≤_}
 use native.Mathlib.Omega.{arith}
 use lib.ListN.{length}
@@ -34,10 +34,11 @@ loop-again c =
     let a = c .before .before .before .before .before .before .before .before .before .before .before .before .before .before .before .before .before .before .before .before .before .before .before .args in
     let l = c .before .before .before .before .before .before .before .before .before .before .before .before .before .before .before .loop in
     let E = c .before .before .before .before .before .before .before .before .before .enter in
-    let u : (l .top ≤ c .if1 .top) × (E .result ≤ c .if1 .top) = ⊎-elim (λ w. let e : c .if1 .top ≡ E .result = w .1 in let t : l .top < E .result = w .0 .taken in (omega arith, omega arith)) (λ w. let e : c .if1 .top ≡ l .top = w .1 in let t : E .result ≤ l .top = w .0 .left in (omega arith, omega arith)) (c .if1 .came) in
+    let u : (l .top ≤ c .if1 .top) × (E .result ≤ c .if1 .top) × ((c .if1 .top ≡ l .top) ⊎ (c .if1 .top ≡ E .result)) =
+    ⊎-elim (λ w. let e : c .if1 .top ≡ E .result = w .1 in let t : l .top < E .result = w .0 .taken in (omega arith, omega arith, inr e)) (λ w. let e : c .if1 .top ≡ l .top = w .1 in let t : E .result ≤ l .top = w .0 .left in (omega arith, omega arith, inl e)) (c .if1 .came) in
     filling-next (a .gens .now) (a .h .now) (a .s .now) (a .start) (l .i) (l .ranks) (l .firsts) (l .rows) (l .marks)
     (E .last .1 .1 .1 .1 .0) (E .last .1 .1 .1 .1 .1 .0) (E .last .1 .1 .1 .1 .1 .1 .0) (E .last .1 .1 .1 .1 .1 .1 .1 .0)
-    (l .top) (E .result) (c .if1 .top) (l .inv) (c .before .before .before .before .before .before .before .before .before .before .before .before .before .before .loop-test .taken) (E .ensures) (E .kept .1 .1 .1 .1 .0) (E .kept .1 .1 .1 .1 .1 .0) (E .kept .1 .1 .1 .1 .1 .1 .0) (u .0) (u .1)
+    (l .top) (E .result) (c .if1 .top) (l .inv) (c .before .before .before .before .before .before .before .before .before .before .before .before .before .before .loop-test .taken) (E .ensures) (E .kept .1 .1 .1 .1 .0) (E .kept .1 .1 .1 .1 .1 .0) (E .kept .1 .1 .1 .1 .1 .1 .0) (u .0) (u .1) (u .2)
 
 same-length : tie.Need-same-length Inv-loop μ-loop
 same-length c = c .before .loop .inv .sizes .ranks-all ∙ sym (c .before .before .before .before .before .before .before .before .before .pre .0 .ranks-all)

@@ -44,6 +44,7 @@ module _ (gens h S : List ℕ) (i : ℕ) (ranks firsts rows marks : List ℕ) (E
   pub entered-zero : getD h i 0 ≡ 0 → Entered gens h S i ranks firsts rows marks ranks firsts rows (set marks i 0) 0
   entered-zero z =
       record {
+        low = omega arith;
         sound =
             record {
               low = E .sound .low;
@@ -112,6 +113,7 @@ module _ (gens h S : List ℕ) (i : ℕ) (ranks firsts rows marks : List ℕ) (E
         → Entered gens h S i ranks firsts rows marks (set ranks b 1) (set firsts b i) rows (set marks i 1) 1
     entered-first z =
         record {
+          low = omega arith;
           sound = next-sound b bo inb 1 i (set firsts b i) rows own rest (omega arith) (sym bo) (omega arith) (λ k. absurd (omega arith));
           cover = next-cover b bo inb 1 i (set firsts b i) rows own rest (omega arith) (sym bo) (omega arith) (λ k. absurd (omega arith))
               (λ c m k. refl) (λ k. span-head word (getD gens i 0) S) (λ k. omega arith)
@@ -134,6 +136,7 @@ module _ (gens h S : List ℕ) (i : ℕ) (ranks firsts rows marks : List ℕ) (E
         → Entered gens h S i ranks firsts rows marks (set ranks b x) firsts rows′ (set marks i k) x
     entered-more m f e o rows′ q G k x xe d ne =
         record {
+          low = low;
           sound = next-sound b bo inb x f firsts rows′ (sym o) (λ c n. refl) (omega (arith, early)) alike low gap;
           cover = next-cover b bo inb x f firsts rows′ (sym o) (λ c n. refl) (omega (arith, early)) alike low gap others here smaller keep;
           most = most-set ranks b x (omega (arith, E .sizes .ranks-all));

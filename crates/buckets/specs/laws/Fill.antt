@@ -5,7 +5,7 @@
 --   cover-bounded                              the ranks of a full table are bounds
 -- Assumes nothing.
 use mathlib.Core.Path.{_≡_, refl, sym, ap, ap₂, _∙_, subst}
-use mathlib.Core.Logic.{_≢_, _⊎_, inl, inr}
+use mathlib.Core.Logic.{_≢_, _⊎_, inl, inr, ⊎-elim}
 use mathlib.Core.Bool.{Bool, true, false, cond}
 use mathlib.Core.List.{List, [], _∷_, _++_, List·Memᴰ, List·Memᴰ·head, List·Memᴰ·tail, List·Memᴰ·not-nil, List·Memᴰ·append-cases, Memᴰ·append-right}
 use Prim.Native.Nat.{ℕ, zero, suc, _+_, _*_, _^_, _<_, _≤_}
@@ -129,6 +129,7 @@ pub record Filling (gens h S : List ℕ) (start i : ℕ) (ranks firsts rows mark
   pub sizes : Sizes gens h ranks firsts rows marks
   pub sound : Sound h i ranks firsts
   pub cover : Cover gens h start S i ranks firsts rows
+  pub low : top ≤ 200
   pub most : (b : ℕ) → getD ranks b 0 ≤ top
   pub seen : (n : ℕ) → start ≤ n → n < i → getD marks n 0 ≡ 0 → true ≡ known h n
 
@@ -154,6 +155,7 @@ filling-start gens h S start ranks firsts rows marks Z l e =
             same = λ b n. absurd (n (none b));
           };
       cover = record { holds = λ b n q a k. absurd (omega arith) };
+      low = omega arith;
       most = λ b. omega (arith, none b);
       seen = λ n a b. absurd (omega arith);
     }
@@ -163,9 +165,9 @@ filling-start gens h S start ranks firsts rows marks Z l e =
 
 pub filling-next : (gens h S : List ℕ) (start i : ℕ) (ranks firsts rows marks ranks′ firsts′ rows′ marks′ : List ℕ) (top q top′ : ℕ)
     → Filling gens h S start i ranks firsts rows marks top → i < length h → Entered gens h S i ranks firsts rows marks ranks′ firsts′ rows′ marks′ q
-    → length ranks′ ≡ length ranks → length firsts′ ≡ length firsts → length rows′ ≡ length rows → top ≤ top′ → q ≤ top′
+    → length ranks′ ≡ length ranks → length firsts′ ≡ length firsts → length rows′ ≡ length rows → top ≤ top′ → q ≤ top′ → (top′ ≡ top) ⊎ (top′ ≡ q)
     → Filling gens h S start (i + 1) ranks′ firsts′ rows′ marks′ top′
-filling-next gens h S start i ranks firsts rows marks ranks′ firsts′ rows′ marks′ top q top′ F l E a b c t u =
+filling-next gens h S start i ranks firsts rows marks ranks′ firsts′ rows′ marks′ top q top′ F l E a b c t u v =
     record {
       from = omega (arith, F .from);
       to = omega arith;
@@ -180,6 +182,7 @@ filling-next gens h S start i ranks firsts rows marks ranks′ firsts′ rows′
           };
       sound = E .sound;
       cover = E .cover start (F .cover);
+      low = ⊎-elim (λ e. omega (arith, F .low)) (λ e. omega (arith, E .low)) v;
       most = E .most top′ u (λ d. let y : getD ranks d 0 ≤ top = F .most d in omega arith);
       seen = λ n d k e. go n d k (ℕ-discrete n i) (ap (λ (m : List ℕ). getD m n 0) (sym (E .marked)) ∙ e);
     }
@@ -201,6 +204,7 @@ filling-end gens h S start i ranks firsts rows marks top F l e w =
     record {
       bounded = cover-bounded gens h start ranks firsts rows (F .sizes .alike) (subst (λ (n : ℕ). Sound h n ranks firsts) q (F .sound))
           (subst (λ (B : List ℕ). Cover gens h start B (length h) ranks firsts rows) e (subst (λ (n : ℕ). Cover gens h start S n ranks firsts rows) q (F .cover))) w;
+      low = F .low;
       most = F .most;
       seen = λ n a b. F .seen n a (omega arith);
     }
