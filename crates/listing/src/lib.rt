@@ -36,7 +36,22 @@ pub fn list_entries(gens: &[u64], targets: &[u64], k: usize, limit: u64, out: &m
         shown: 0,
         at: 0,
     };
-    let u = walk::walk(gens, &h[..n], 0, k - ell, k, b, c, t, limit, out);
+    let mut firsts = [0u16; 65536];
+    let mut stretches = [0u64; 32768];
+    let u = walk::walk(
+        gens,
+        &h[..n],
+        0,
+        k - ell,
+        k,
+        b,
+        c,
+        t,
+        limit,
+        &mut firsts,
+        &mut stretches,
+        out,
+    );
     Listing {
         ell: ell,
         found: u.found,

@@ -2,3 +2,4 @@
 pub mod Known
 pub mod Child
 pub mod Held
+pub mod Drop

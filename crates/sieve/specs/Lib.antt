@@ -1,4 +1,4 @@
 -- Which numbers a walk goes on with.
 pub mod Sieve
-pub mod Filter
+pub mod Kept
 pub mod laws

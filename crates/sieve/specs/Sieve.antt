@@ -1,5 +1,4 @@
 -- Which numbers a walk goes on with from a space.
---   Barren gens h j k m   == at a space with the residues h, no space for k comes about by the number j, if it is next, and m - 1 later ones, each next in its turn
 --   Worth .. r            == the mark r is 0 only where the child of j is barren
 --   Judged .. r           == the mark r of j is 0 only where j is known or its child barren, and else j is not known
 --   Sieved .. lo hi marks == the numbers from lo on and below hi are so marked
@@ -8,19 +7,10 @@ use mathlib.Core.Path.{_≡_}
 use mathlib.Core.Logic.{_≢_, _⊎_}
 use mathlib.Core.Bool.{true, false}
 use mathlib.Core.List.{List}
-use Prim.Native.Nat.{ℕ, _+_, _-_, _<_, _≤_}
+use Prim.Native.Nat.{ℕ, _<_, _≤_}
 use lib.ListN.{length, getD}
-use Rattle.linear.specs.Basis.{insert, inserts, Reduced, dim}
-use Rattle.linear.specs.Entry.{generator, chosen, generatorsIn}
-use Rattle.linear.specs.Walk.{Next}
-use Rattle.linear.specs.Word.{word}
-use Rattle.linear.specs.laws.Canonical.{Steps}
-use Rattle.residues.specs.Residues.{residues, known}
-
-pub record Barren (gens h : List ℕ) (j k missing : ℕ) : Type 0 where
-  pub none : (C : List ℕ) → Reduced word C → h ≡ residues gens C → Next word gens C j
-      → (es : List ℕ) → length es ≡ missing - 1 → Steps word gens (insert word C (generator word gens j)) (j + 1) (length gens) es
-      → dim word (generatorsIn word gens (inserts word (insert word C (generator word gens j)) (chosen word gens es))) ≢ k
+use Rattle.residues.specs.Residues.{known}
+use Rattle.residues.specs.Barren.{Barren}
 
 pub record Worth (gens h : List ℕ) (j k missing r : ℕ) : Type 0 where
   pub off : r ≡ 0 → Barren gens h j k missing

@@ -1,3 +1,3 @@
 -- The laws of the definitions beside this folder.
 pub mod Marks
-pub mod Drop
+pub mod Settle

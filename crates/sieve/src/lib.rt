@@ -2,13 +2,17 @@
 // leads of the space's basis are cleared in it.
 use bases::Basis;
 ghost use mathlib.Core.Path.{_≡_};
-ghost use Prim.Native.Nat.{_<_, _≤_};
+ghost use mathlib.Core.Logic.{_≢_};
+ghost use Prim.Native.Nat.{_-_, _<_, _≤_};
 ghost use lib.ListN.{length};
 ghost use Rattle.linear.specs.Basis.{basisOf};
 ghost use Rattle.linear.specs.Word.{word};
 ghost use Rattle.bases.specs.Basis.{Holds};
 ghost use Rattle.residues.specs.Residues.{withResidue};
-ghost use Rattle.sieve.specs.Sieve.{Worth, Sieved};
+ghost use Rattle.residues.specs.Filter.{pairs};
+ghost use Rattle.sieve.specs.Sieve.{Worth, Judged, Sieved};
+ghost use Rattle.sieve.specs.Kept.{Sieving, Kept};
+ghost use Rattle.sieve.specs.laws.Settle.{Settling};
 
 // The mark of the number `j`, which is not known: 0 where its child leads to no entry. With one dimension missing the generators in the child
 // are those of residue 0, whose basis is `s`, and those of the residue of `j`.
@@ -26,26 +30,100 @@ fn worth(gens: &[u64], h: &[u64], s: Basis, j: usize, k: usize, missing: usize) 
     }
 }
 
-// Marks the numbers from `start` on whose children are to be visited, where `missing` more dimensions make `k`.
+// The mark of the number `j`: 0 where it is known or its child leads to no entry.
+fn judge(gens: &[u64], h: &[u64], s: Basis, j: usize, k: usize, missing: usize) -> u8
+    requires { ⌜ Holds (basisOf word (withResidue 0 (now gens) (now h))) s × (length (now gens) ≡ length (now h)) × (j < length (now h)) ⌝ }
+    ensures { λ r. ⌜ Judged (now (gens .entry)) (now (h .entry)) j k missing r ⌝ }
+{
+    if residues::known(h, j) {
+        return 0;
+    }
+    worth(gens, h, s, j, k, missing)
+}
+
+// Judges the numbers from `start` on that are still marked.
+fn settle(
+    gens: &[u64],
+    h: &[u64],
+    start: usize,
+    s: Basis,
+    k: usize,
+    missing: usize,
+    marks: &mut [u8],
+)
+    requires { ⌜ Holds (basisOf word (withResidue 0 (now gens) (now h))) s × (length (now gens) ≡ length (now h)) × Settling (now gens) (now h) start k missing start (now marks) ⌝ }
+    ensures { λ _. ⌜ Sieved (now (gens .entry)) (now (h .entry)) start (length (now (h .entry))) k missing (now (marks .exit)) ⌝ }
+{
+    let mut j = start;
+    while j < h.len() {
+        if marks[j] == 0 {
+            j += 1;
+        } else {
+            marks[j] = judge(gens, h, s, j, k, missing);
+            j += 1;
+        }
+    }
+}
+
+// How many pairs {y, y + x} of values there are besides 0 and x.
+fn pairs(missing: usize) -> usize
+    requires { ⌜ (missing ≢ 0) × (missing ≤ 8) ⌝ }
+    ensures { λ r. ⌜ (r ≡ pairs missing) × (r ≤ 127) ⌝ }
+{
+    (1usize << (missing - 1)) - 1
+}
+
+// How many dimensions are needed besides n; none where n is more than k.
+fn needed(k: usize, n: usize) -> usize
+    ensures { λ r. ⌜ r ≡ k - n ⌝ }
+{
+    if n < k { k - n } else { 0 }
+}
+
+// Marks the numbers from `start` on whose children the ranks don't rule out. `s` has the rows of the generators of residue 0.
+fn filter(
+    gens: &[u64],
+    h: &[u64],
+    start: usize,
+    k: usize,
+    missing: usize,
+    s: &[u64],
+    firsts: &mut [u16],
+    rows: &mut [u64],
+    marks: &mut [u8],
+)
+    requires { ⌜ Sieving (now gens) (now h) start missing (now firsts) (now rows) (now marks) × (now s ≡ basisOf word (withResidue 0 (now gens) (now h))) ⌝ }
+    ensures { λ _. ⌜ Kept (now (gens .entry)) (now (h .entry)) start k missing (now (marks .exit)) ⌝ }
+{
+    let mut ranks = [0u8; 65536];
+    let top = buckets::fill(gens, h, start, s, &mut ranks, firsts, rows, marks);
+    let need = needed(k, s.len());
+    if missing == 1 {
+        thin::cut(h, start, need, &ranks, marks);
+    } else {
+        let p = pairs(missing);
+        thin::thin(h, start, need, p, top, &ranks, marks);
+    }
+}
+
+// Marks the numbers from `start` on whose children are to be visited, where `missing` more dimensions make `k`. The ranks rule most children out; what is
+// left is judged one by one. `firsts` and `rows` are lent, what they hold plays no part.
 pub fn sieve(
     gens: &[u64],
     h: &[u64],
     start: usize,
     k: usize,
     missing: usize,
-    marks: &mut [u8; 4096],
+    firsts: &mut [u16],
+    rows: &mut [u64],
+    marks: &mut [u8],
 )
-    requires { ⌜ (length (now gens) ≡ length (now h)) × (length (now h) ≤ 4096) × (length (now marks) ≡ 4096) × (start ≤ length (now gens)) ⌝ }
+    requires { ⌜ Sieving (now gens) (now h) start missing (now firsts) (now rows) (now marks) ⌝ }
     ensures { λ _. ⌜ Sieved (now (gens .entry)) (now (h .entry)) start (length (now (gens .entry))) k missing (now (marks .exit)) ⌝ }
 {
     let s = residues::with_residue(gens, h, 0, Basis::empty());
-    let mut j = start;
-    while j < h.len() {
-        if residues::known(h, j) {
-            marks[j] = 0;
-        } else {
-            marks[j] = worth(gens, h, s, j, k, missing);
-        }
-        j += 1;
-    }
+    let basis = s.rows;
+    let n = s.len;
+    filter(gens, h, start, k, missing, &basis[..n], firsts, rows, marks);
+    settle(gens, h, start, s, k, missing, marks);
 }

@@ -17,7 +17,8 @@ use Rattle.linear.specs.laws.Residue.{insert-residue}
 use Rattle.bases.specs.Basis.{rowsOf, Valid, Holds}
 use Rattle.bases.specs.declared.Basis.{Basis}
 use Rattle.residues.specs.Residues.{residues, known, Mapped}
-use Rattle.sieve.specs.Sieve.{Barren, Judged}
+use Rattle.residues.specs.Barren.{Barren}
+use Rattle.sieve.specs.Sieve.{Judged}
 use Rattle.residues.specs.laws.Known.{known-ne}
 use Rattle.residues.specs.laws.Child.{residue-at, residues-length, child-residues}
 use Rattle.walk.specs.declared.Chain.{Chain}

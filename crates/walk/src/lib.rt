@@ -64,7 +64,8 @@ fn keep(b: Basis, c: Chain, t: Tally, limit: u64, out: &mut [u64]) -> Tally
     }
 }
 
-// Goes on from the space of `b`, reached with the numbers of `c`, by `missing` numbers from `start` on. `h` holds the residues of the generators.
+// Goes on from the space of `b`, reached with the numbers of `c`, by `missing` numbers from `start` on. `h` holds the residues of the generators. What the lent
+// `firsts` and `stretches` hold plays no part.
 pub fn walk(
     gens: &[u64],
     h: &[u64],
@@ -75,9 +76,11 @@ pub fn walk(
     c: Chain,
     t: Tally,
     limit: u64,
+    firsts: &mut [u16],
+    stretches: &mut [u64],
     out: &mut [u64],
 ) -> Tally
-    requires { ⌜ Node (now gens) (now h) start missing b c t limit (now out) ⌝ }
+    requires { ⌜ Node (now gens) (now h) start missing b c t limit (now out) × (length (now firsts) ≡ 65536) × (length (now stretches) ≡ 32768) ⌝ }
     ensures { λ r. ⌜ stateOf r (now (out .exit)) ≡ run limit (stateOf t (now (out .entry))) (search (now (gens .entry)) k (rowsOf b) (chainOf c) (length (now (gens .entry)) - start) start missing) ⌝ }
 {
     if missing == 0 {
@@ -88,7 +91,7 @@ pub fn walk(
     }
     let n = gens.len();
     let mut marks = [0u8; 4096];
-    sieve::sieve(gens, h, start, k, missing, &mut marks);
+    sieve::sieve(gens, h, start, k, missing, firsts, stretches, &mut marks);
     let mut mine = [0u64; 4096];
     let mut u = t;
     let mut j = start;
@@ -111,6 +114,8 @@ pub fn walk(
                 push(c, j),
                 u,
                 limit,
+                firsts,
+                stretches,
                 out,
             );
             j += 1;

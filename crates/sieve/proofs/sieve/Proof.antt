@@ -1,90 +1,58 @@
--- `sieve::sieve` meets its contract: the numbers so far are marked. Assumes nothing.
+-- `sieve::sieve` meets its contract: the filter keeps, then the marks are settled. Assumes nothing.
 use mathlib.Core.Path.{_≡_, sym, _∙_, subst}
-use mathlib.Core.Logic.{⊎-elim}
-use Prim.Native.Nat.{ℕ, _+_, _-_, _<_, _≤_}
+use Prim.Native.Nat.{ℕ}
+use borrow.Author.Needs.{needs}
+use native.Mathlib.Omega.{arith}
 use lib.ListN.{length}
+use Rattle.bases.specs.Basis.{rowsOf, rows-length}
 use Rattle.residues.specs.Residues.{withResidue}
 use Rattle.residues.specs.laws.Held.{from-empty}
 use Rattle.sieve.specs.Sieve.{Sieved}
-use Rattle.sieve.specs.laws.Marks.{judged-known, judged-worth, sieved-start, sieved-next}
-use native.Mathlib.Omega.{arith}
+use Rattle.sieve.specs.laws.Settle.{settling-start}
 use Rattle.sieve.proofs.sieve.Statement.{statement}
 use Rattle.sieve.proofs.sieve.Tie as tie
 
-abbrev Inv-loop : tie.InvT-loop
-Inv-loop gens h start k missing marks₀ s j₀ marks j = (start ≤ j) × (j ≤ length gens) × Sieved gens h start j k missing marks
-
-abbrev μ-loop : tie.MeasureT-loop
-μ-loop gens h start k missing marks₀ s j₀ marks j = length gens - j
-
-empty-requires : tie.Need-empty-requires Inv-loop μ-loop
+empty-requires : tie.Need-empty-requires
 empty-requires c κs = tt
 
-with-residue-requires : tie.Need-with-residue-requires Inv-loop μ-loop
-with-residue-requires c κs = (c .empty .ensures .valid, c .before .before .before .pre .0)
+with-residue-requires : tie.Need-with-residue-requires
+with-residue-requires c κs = (c .empty .ensures .valid, c .before .before .before .before .before .before .pre .alike)
 
-loop-holds : tie.Need-loop-holds Inv-loop μ-loop
-loop-holds c =
-    let a = c .before .before .before .before .args in
-    (omega arith, c .before .before .before .before .pre .3, sieved-start (a .gens .now) (a .h .now) (a .start) (a .k) (a .missing) (a .marks .now) (c .before .before .before .before .pre .2))
+array-share-prefix-basis : tie.Need-array-share-prefix-basis
+array-share-prefix-basis c = search needs
 
-known-requires : tie.Need-known-requires Inv-loop μ-loop
-known-requires c κs = omega arith
+slice-aggregate-filter : tie.Need-slice-aggregate-filter
+slice-aggregate-filter c = sym (rows-length (c .before .before .with-residue .result) (c .before .before .with-residue .ensures .valid))
 
-element-write-marks : tie.Need-element-write-marks Inv-loop μ-loop
-element-write-marks c = omega arith
+filter-requires : tie.Need-filter-requires
+filter-requires c κs = let a = c .before .before .before .before .before .before .before .before .before .before .before .before .args in let xs = withResidue 0 (a .gens .now) (a .h .now) in let H = from-empty xs (c .before .before .before .before .before .before .empty .result) (c .before .before .before .before .before .with-residue .result) (c .before .before .before .before .before .before .empty .ensures) (c .before .before .before .before .before .with-residue .ensures) in (c .before .before .before .before .before .before .before .before .before .before .before .before .pre, H .is)
 
-worth-requires : tie.Need-worth-requires Inv-loop μ-loop
-worth-requires c κs =
-    let xs = withResidue 0 (c .before .before .before .before .before .before .before .before .args .gens .now) (c .before .before .before .before .before .before .before .before .args .h .now) in
-    (from-empty xs (c .before .before .before .before .before .empty .result) (c .before .before .before .before .with-residue .result) (c .before .before .before .before .before .empty .ensures) (c .before .before .before .before .with-residue .ensures), c .before .before .before .before .before .before .before .before .pre .0, omega arith)
+settle-requires : tie.Need-settle-requires
+settle-requires c κs = let a = c .before .before .before .before .before .before .before .before .before .before .before .before .before .before .before .before .before .before .before .before .args in let xs = withResidue 0 (a .gens .now) (a .h .now) in let H = from-empty xs (c .before .before .before .before .before .before .before .before .before .before .before .before .before .before .empty .result) (c .before .before .before .before .before .before .before .before .before .before .before .before .before .with-residue .result) (c .before .before .before .before .before .before .before .before .before .before .before .before .before .before .empty .ensures) (c .before .before .before .before .before .before .before .before .before .before .before .before .before .with-residue .ensures) in (H, c .before .before .before .before .before .before .before .before .before .before .before .before .before .before .before .before .before .before .before .before .pre .alike, settling-start (a .gens .now) (a .h .now) (a .start) (a .k) (a .missing) (c .before .before .before .before .before .before .before .filter .last .1 .1 .1 .1 .1 .1 .1 .1 .0) (c .before .before .before .before .before .before .before .before .before .before .before .before .before .before .before .before .before .before .before .before .pre .begin) (c .before .before .before .before .before .before .before .before .before .before .before .before .before .before .before .before .before .before .before .before .pre .few) (c .before .before .before .before .before .before .before .filter .kept .1 .1 .1 .1 .1 .1 .1 .1 .0 ∙ c .before .before .before .before .before .before .before .before .before .before .before .before .before .before .before .before .before .before .before .before .pre .marks-all) (c .before .before .before .before .before .before .before .filter .ensures))
 
-element-write-marks-2 : tie.Need-element-write-marks-2 Inv-loop μ-loop
-element-write-marks-2 c = omega arith
+same-length : tie.Need-same-length
+same-length c = c .before .before .before .before .before .before .before .before .before .before .filter .kept .1 .1 .1 .1 .1 .1 .0
 
-add-j : tie.Need-add-j Inv-loop μ-loop
-add-j c = omega arith
+same-length-2 : tie.Need-same-length-2
+same-length-2 c = c .before .before .before .before .before .before .before .before .before .before .filter .kept .1 .1 .1 .1 .1 .1 .1 .0
 
-loop-less : tie.Need-loop-less Inv-loop μ-loop
-loop-less c = omega arith
+same-length-3 : tie.Need-same-length-3
+same-length-3 c = c .before .before .settle .kept .1 .1 .1 .1 .1 .1 .0 ∙ c .before .before .before .before .before .before .before .before .before .before .filter .kept .1 .1 .1 .1 .1 .1 .1 .1 .0
 
-loop-again : tie.Need-loop-again Inv-loop μ-loop
-loop-again c =
-    let a = c .before .before .before .before .before .before .before .before .args in
-    let l = c .before .before .before .loop in
-    let g : l .j < length (a .h .now) = omega arith in
-    let next = sieved-next (a .gens .now) (a .h .now) (a .start) (l .j) (a .k) (a .missing) (l .marks) (l .inv .2) (omega arith) in (
-      omega arith,
-      omega arith,
-      ⊎-elim
-          (λ w. subst (Sieved (a .gens .now) (a .h .now) (a .start) (l .j + 1) (a .k) (a .missing)) (sym (w .1))
-          (next 0 (judged-known (a .gens .now) (a .h .now) (l .j) (a .k) (a .missing) (sym (w .0 .taken) ∙ c .before .known .ensures))))
-          (λ w. subst (Sieved (a .gens .now) (a .h .now) (a .start) (l .j + 1) (a .k) (a .missing)) (sym (w .2))
-          (next (w .1 .result) (judged-worth (a .gens .now) (a .h .now) (l .j) (a .k) (a .missing) (w .1 .result) (sym (w .0 .left) ∙ c .before .known .ensures) (w .1 .ensures))))
-          (c .if1 .came),
-    )
-
-returns : tie.Need-returns Inv-loop μ-loop
-returns c =
-    let a = c .before .before .before .before .before .before .args in
-    let l = c .before .loop in
-    let e : l .j ≡ length (a .gens .now) = omega arith in
-    subst (λ (n : ℕ). Sieved (a .gens .now) (a .h .now) (a .start) n (a .k) (a .missing) (l .marks)) e (l .inv .2)
+returns : tie.Need-returns
+returns c = let a = c .before .before .before .before .before .before .before .before .before .before .before .before .before .before .before .before .before .before .before .before .before .before .before .args in subst (λ (n : ℕ). Sieved (a .gens .now) (a .h .now) (a .start) n (a .k) (a .missing) (c .before .before .settle .last .1 .1 .1 .1 .1 .1 .0)) (sym (c .before .before .before .before .before .before .before .before .before .before .before .before .before .before .before .before .before .before .before .before .before .before .before .pre .alike)) (c .before .before .settle .ensures)
 
 pub sieve-spec : {M : Type 1} → statement M
 sieve-spec =
     tie.close
     (tie.spec
-    Inv-loop
-    μ-loop
     empty-requires
     with-residue-requires
-    loop-holds
-    known-requires
-    element-write-marks
-    worth-requires
-    element-write-marks-2
-    add-j
-    loop-less
-    loop-again
+    array-share-prefix-basis
+    slice-aggregate-filter
+    filter-requires
+    settle-requires
+    same-length
+    same-length-2
+    same-length-3
     returns)

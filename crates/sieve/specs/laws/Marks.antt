@@ -2,7 +2,6 @@
 --   barren-last                  with one dimension missing: a child whose generators don't make k rows is barren
 --   worth-off                    the mark of such a child
 --   judged-known, judged-worth   the mark of a known number, and of another
---   sieved-start, sieved-next    no number is marked; one more
 -- Assumes nothing.
 use mathlib.Core.Path.{_≡_, refl, sym, ap, ap₂, _∙_, subst}
 use mathlib.Core.Logic.{_≢_, inl, inr}
@@ -22,7 +21,8 @@ use Rattle.bases.specs.declared.Basis.{Basis}
 use Rattle.residues.specs.Residues.{residues, withResidue, known}
 use Rattle.residues.specs.laws.Child.{residue-at, child-dim}
 use Rattle.residues.specs.laws.Held.{holds-length}
-use Rattle.sieve.specs.Sieve.{Barren, Worth, Judged, Sieved}
+use Rattle.residues.specs.Barren.{Barren}
+use Rattle.sieve.specs.Sieve.{Worth, Judged, Sieved}
 
 pub barren-last : (gens h : List ℕ) (j k r : ℕ) → r ≡ length (inserts word (basisOf word (withResidue 0 gens h)) (withResidue (getD h j 0) gens h)) → (r ≡ k → ⊥)
     → Barren gens h j k 1
@@ -59,18 +59,3 @@ judged-known gens h j k missing e = record { off = λ z. inl e; on = λ n. absur
 
 pub judged-worth : (gens h : List ℕ) (j k missing r : ℕ) → false ≡ known h j → Worth gens h j k missing r → Judged gens h j k missing r
 judged-worth gens h j k missing r e W = record { off = λ z. inr (W .off z); on = λ n. e }
-
--- ---- all marks
-pub sieved-start : (gens h : List ℕ) (start k missing : ℕ) (marks : List ℕ) → length marks ≡ 4096 → Sieved gens h start start k missing marks
-sieved-start gens h start k missing marks w = record { whole = w; judged = λ j a b. absurd (omega arith) }
-
-pub sieved-next : (gens h : List ℕ) (start hi k missing : ℕ) (marks : List ℕ) → Sieved gens h start hi k missing marks → hi < 4096 → (r : ℕ) → Judged gens h hi k missing r
-    → Sieved gens h start (hi + 1) k missing (set marks hi r)
-sieved-next gens h start hi k missing marks S l r J =
-    record { whole = length-set marks hi r ∙ S .whole; judged = λ j a b. go j a b (ℕ-discrete j hi) }
-  where
-    go : (j : ℕ) → start ≤ j → j < hi + 1 → Dec (j ≡ hi) → Judged gens h j k missing (getD (set marks hi r) j 0)
-    go j a b (yes e) =
-        subst (λ (i : ℕ). Judged gens h i k missing (getD (set marks hi r) i 0)) (sym e)
-        (subst (λ (x : ℕ). Judged gens h hi k missing x) (sym (getD-set-same marks hi r 0 (omega (arith, S .whole)))) J)
-    go j a b (no e) = subst (λ (x : ℕ). Judged gens h j k missing x) (sym (getD-set-other marks hi j r 0 e)) (S .judged j a (omega arith))

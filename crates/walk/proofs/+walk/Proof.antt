@@ -27,14 +27,14 @@ use Rattle.walk.proofs.push.Reads as push-reads
 use Rattle.walk.proofs.+walk.{statement}
 use Rattle.walk.proofs.+walk.Tie.{close}
 
-abbrev μ-walk : Measures 3 walk-kinds.ps ℕ
+abbrev μ-walk : Measures 5 walk-kinds.ps ℕ
 μ-walk κs a = a .1 .1 .1 .0
 
-abbrev walk-at : ℕ → In 3 walk-kinds.ps
-walk-at t = and 3 walk-kinds.ps (is 3 walk-kinds.ps μ-walk t) walk.Pre
+abbrev walk-at : ℕ → In 5 walk-kinds.ps
+walk-at t = and 5 walk-kinds.ps (is 5 walk-kinds.ps μ-walk t) walk.Pre
 
-abbrev walk-below : ℕ → In 3 walk-kinds.ps
-walk-below t = and 3 walk-kinds.ps (falls 3 walk-kinds.ps _<_ μ-walk t) walk.Pre
+abbrev walk-below : ℕ → In 5 walk-kinds.ps
+walk-below t = and 5 walk-kinds.ps (falls 5 walk-kinds.ps _<_ μ-walk t) walk.Pre
 
 -- what the calls ask and promise; the walk's own call is for fewer missing dimensions
 abbrev claims : ℕ → walk-lts.Claims
@@ -56,24 +56,24 @@ claims t = (
 )
 
 abbrev walk-Inv-loop : walk-lts.InvT-loop
-walk-Inv-loop gens h start missing k b c limit out₀ n marks mine₀ u₀ j₀ out mine u j = (start ≤ j) × Going gens k (rowsOf b) (chainOf c) missing limit (run limit (stateOf u₀ out₀) (search gens k (rowsOf b) (chainOf c) (length gens - start) start missing)) (length out₀) j u out mine
+walk-Inv-loop gens h start missing k b c limit firsts₀ stretches₀ out₀ n marks mine₀ u₀ j₀ firsts stretches out mine u j =
+    (start ≤ j) × Going gens k (rowsOf b) (chainOf c) missing limit (run limit (stateOf u₀ out₀) (search gens k (rowsOf b) (chainOf c) (length gens - start) start missing)) (length out₀) j u out mine
+    × (length firsts ≡ 65536) × (length stretches ≡ 32768)
 
 abbrev walk-μ-loop : walk-lts.MeasureT-loop
-walk-μ-loop gens h start missing k b c limit out₀ n marks mine₀ u₀ j₀ out mine u j = length gens - j
+walk-μ-loop gens h start missing k b c limit firsts₀ stretches₀ out₀ n marks mine₀ u₀ j₀ firsts stretches out mine u j = length gens - j
 
 walk-spanned-requires : (t : ℕ) → walk-lts.Need-spanned-requires (claims t) (walk-at t) walk.Post walk-Inv-loop walk-μ-loop
 walk-spanned-requires t c κs =
-    let s = c .before .before .before .before in
-    let N = s .pre .1 in
-    let m = s .args .gens .now in
-    let h = s .args .h .now in
-    let eh : length h ≡ length m = ap length (N .left) ∙ residues-length m (rowsOf (s .args .b)) in
+    let N = c .before .before .before .before .before .before .pre .1 .0 in
+    let m = c .before .before .before .before .before .before .args .gens .now in
+    let h = c .before .before .before .before .before .before .args .h .now in
+    let eh : length h ≡ length m = ap length (N .left) ∙ residues-length m (rowsOf (c .before .before .before .before .before .before .args .b)) in
     sym eh
 
 walk-keep-requires : (t : ℕ) → walk-lts.Need-keep-requires (claims t) (walk-at t) walk.Post walk-Inv-loop walk-μ-loop
 walk-keep-requires t c κs =
-    let s = c .before .before .before .before .before .before .before in
-    let N = s .pre .1 in
+    let N = c .before .before .before .before .before .before .before .before .before .pre .1 .0 in
     record { valid = N .valid; tidy = record { whole = N .tidy .whole; room = omega (arith, N .tidy .room) }; sane = N .sane }
 
 walk-same-length : (t : ℕ) → walk-lts.Need-same-length (claims t) (walk-at t) walk.Post walk-Inv-loop walk-μ-loop
@@ -81,54 +81,70 @@ walk-same-length t c = c .before .before .keep .kept .1 .1 .1 .1 .0
 
 walk-returns : (t : ℕ) → walk-lts.Need-returns (claims t) (walk-at t) walk.Post walk-Inv-loop walk-μ-loop
 walk-returns t c =
-    let s = c .before .before .before .before .before .before .before .before .before .before in
-    let N = s .pre .1 in
-    let m = s .args .gens .now in
-    let h = s .args .h .now in
-    (leaf-yes m (s .args .k) (rowsOf (s .args .b)) (chainOf (s .args .c)) h (length m - s .args .start) (s .args .start) (s .args .missing) (s .args .limit)
-    (stateOf (s .args .t) (s .args .out .now)) (c .before .before .before .before .before .spanned .result) (c .before .before .before .before .before .before .if1 .taken) (N .left) (c .before .before .before .before .before .spanned .ensures) (c .before .before .before .before .if2 .taken) _ (c .before .before .keep .ensures))
+    let N = c .before .before .before .before .before .before .before .before .before .before .before .before .pre .1 .0 in
+    let m = c .before .before .before .before .before .before .before .before .before .before .before .before .args .gens .now in
+    let h = c .before .before .before .before .before .before .before .before .before .before .before .before .args .h .now in
+    (leaf-yes m (c .before .before .before .before .before .before .before .before .before .before .before .before .args .k) (rowsOf (c .before .before .before .before .before .before .before .before .before .before .before .before .args .b)) (chainOf (c .before .before .before .before .before .before .before .before .before .before .before .before .args .c)) h (length m - c .before .before .before .before .before .before .before .before .before .before .before .before .args .start) (c .before .before .before .before .before .before .before .before .before .before .before .before .args .start) (c .before .before .before .before .before .before .before .before .before .before .before .before .args .missing) (c .before .before .before .before .before .before .before .before .before .before .before .before .args .limit)
+    (stateOf (c .before .before .before .before .before .before .before .before .before .before .before .before .args .t) (c .before .before .before .before .before .before .before .before .before .before .before .before .args .out .now)) (c .before .before .before .before .before .spanned .result) (c .before .before .before .before .before .before .if1 .taken) (N .left) (c .before .before .before .before .before .spanned .ensures) (c .before .before .before .before .if2 .taken) _ (c .before .before .keep .ensures))
 
 walk-returns-2 : (t : ℕ) → walk-lts.Need-returns-2 (claims t) (walk-at t) walk.Post walk-Inv-loop walk-μ-loop
 walk-returns-2 t c =
-    let s = c .before .before .before .before .before .before in
-    let N = s .pre .1 in
-    let m = s .args .gens .now in
-    let h = s .args .h .now in
-    (leaf-no m (s .args .k) (rowsOf (s .args .b)) (chainOf (s .args .c)) h (length m - s .args .start) (s .args .start) (s .args .missing) (s .args .limit)
-    (stateOf (s .args .t) (s .args .out .now)) (c .before .spanned .result) (c .before .before .if1 .taken) (N .left) (c .before .spanned .ensures) (c .if2 .left))
+    let N = c .before .before .before .before .before .before .before .before .pre .1 .0 in
+    let m = c .before .before .before .before .before .before .before .before .args .gens .now in
+    let h = c .before .before .before .before .before .before .before .before .args .h .now in
+    (leaf-no m (c .before .before .before .before .before .before .before .before .args .k) (rowsOf (c .before .before .before .before .before .before .before .before .args .b)) (chainOf (c .before .before .before .before .before .before .before .before .args .c)) h (length m - c .before .before .before .before .before .before .before .before .args .start) (c .before .before .before .before .before .before .before .before .args .start) (c .before .before .before .before .before .before .before .before .args .missing) (c .before .before .before .before .before .before .before .before .args .limit)
+    (stateOf (c .before .before .before .before .before .before .before .before .args .t) (c .before .before .before .before .before .before .before .before .args .out .now)) (c .before .spanned .result) (c .before .before .if1 .taken) (N .left) (c .before .spanned .ensures) (c .if2 .left))
+
+walk-slice-aggregate-sieve : (t : ℕ) → walk-lts.Need-slice-aggregate-sieve (claims t) (walk-at t) walk.Post walk-Inv-loop walk-μ-loop
+walk-slice-aggregate-sieve t c = refl
 
 walk-sieve-requires : (t : ℕ) → walk-lts.Need-sieve-requires (claims t) (walk-at t) walk.Post walk-Inv-loop walk-μ-loop
 walk-sieve-requires t c κs =
-    let s = c .before .before .before .before .before in
-    let N = s .pre .1 in
-    let m = s .args .gens .now in
-    let h = s .args .h .now in
-    let eh : length h ≡ length m = ap length (N .left) ∙ residues-length m (rowsOf (s .args .b)) in
-    (sym eh, omega (arith, eh, N .small), refl, N .begin)
+    let N = c .before .before .before .before .before .before .before .before .before .pre .1 .0 in
+    let m = c .before .before .before .before .before .before .before .before .before .args .gens .now in
+    let h = c .before .before .before .before .before .before .before .before .before .args .h .now in
+    let eh : length h ≡ length m = ap length (N .left) ∙ residues-length m (rowsOf (c .before .before .before .before .before .before .before .before .before .args .b)) in
+    record {
+      alike = sym eh;
+      few = omega (arith, eh, N .small);
+      begin = omega (arith, eh, N .begin);
+      some = c .before .before .before .if1 .left;
+      most = omega (arith, N .tidy .room);
+      firsts-all = c .before .before .before .before .before .before .before .before .before .pre .1 .1;
+      rows-all = c .before .before .before .before .before .before .before .before .before .pre .1 .2;
+      marks-all = refl;
+    }
 
 walk-loop-holds : (t : ℕ) → walk-lts.Need-loop-holds (claims t) (walk-at t) walk.Post walk-Inv-loop walk-μ-loop
 walk-loop-holds t c =
-    let s = c .before .before .before .before .before .before in
-    let N = s .pre .1 in
-    (omega arith, record { within = N .begin; rest = refl; sane = N .sane; same = refl; whole = refl })
+    let N = c .before .before .before .before .before .before .before .before .before .before .before .before .before .before .before .pre .1 .0 in (
+      omega arith,
+      record { within = N .begin; rest = refl; sane = N .sane; same = refl; whole = refl },
+      c .before .before .before .before .before .sieve .kept .1 .1 .1 .1 .1 .0 ∙ c .before .before .before .before .before .before .before .before .before .before .before .before .before .before .before .pre .1 .1,
+      c .before .before .before .before .before .sieve .kept .1 .1 .1 .1 .1 .1 .0 ∙ c .before .before .before .before .before .before .before .before .before .before .before .before .before .before .before .pre .1 .2,
+    )
 
 walk-same-length-2 : (t : ℕ) → walk-lts.Need-same-length-2 (claims t) (walk-at t) walk.Post walk-Inv-loop walk-μ-loop
-walk-same-length-2 t c = c .before .before .before .loop .inv .1 .same
+walk-same-length-2 t c = c .before .before .before .loop .inv .2 ∙ sym (c .before .before .before .before .before .before .before .before .before .before .before .before .before .before .before .before .before .before .before .pre .1 .1)
+
+walk-same-length-3 : (t : ℕ) → walk-lts.Need-same-length-3 (claims t) (walk-at t) walk.Post walk-Inv-loop walk-μ-loop
+walk-same-length-3 t c = c .before .before .before .loop .inv .3 ∙ sym (c .before .before .before .before .before .before .before .before .before .before .before .before .before .before .before .before .before .before .before .pre .1 .2)
+
+walk-same-length-4 : (t : ℕ) → walk-lts.Need-same-length-4 (claims t) (walk-at t) walk.Post walk-Inv-loop walk-μ-loop
+walk-same-length-4 t c = c .before .before .before .loop .inv .1 .same
 
 walk-returns-3 : (t : ℕ) → walk-lts.Need-returns-3 (claims t) (walk-at t) walk.Post walk-Inv-loop walk-μ-loop
 walk-returns-3 t c =
-    let s = c .before .before .before .before .before .before .before .before .before .before in
-    let N = s .pre .1 in
-    let m = s .args .gens .now in
-    let h = s .args .h .now in
+    let N = c .before .before .before .before .before .before .before .before .before .before .before .before .before .before .before .before .before .before .before .pre .1 .0 in
+    let m = c .before .before .before .before .before .before .before .before .before .before .before .before .before .before .before .before .before .before .before .args .gens .now in
+    let h = c .before .before .before .before .before .before .before .before .before .before .before .before .before .before .before .before .before .before .before .args .h .now in
     let l = c .before .before .before .loop in
-    let ne = c .before .before .before .before .before .before .if1 .left in
-    going-full m (s .args .k) (s .args .b) (s .args .c) (s .args .missing) (s .args .limit) _ _ h (N .left) (N .valid) (N .tidy) ne (l .j) (l .u) (l .out) (l .mine) (l .inv .1) (c .if3 .taken)
+    let ne = c .before .before .before .before .before .before .before .before .before .before .before .before .before .if1 .left in
+    going-full m (c .before .before .before .before .before .before .before .before .before .before .before .before .before .before .before .before .before .before .before .args .k) (c .before .before .before .before .before .before .before .before .before .before .before .before .before .before .before .before .before .before .before .args .b) (c .before .before .before .before .before .before .before .before .before .before .before .before .before .before .before .before .before .before .before .args .c) (c .before .before .before .before .before .before .before .before .before .before .before .before .before .before .before .before .before .before .before .args .missing) (c .before .before .before .before .before .before .before .before .before .before .before .before .before .before .before .before .before .before .before .args .limit) _ _ h (N .left) (N .valid) (N .tidy) ne (l .j) (l .u) (l .out) (l .mine) (l .inv .1) (c .if3 .taken)
 
 walk-array-read-if4 : (t : ℕ) → walk-lts.Need-array-read-if4 (claims t) (walk-at t) walk.Post walk-Inv-loop walk-μ-loop
 walk-array-read-if4 t c =
-    let s = c .before .before .before .before .before .before .before .before .before .before in
-    let N = s .pre .1 in
+    let N = c .before .before .before .before .before .before .before .before .before .before .before .before .before .before .before .before .before .before .before .pre .1 .0 in
     omega (arith, N .small, c .before .before .loop-test .taken)
 
 walk-add-j : (t : ℕ) → walk-lts.Need-add-j (claims t) (walk-at t) walk.Post walk-Inv-loop walk-μ-loop
@@ -139,104 +155,105 @@ walk-loop-less t c = omega arith
 
 walk-loop-again : (t : ℕ) → walk-lts.Need-loop-again (claims t) (walk-at t) walk.Post walk-Inv-loop walk-μ-loop
 walk-loop-again t c =
-    let s = c .before .before .before .before .before .before .before .before .before .before .before in
-    let N = s .pre .1 in
-    let m = s .args .gens .now in
-    let h = s .args .h .now in
+    let N = c .before .before .before .before .before .before .before .before .before .before .before .before .before .before .before .before .before .before .before .before .pre .1 .0 in
+    let m = c .before .before .before .before .before .before .before .before .before .before .before .before .before .before .before .before .before .before .before .before .args .gens .now in
+    let h = c .before .before .before .before .before .before .before .before .before .before .before .before .before .before .before .before .before .before .before .before .args .h .now in
     let l = c .before .before .before .before .loop in
-    let ne = c .before .before .before .before .before .before .before .if1 .left in
+    let ne = c .before .before .before .before .before .before .before .before .before .before .before .before .before .before .if1 .left in
     let g : l .j < length m = c .before .before .before .loop-test .taken in
-    (omega (arith, l .inv .0), going-off m (s .args .k) (s .args .b) (s .args .c) (s .args .missing) (s .args .limit) _ _ h (N .left) (N .valid) (N .tidy) ne (l .j) (l .u) (l .out) (l .mine) (l .inv .1) g _ (c .before .before .before .before .before .sieve .ensures .judged (l .j) (l .inv .0) g) (c .if4 .taken))
+    (omega (arith, l .inv .0), going-off m (c .before .before .before .before .before .before .before .before .before .before .before .before .before .before .before .before .before .before .before .before .args .k) (c .before .before .before .before .before .before .before .before .before .before .before .before .before .before .before .before .before .before .before .before .args .b) (c .before .before .before .before .before .before .before .before .before .before .before .before .before .before .before .before .before .before .before .before .args .c) (c .before .before .before .before .before .before .before .before .before .before .before .before .before .before .before .before .before .before .before .before .args .missing) (c .before .before .before .before .before .before .before .before .before .before .before .before .before .before .before .before .before .before .before .before .args .limit) _ _ h (N .left) (N .valid) (N .tidy) ne (l .j) (l .u) (l .out) (l .mine) (l .inv .1) g _ (c .before .before .before .before .before .before .before .before .before .before .sieve .ensures .judged (l .j) (l .inv .0) g) (c .if4 .taken), l .inv .2, l .inv .3)
 
 walk-mul-x : (t : ℕ) → walk-lts.Need-mul-x (claims t) (walk-at t) walk.Post walk-Inv-loop walk-μ-loop
 walk-mul-x t c = omega arith
 
 walk-shared-slice-read-x : (t : ℕ) → walk-lts.Need-shared-slice-read-x (claims t) (walk-at t) walk.Post walk-Inv-loop walk-μ-loop
 walk-shared-slice-read-x t c =
-    let s = c .before .before .before .before .before .before .before .before .before .before .before .before in
-    let N = s .pre .1 in
-    let m = s .args .gens .now in
-    let h = s .args .h .now in
-    let eh : length h ≡ length m = ap length (N .left) ∙ residues-length m (rowsOf (s .args .b)) in
+    let N = c .before .before .before .before .before .before .before .before .before .before .before .before .before .before .before .before .before .before .before .before .before .pre .1 .0 in
+    let m = c .before .before .before .before .before .before .before .before .before .before .before .before .before .before .before .before .before .before .before .before .before .args .gens .now in
+    let h = c .before .before .before .before .before .before .before .before .before .before .before .before .before .before .before .before .before .before .before .before .before .args .h .now in
+    let eh : length h ≡ length m = ap length (N .left) ∙ residues-length m (rowsOf (c .before .before .before .before .before .before .before .before .before .before .before .before .before .before .before .before .before .before .before .before .before .args .b)) in
     omega (arith, eh, c .before .before .before .before .loop-test .taken)
 
 walk-child-requires : (t : ℕ) → walk-lts.Need-child-requires (claims t) (walk-at t) walk.Post walk-Inv-loop walk-μ-loop
 walk-child-requires t c κs =
-    let s = c .before .before .before .before .before .before .before .before .before .before .before .before .before in
-    let N = s .pre .1 in
-    let eh : length (s .args .h .now) ≡ length (s .args .gens .now) = ap length (N .left) ∙ residues-length (s .args .gens .now) (rowsOf (s .args .b)) in
+    let N = c .before .before .before .before .before .before .before .before .before .before .before .before .before .before .before .before .before .before .before .before .before .before .pre .1 .0 in
+    let eh : length (c .before .before .before .before .before .before .before .before .before .before .before .before .before .before .before .before .before .before .before .before .before .before .args .h .now) ≡ length (c .before .before .before .before .before .before .before .before .before .before .before .before .before .before .before .before .before .before .before .before .before .before .args .gens .now) = ap length (N .left) ∙ residues-length (c .before .before .before .before .before .before .before .before .before .before .before .before .before .before .before .before .before .before .before .before .before .before .args .gens .now) (rowsOf (c .before .before .before .before .before .before .before .before .before .before .before .before .before .before .before .before .before .before .before .before .before .before .args .b)) in
     (omega (arith, eh, N .small), c .before .before .before .before .before .before .loop .inv .1 .whole)
 
 walk-array-share-prefix-mine : (t : ℕ) → walk-lts.Need-array-share-prefix-mine (claims t) (walk-at t) walk.Post walk-Inv-loop walk-μ-loop
-walk-array-share-prefix-mine t c = omega (arith, c .before .before .before .before .before .before .before .before .before .before .before .before .before .before .pre .1 .small, c .child .ensures .whole)
+walk-array-share-prefix-mine t c = omega (arith, c .before .before .before .before .before .before .before .before .before .before .before .before .before .before .before .before .before .before .before .before .before .before .before .pre .1 .0 .small, c .child .ensures .whole)
 
 walk-slice-aggregate-walk : (t : ℕ) → walk-lts.Need-slice-aggregate-walk (claims t) (walk-at t) walk.Post walk-Inv-loop walk-μ-loop
-walk-slice-aggregate-walk t c = sym (length-take-le (length (c .before .before .before .before .before .before .before .before .before .before .before .before .before .before .before .args .gens .now)) (c .before .child .last .1 .1 .0) (omega (arith, c .before .before .before .before .before .before .before .before .before .before .before .before .before .before .before .pre .1 .small, c .before .child .ensures .whole)))
+walk-slice-aggregate-walk t c = sym (length-take-le (length (c .before .before .before .before .before .before .before .before .before .before .before .before .before .before .before .before .before .before .before .before .before .before .before .before .args .gens .now)) (c .before .child .last .1 .1 .0) (omega (arith, c .before .before .before .before .before .before .before .before .before .before .before .before .before .before .before .before .before .before .before .before .before .before .before .before .pre .1 .0 .small, c .before .child .ensures .whole)))
 
 walk-add-walk : (t : ℕ) → walk-lts.Need-add-walk (claims t) (walk-at t) walk.Post walk-Inv-loop walk-μ-loop
-walk-add-walk t c = omega (arith, c .before .before .before .before .before .before .before .loop-test .taken, c .before .before .before .before .before .before .before .before .before .before .before .before .before .before .before .pre .1 .small)
+walk-add-walk t c = omega (arith, c .before .before .before .before .before .before .before .loop-test .taken, c .before .before .before .before .before .before .before .before .before .before .before .before .before .before .before .before .before .before .before .before .before .before .before .before .pre .1 .0 .small)
 
 walk-sub-walk : (t : ℕ) → walk-lts.Need-sub-walk (claims t) (walk-at t) walk.Post walk-Inv-loop walk-μ-loop
-walk-sub-walk t c = omega (arith, c .before .before .before .before .before .before .before .before .before .before .before .if1 .left)
+walk-sub-walk t c = omega (arith, c .before .before .before .before .before .before .before .before .before .before .before .before .before .before .before .before .before .before .if1 .left)
 
 walk-insert-requires : (t : ℕ) → walk-lts.Need-insert-requires (claims t) (walk-at t) walk.Post walk-Inv-loop walk-μ-loop
-walk-insert-requires t c κs = c .before .before .before .before .before .before .before .before .before .before .before .before .before .before .before .pre .1 .valid
+walk-insert-requires t c κs = c .before .before .before .before .before .before .before .before .before .before .before .before .before .before .before .before .before .before .before .before .before .before .before .before .pre .1 .0 .valid
 
 walk-push-requires : (t : ℕ) → walk-lts.Need-push-requires (claims t) (walk-at t) walk.Post walk-Inv-loop walk-μ-loop
 walk-push-requires t c κs =
-    let s = c .before .before .before .before .before .before .before .before .before .before .before .before .before .before .before .before in
-    let N = s .pre .1 in
-    let ne = c .before .before .before .before .before .before .before .before .before .before .before .before .if1 .left in
+    let N = c .before .before .before .before .before .before .before .before .before .before .before .before .before .before .before .before .before .before .before .before .before .before .before .before .before .pre .1 .0 in
+    let ne = c .before .before .before .before .before .before .before .before .before .before .before .before .before .before .before .before .before .before .before .if1 .left in
     record { whole = N .tidy .whole; room = omega (arith, N .tidy .room, ne) }
 
 walk-walk-requires : (t : ℕ) → walk-lts.Need-walk-requires (claims t) (walk-at t) walk.Post walk-Inv-loop walk-μ-loop
 walk-walk-requires t c κs =
-    let s = c .before .before .before .before .before .before .before .before .before .before .before .before .before .before .before .before .before .before in
-    let N = s .pre .1 in
-    let m = s .args .gens .now in
-    let h = s .args .h .now in
-    let l = c .before .before .before .before .before .before .before .before .before .before .before .loop in
-    let ne = c .before .before .before .before .before .before .before .before .before .before .before .before .before .before .if1 .left in
-    let g : l .j < length m = c .before .before .before .before .before .before .before .before .before .before .loop-test .taken in
-    let e : false ≡ known h (l .j) = c .before .before .before .before .before .before .before .before .before .before .before .before .sieve .ensures .judged (l .j) (l .inv .0) g .on (c .before .before .before .before .before .before .before .if4 .left) in
-    let d : s .args .missing ≡ t = s .pre .0 in (
+    let N = c .before .before .before .before .before .before .before .before .before .before .before .before .before .before .before .before .before .before .before .before .before .before .before .before .before .before .before .before .before .pre .1 .0 in
+    let m = c .before .before .before .before .before .before .before .before .before .before .before .before .before .before .before .before .before .before .before .before .before .before .before .before .before .before .before .before .before .args .gens .now in
+    let h = c .before .before .before .before .before .before .before .before .before .before .before .before .before .before .before .before .before .before .before .before .before .before .before .before .before .before .before .before .before .args .h .now in
+    let l = c .before .before .before .before .before .before .before .before .before .before .before .before .before .loop in
+    let ne = c .before .before .before .before .before .before .before .before .before .before .before .before .before .before .before .before .before .before .before .before .before .before .before .if1 .left in
+    let g : l .j < length m = c .before .before .before .before .before .before .before .before .before .before .before .before .loop-test .taken in
+    let e : false ≡ known h (l .j) = c .before .before .before .before .before .before .before .before .before .before .before .before .before .before .before .before .before .before .before .sieve .ensures .judged (l .j) (l .inv .0) g .on (c .before .before .before .before .before .before .before .before .before .if4 .left) in
+    let d : c .before .before .before .before .before .before .before .before .before .before .before .before .before .before .before .before .before .before .before .before .before .before .before .before .before .before .before .before .before .args .missing ≡ t = c .before .before .before .before .before .before .before .before .before .before .before .before .before .before .before .before .before .before .before .before .before .before .before .before .before .before .before .before .before .pre .0 in (
       omega (arith, d, ne),
-      node-down m (s .args .k) (s .args .b) (s .args .c) (s .args .missing) (s .args .limit) _ _ h (N .left) (N .valid) (N .tidy) ne (l .j) (l .u) (l .out) (l .mine) (l .inv .1) g e (N .small) (c .before .before .insert .result) (c .before .before .insert .ensures) (c .before .push .result) (c .before .push .ensures) (c .before .before .before .before .child .last .1 .1 .0) (c .before .before .before .before .child .ensures),
+      (node-down m (c .before .before .before .before .before .before .before .before .before .before .before .before .before .before .before .before .before .before .before .before .before .before .before .before .before .before .before .before .before .args .k) (c .before .before .before .before .before .before .before .before .before .before .before .before .before .before .before .before .before .before .before .before .before .before .before .before .before .before .before .before .before .args .b) (c .before .before .before .before .before .before .before .before .before .before .before .before .before .before .before .before .before .before .before .before .before .before .before .before .before .before .before .before .before .args .c) (c .before .before .before .before .before .before .before .before .before .before .before .before .before .before .before .before .before .before .before .before .before .before .before .before .before .before .before .before .before .args .missing) (c .before .before .before .before .before .before .before .before .before .before .before .before .before .before .before .before .before .before .before .before .before .before .before .before .before .before .before .before .before .args .limit) _ _ h (N .left) (N .valid) (N .tidy) ne (l .j) (l .u) (l .out) (l .mine) (l .inv .1) g e (N .small) (c .before .before .before .before .insert .result) (c .before .before .before .before .insert .ensures) (c .before .before .before .push .result) (c .before .before .before .push .ensures) (c .before .before .before .before .before .before .child .last .1 .1 .0) (c .before .before .before .before .before .before .child .ensures), l .inv .2, l .inv .3),
     )
 
 walk-add-j-2 : (t : ℕ) → walk-lts.Need-add-j-2 (claims t) (walk-at t) walk.Post walk-Inv-loop walk-μ-loop
-walk-add-j-2 t c = omega (arith, c .before .before .before .before .before .before .before .before .before .before .before .before .before .loop-test .taken, c .before .before .before .before .before .before .before .before .before .before .before .before .before .before .before .before .before .before .before .before .before .pre .1 .small)
+walk-add-j-2 t c = omega (arith, c .before .before .before .before .before .before .before .before .before .before .before .before .before .before .before .before .before .before .before .loop-test .taken, c .before .before .before .before .before .before .before .before .before .before .before .before .before .before .before .before .before .before .before .before .before .before .before .before .before .before .before .before .before .before .before .before .before .before .before .before .pre .1 .0 .small)
 
 walk-loop-less-2 : (t : ℕ) → walk-lts.Need-loop-less-2 (claims t) (walk-at t) walk.Post walk-Inv-loop walk-μ-loop
-walk-loop-less-2 t c = omega (arith, c .before .before .before .before .before .before .before .before .before .before .before .before .before .loop-test .taken)
+walk-loop-less-2 t c = omega (arith, c .before .before .before .before .before .before .before .before .before .before .before .before .before .before .before .before .before .before .before .loop-test .taken)
 
 walk-loop-again-2 : (t : ℕ) → walk-lts.Need-loop-again-2 (claims t) (walk-at t) walk.Post walk-Inv-loop walk-μ-loop
 walk-loop-again-2 t c =
-    let s = c .before .before .before .before .before .before .before .before .before .before .before .before .before .before .before .before .before .before .before .before .before in
-    let N = s .pre .1 in
-    let m = s .args .gens .now in
-    let h = s .args .h .now in
-    let l = c .before .before .before .before .before .before .before .before .before .before .before .before .before .before .loop in
-    let ne = c .before .before .before .before .before .before .before .before .before .before .before .before .before .before .before .before .before .if1 .left in
-    let g : l .j < length m = c .before .before .before .before .before .before .before .before .before .before .before .before .before .loop-test .taken in
-    let e : false ≡ known h (l .j) = c .before .before .before .before .before .before .before .before .before .before .before .before .before .before .before .sieve .ensures .judged (l .j) (l .inv .0) g .on (c .before .before .before .before .before .before .before .before .before .before .if4 .left) in (
+    let N = c .before .before .before .before .before .before .before .before .before .before .before .before .before .before .before .before .before .before .before .before .before .before .before .before .before .before .before .before .before .before .before .before .before .before .before .before .pre .1 .0 in
+    let m = c .before .before .before .before .before .before .before .before .before .before .before .before .before .before .before .before .before .before .before .before .before .before .before .before .before .before .before .before .before .before .before .before .before .before .before .before .args .gens .now in
+    let h = c .before .before .before .before .before .before .before .before .before .before .before .before .before .before .before .before .before .before .before .before .before .before .before .before .before .before .before .before .before .before .before .before .before .before .before .before .args .h .now in
+    let l = c .before .before .before .before .before .before .before .before .before .before .before .before .before .before .before .before .before .before .before .before .loop in
+    let ne = c .before .before .before .before .before .before .before .before .before .before .before .before .before .before .before .before .before .before .before .before .before .before .before .before .before .before .before .before .before .before .if1 .left in
+    let g : l .j < length m = c .before .before .before .before .before .before .before .before .before .before .before .before .before .before .before .before .before .before .before .loop-test .taken in
+    let e : false ≡ known h (l .j) = c .before .before .before .before .before .before .before .before .before .before .before .before .before .before .before .before .before .before .before .before .before .before .before .before .before .before .sieve .ensures .judged (l .j) (l .inv .0) g .on (c .before .before .before .before .before .before .before .before .before .before .before .before .before .before .before .before .if4 .left) in (
       omega (arith, l .inv .0),
-      going-down m (s .args .k) (s .args .b) (s .args .c) (s .args .missing) (s .args .limit) _ _ h (N .left) (N .valid) (N .tidy) ne (l .j) (l .u) (l .out) (l .mine) (l .inv .1) g e (c .before .before .before .before .before .insert .result) (c .before .before .before .before .before .insert .ensures) (c .before .before .before .before .push .result) (c .before .before .before .before .push .ensures) (c .before .before .walk .result) _ (c .before .before .before .before .before .before .before .child .last .1 .1 .0)
-          (c .before .before .before .before .before .before .before .child .ensures .whole) (c .before .before .walk .ensures),
+      going-down m (c .before .before .before .before .before .before .before .before .before .before .before .before .before .before .before .before .before .before .before .before .before .before .before .before .before .before .before .before .before .before .before .before .before .before .before .before .args .k) (c .before .before .before .before .before .before .before .before .before .before .before .before .before .before .before .before .before .before .before .before .before .before .before .before .before .before .before .before .before .before .before .before .before .before .before .before .args .b) (c .before .before .before .before .before .before .before .before .before .before .before .before .before .before .before .before .before .before .before .before .before .before .before .before .before .before .before .before .before .before .before .before .before .before .before .before .args .c) (c .before .before .before .before .before .before .before .before .before .before .before .before .before .before .before .before .before .before .before .before .before .before .before .before .before .before .before .before .before .before .before .before .before .before .before .before .args .missing) (c .before .before .before .before .before .before .before .before .before .before .before .before .before .before .before .before .before .before .before .before .before .before .before .before .before .before .before .before .before .before .before .before .before .before .before .before .args .limit) _ _ h (N .left) (N .valid) (N .tidy) ne (l .j) (l .u) (l .out) (l .mine) (l .inv .1) g e (c .before .before .before .before .before .before .before .before .before .before .before .insert .result) (c .before .before .before .before .before .before .before .before .before .before .before .insert .ensures) (c .before .before .before .before .before .before .before .before .before .before .push .result) (c .before .before .before .before .before .before .before .before .before .before .push .ensures) (c .before .before .before .before .before .before .walk .result) _ (c .before .before .before .before .before .before .before .before .before .before .before .before .before .child .last .1 .1 .0)
+          (c .before .before .before .before .before .before .before .before .before .before .before .before .before .child .ensures .whole) (c .before .before .before .before .before .before .walk .ensures),
+      c .before .before .before .before .before .before .walk .kept .1 .1 .1 .1 .1 .1 .1 .1 .1 .0 ∙ l .inv .2,
+      c .before .before .before .before .before .before .walk .kept .1 .1 .1 .1 .1 .1 .1 .1 .1 .1 .0 ∙ l .inv .3,
     )
 
-walk-same-length-3 : (t : ℕ) → walk-lts.Need-same-length-3 (claims t) (walk-at t) walk.Post walk-Inv-loop walk-μ-loop
-walk-same-length-3 t c = c .before .loop .inv .1 .same
+walk-same-length-5 : (t : ℕ) → walk-lts.Need-same-length-5 (claims t) (walk-at t) walk.Post walk-Inv-loop walk-μ-loop
+walk-same-length-5 t c = c .before .loop .inv .2 ∙ sym (c .before .before .before .before .before .before .before .before .before .before .before .before .before .before .before .before .before .pre .1 .1)
+
+walk-same-length-6 : (t : ℕ) → walk-lts.Need-same-length-6 (claims t) (walk-at t) walk.Post walk-Inv-loop walk-μ-loop
+walk-same-length-6 t c = c .before .loop .inv .3 ∙ sym (c .before .before .before .before .before .before .before .before .before .before .before .before .before .before .before .before .before .pre .1 .2)
+
+walk-same-length-7 : (t : ℕ) → walk-lts.Need-same-length-7 (claims t) (walk-at t) walk.Post walk-Inv-loop walk-μ-loop
+walk-same-length-7 t c = c .before .loop .inv .1 .same
 
 walk-returns-4 : (t : ℕ) → walk-lts.Need-returns-4 (claims t) (walk-at t) walk.Post walk-Inv-loop walk-μ-loop
 walk-returns-4 t c =
-    let s = c .before .before .before .before .before .before .before .before in
-    let N = s .pre .1 in
-    let m = s .args .gens .now in
-    let h = s .args .h .now in
+    let N = c .before .before .before .before .before .before .before .before .before .before .before .before .before .before .before .before .before .pre .1 .0 in
+    let m = c .before .before .before .before .before .before .before .before .before .before .before .before .before .before .before .before .before .args .gens .now in
+    let h = c .before .before .before .before .before .before .before .before .before .before .before .before .before .before .before .before .before .args .h .now in
     let l = c .before .loop in
-    let ne = c .before .before .before .before .if1 .left in
-    going-end m (s .args .k) (s .args .b) (s .args .c) (s .args .missing) (s .args .limit) _ _ h (N .left) (N .valid) (N .tidy) ne (l .j) (l .u) (l .out) (l .mine) (l .inv .1) (c .loop-test .left)
+    let ne = c .before .before .before .before .before .before .before .before .before .before .before .if1 .left in
+    going-end m (c .before .before .before .before .before .before .before .before .before .before .before .before .before .before .before .before .before .args .k) (c .before .before .before .before .before .before .before .before .before .before .before .before .before .before .before .before .before .args .b) (c .before .before .before .before .before .before .before .before .before .before .before .before .before .before .before .before .before .args .c) (c .before .before .before .before .before .before .before .before .before .before .before .before .before .before .before .before .before .args .missing) (c .before .before .before .before .before .before .before .before .before .before .before .before .before .before .before .before .before .args .limit) _ _ h (N .left) (N .valid) (N .tidy) ne (l .j) (l .u) (l .out) (l .mine) (l .inv .1) (c .loop-test .left)
 
 pub +walk-spec : {M : Type 1} → statement M
 +walk-spec = close μ-walk λ t. walk-lts.spec (claims t)
@@ -249,9 +266,12 @@ pub +walk-spec : {M : Type 1} → statement M
     (walk-same-length t)
     (walk-returns t)
     (walk-returns-2 t)
+    (walk-slice-aggregate-sieve t)
     (walk-sieve-requires t)
     (walk-loop-holds t)
     (walk-same-length-2 t)
+    (walk-same-length-3 t)
+    (walk-same-length-4 t)
     (walk-returns-3 t)
     (walk-array-read-if4 t)
     (walk-add-j t)
@@ -270,5 +290,7 @@ pub +walk-spec : {M : Type 1} → statement M
     (walk-add-j-2 t)
     (walk-loop-less-2 t)
     (walk-loop-again-2 t)
-    (walk-same-length-3 t)
+    (walk-same-length-5 t)
+    (walk-same-length-6 t)
+    (walk-same-length-7 t)
     (walk-returns-4 t)

@@ -26,7 +26,7 @@ use Rattle.linear.specs.laws.Walk.{walk-is, Free, walk-none, free-steps}
 use Rattle.residues.specs.Residues.{residues, known, withResidue}
 use Rattle.residues.specs.laws.Known.{known-yes, known-no}
 use Rattle.residues.specs.laws.Child.{with-zero}
-use Rattle.sieve.specs.Sieve.{Barren}
+use Rattle.residues.specs.Barren.{Barren}
 use Rattle.walk.specs.Records.{State, note, run}
 use Rattle.walk.specs.Walk.{search}
 

@@ -1,0 +1,4 @@
+-- Bounds on the ranks of the generators with one residue.
+pub mod Bucket
+pub mod Table
+pub mod laws
