@@ -1,14 +1,28 @@
--- The parts are all that is printed.
---   parts-are-all   after `start`, what is on the page and then the parts of the entries, 0 to shown − 1, are the program's text
+-- The parts are all that is printed, and each is a list of formulae.
+--   parts-are-all    after `start`, what is on the page and then the parts of the entries, 0 to shown − 1, are the program's text
+--   entry-has-lines  no entry that is shown is refused: its part is the lines of its formulae, as many as fit into 4,096 words. That these are its formulae, none
+--                    missing and none twice: spaces' `formulae-means`
 -- Assumes nothing.
-use Prim.Native.Nat.{ℕ, zero, suc, _+_, _-_}
-use mathlib.Core.Path.{_≡_, refl, sym, ap, ap₂, _∙_}
+use Prim.Native.Nat.{ℕ, zero, suc, _<_}
+use mathlib.Core.Path.{_≡_, refl, sym, ap, ap₂, _∙_, subst}
 use mathlib.Core.List.{List, _++_, append-nil}
-use lib.ListN.{take}
+use lib.ListN.{length, take}
+use Rattle.kinds.specs.Kinds.{numberOf}
 use Rattle.kinds.specs.Refusal.{Answer, refused, accepted, follow}
-use Rattle.answers.specs.Answers.{printed}
-use Rattle.formulae_program.specs.FormulaeProgram.{Listed, listedInput, firstPart, entryPart, entriesPart, formulaeProgram}
+use Rattle.kinds.specs.RefusalLaws.{accepted-inj, follow-inv}
+use Rattle.problems.specs.Problem.{Problem, posed}
+use Rattle.problem_files.specs.ProblemFile.{ProblemFile}
+use Rattle.problem_files.specs.declared.Purpose.the-variants as purpose
+use Rattle.search.specs.Catalogue.{catalogue}
+use Rattle.spaces.specs.Spaces.{Formulae, formulaeOf}
+use Rattle.spaces.specs.Theorems.{formulae-means}
+use Rattle.formula_lines.specs.FormulaLines.{formulaeText}
+use Rattle.formula_answers.specs.FormulaAnswers.{formulaeAnswer, entryFormulae}
+use Rattle.programs.specs.Programs.{inputOf}
+use Rattle.answers.specs.Answers.{listingRoom, printed}
+use Rattle.formulae_program.specs.FormulaeProgram.{Listed, listed, listedInput, rowsAt, firstPart, entryPart, entriesPart, formulaeProgram}
 use Rattle.formulae_program.specs.Plans.{planText, planTexts, Follows, Printing, Starts}
+use Rattle.formulae_program.specs.laws.Shown.{entry-accepted}
 use Rattle.formulae_program.specs.declared.Plan.{Plan}
 
 module _ (x : Plan) (g t listing : List ℕ) where
@@ -32,3 +46,37 @@ module _ (x : Plan) (g t listing : List ℕ) where
   pub parts-are-all : (s page : List ℕ) → Starts (listedInput s) x g t listing page → formulaeProgram s ≡ take (x .head) page ++ planTexts x g t listing 0 (x .shown)
   unfolding formulaeProgram
   parts-are-all s page S = said-all (listedInput s) page (S .prints)
+
+-- ---- an entry's part
+module _ (L : Listed) where
+  abbrev P : ProblemFile
+  P = L .problem
+
+  pub record HasLines (i : ℕ) : Type 0 where
+    pub x : Problem
+    pub posed-as : posed (numberOf (P .kind)) (P .p) (P .q) (P .r) (P .generators) (P .targets) (rowsAt L i) ≡ accepted x
+    pub said : Formulae
+    pub accepted-as : formulaeOf (numberOf (P .kind)) (P .p) (P .q) (P .r) (P .generators) (P .targets) (rowsAt L i) listingRoom ≡ accepted said
+    pub lines : entryPart L i ≡ formulaeText i (length (rowsAt L i)) (length (x .targets)) (said .listed) (said .whole) (said .buffer)
+
+  pub entry-has-lines : (s : List ℕ) → listedInput s ≡ accepted L → (i : ℕ) → i < L .said .shown → HasLines i
+  unfolding listedInput entryFormulae
+  entry-has-lines s e i h =
+      let a = follow-inv (inputOf purpose.Catalogue s) listed L e in
+      let Q : ProblemFile = a .0 in
+      let b = follow-inv (catalogue (numberOf (Q .kind)) (Q .p) (Q .q) (Q .r) (Q .k) (Q .generators) (Q .targets) listingRoom) (λ c. accepted (record { problem = Q; said = c })) L (a .2) in
+      let l : record { problem = Q; said = b .0 } ≡ L = accepted-inj (record { problem = Q; said = b .0 }) L (b .2) in
+      let said : catalogue (numberOf (P .kind)) (P .p) (P .q) (P .r) (P .k) (P .generators) (P .targets) listingRoom ≡ accepted (L .said) =
+      subst (λ (K : Listed). catalogue (numberOf (K .problem .kind)) (K .problem .p) (K .problem .q) (K .problem .r) (K .problem .k) (K .problem .generators) (K .problem .targets) listingRoom ≡ accepted (K .said)) l (b .1) in
+      let f = entry-accepted (numberOf (P .kind)) (P .p) (P .q) (P .r) (P .k) (P .generators) (P .targets) listingRoom listingRoom (L .said) said i h in
+      let m = formulae-means (numberOf (P .kind)) (P .p) (P .q) (P .r) (P .generators) (P .targets) (rowsAt L i) listingRoom (f .0) (f .1) in
+      record {
+        x = m .0;
+        posed-as = m .1;
+        said = f .0;
+        accepted-as = f .1;
+        lines =
+            ap (λ (o : Answer Problem). printed (follow o λ y. accepted (formulaeAnswer i (length (rowsAt L i)) (length (y .targets))
+            (formulaeOf (numberOf (P .kind)) (P .p) (P .q) (P .r) (P .generators) (P .targets) (rowsAt L i) listingRoom)))) (m .1)
+            ∙ ap (formulaeAnswer i (length (rowsAt L i)) (length (m .0 .targets))) (f .1);
+      }

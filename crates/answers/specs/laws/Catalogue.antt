@@ -43,7 +43,7 @@ fits-in (suc n) c w =
     low : (x y : ℕ) → min x y ≤ y
     low x y = omega arith
 
-few-shown : (n c w : ℕ) → fitting n c w ≤ c
+pub few-shown : (n c w : ℕ) → fitting n c w ≤ c
 unfolding fitting
 few-shown zero c w = omega arith
 few-shown (suc n) c w = omega arith
