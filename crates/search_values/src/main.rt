@@ -86,10 +86,10 @@ fn print_listing(listing: &[u64], ell: u64, k: u64, shown: u64) {
     print_words(listing);
     let mut j: u64 = 0;
     while j < shown {
-        print_words(search::entry(listing, ell, k, shown, j));
+        print_words(lookup::entry(listing, ell, k, shown, j));
         j += 1;
     }
-    print_words(search::entry(listing, ell, k, shown, shown));
+    print_words(lookup::entry(listing, ell, k, shown, shown));
 }
 
 // Word i of a buffer holds 1000000 + i before a call.
@@ -148,7 +148,7 @@ fn call_catalogue(
 
 // Rank.
 fn call_rank(number: u64, p: u64, q: u64, r: u64, k: u64, gs: &[u64], ts: &[u64], out: &mut [u64]) {
-    let said = search::rank(number, p, q, r, k, gs, ts, out);
+    let said = ranks::rank(number, p, q, r, k, gs, ts, out);
     print_ranked(said);
     print_words(out);
 }
@@ -174,7 +174,7 @@ fn call_on(
         call_rank(number, p, q, r, k, gs, ts, out);
         return;
     }
-    print_words(search::entry(out, number, p, q, r));
+    print_words(lookup::entry(out, number, p, q, r));
 }
 
 // The call that some words start with, in a buffer of as many words as it asks for, of 64 at most.

@@ -30,7 +30,7 @@ use Rattle.choice.specs.Choice.{formulaRecord}
 use Rattle.listing.specs.Listing.{records, flat, fitting}
 use Rattle.fewest.specs.Fewest.{Ranking, is, above, beyond, ranking}
 use Rattle.search.specs.Catalogue.{Catalogued, listing, catalogue}
-use Rattle.search.specs.Rank.{rank}
+use Rattle.ranks.specs.Rank.{rank}
 use Rattle.spaces.specs.Spaces as space
 use Rattle.spaces.specs.Spaces.{isEntry, formulaeOf}
 use Rattle.formula.specs.Formula.{firstWrong, lengths, judged, check}

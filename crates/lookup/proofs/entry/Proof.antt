@@ -1,14 +1,11 @@
--- `search::entry` meets its contract. Assumes nothing.
+-- `lookup::entry` meets its contract. Assumes nothing.
 use native.Mathlib.Omega.{arith}
 use borrow.Author.Needs.{needs}
-use mathlib.Core.Path.{_∙_}
-use Prim.Native.Nat.{_+_, _-_, _*_}
-use Rattle.fewest.specs.laws.Least.{part-is}
-use Rattle.search.specs.laws.Lookup.{not-shown, below, too-long, no-size, runs-past, fits-in, held}
-use Rattle.search.proofs.entry.Statement.{statement}
-use Rattle.search.proofs.entry.Tie as tie
-use Rattle.search.proofs.entry.Reads as reads
-use Rattle.search.proofs.entry.Lts as lts
+use Rattle.lookup.specs.laws.Lookup.{not-shown, below, too-long, no-size, runs-past, fits-in, held}
+use Rattle.lookup.proofs.entry.Statement.{statement}
+use Rattle.lookup.proofs.entry.Tie as tie
+use Rattle.lookup.proofs.entry.Reads as reads
+use Rattle.lookup.proofs.entry.Lts as lts
 
 slice-aggregate-result : tie.Need-slice-aggregate-result
 slice-aggregate-result c = search needs
@@ -65,7 +62,7 @@ part-result-end : tie.Need-part-result-end
 part-result-end c = fits-in (c .before .before .before .before .before .args .ell) (c .before .before .before .before .before .args .k) (c .before .before .before .before .before .args .shown) (c .before .before .before .before .before .args .number) (c .before .before .before .before .before .args .listing .now) (let n = c .before .if4 .left in omega arith) (let l = c .if5 .left in omega arith)
 
 returns-6 : tie.Need-returns-6
-returns-6 c = part-is (c .before .before .before .before .before .before .args .number * ((c .before .before .before .before .before .before .args .k - c .before .before .before .before .before .before .args .ell) + c .before .before .before .before .before .before .args .k)) ((c .before .before .before .before .before .before .args .k - c .before .before .before .before .before .before .args .ell) + c .before .before .before .before .before .before .args .k) (c .before .before .before .before .before .before .args .listing .now) ∙ held (c .before .before .before .before .before .before .args .ell) (c .before .before .before .before .before .before .args .k) (c .before .before .before .before .before .before .args .shown) (c .before .before .before .before .before .before .args .number) (c .before .before .before .before .before .before .args .listing .now) (let h = c .before .before .before .before .before .if1 .left in omega arith) (let h = c .before .before .before .before .if2 .left in omega arith) (fits-in (c .before .before .before .before .before .before .args .ell) (c .before .before .before .before .before .before .args .k) (c .before .before .before .before .before .before .args .shown) (c .before .before .before .before .before .before .args .number) (c .before .before .before .before .before .before .args .listing .now) (let n = c .before .before .if4 .left in omega arith) (let l = c .before .if5 .left in omega arith))
+returns-6 c = held (c .before .before .before .before .before .before .args .ell) (c .before .before .before .before .before .before .args .k) (c .before .before .before .before .before .before .args .shown) (c .before .before .before .before .before .before .args .number) (c .before .before .before .before .before .before .args .listing .now) (let h = c .before .before .before .before .before .if1 .left in omega arith) (let h = c .before .before .before .before .if2 .left in omega arith) (fits-in (c .before .before .before .before .before .before .args .ell) (c .before .before .before .before .before .before .args .k) (c .before .before .before .before .before .before .args .shown) (c .before .before .before .before .before .before .args .number) (c .before .before .before .before .before .before .args .listing .now) (let n = c .before .before .if4 .left in omega arith) (let l = c .before .if5 .left in omega arith))
 
 pub entry-spec : {M : Type 1} → statement M
 entry-spec =

@@ -1,14 +1,14 @@
--- `search::rank` meets its contract. Assumes nothing.
+-- `ranks::rank` meets its contract. Assumes nothing.
 use borrow.Author.Needs.{needs}
 use native.Mathlib.Omega.{arith}
 use mathlib.Core.Path.{sym}
 use lib.Seq.{length-take-le}
-use Rattle.search.specs.Rank.{rank}
-use Rattle.search.specs.laws.Replies.{made-room, part-few, rank-refused, rank-made, ranks-refused, rank-far, ranks-made}
-use Rattle.search.proofs.rank.Statement.{statement}
-use Rattle.search.proofs.rank.Tie as tie
-use Rattle.search.proofs.rank.Reads as reads
-use Rattle.search.proofs.rank.Lts as lts
+use Rattle.ranks.specs.Rank.{rank}
+use Rattle.ranks.specs.laws.Replies.{made-room, made-few, rank-refused, rank-made, ranks-refused, rank-far, ranks-made}
+use Rattle.ranks.proofs.rank.Statement.{statement}
+use Rattle.ranks.proofs.rank.Tie as tie
+use Rattle.ranks.proofs.rank.Reads as reads
+use Rattle.ranks.proofs.rank.Lts as lts
 use Rattle.fewest.proofs.rank_of.Reads as rank-of-reads
 use Rattle.problems.proofs.pose.Reads as pose-reads
 
@@ -46,7 +46,7 @@ slice-aggregate-rank-of-2 : tie.Need-slice-aggregate-rank-of-2
 slice-aggregate-rank-of-2 c = let m = made-room (c .before .before .before .before .before .before .before .before .before .before .before .before .before .before .before .args .number) (c .before .before .before .before .before .before .before .before .before .before .before .before .before .before .before .args .p) (c .before .before .before .before .before .before .before .before .before .before .before .before .before .before .before .args .q) (c .before .before .before .before .before .before .before .before .before .before .before .before .before .before .before .args .r) (c .before .before .before .before .before .before .before .before .before .before .before .before .before .before .before .args .k) (c .before .before .before .before .before .before .before .before .before .before .before .before .before .before .before .args .gs .now) (c .before .before .before .before .before .before .before .before .before .before .before .before .before .before .before .args .ts .now) (c .before .before .before .before .before .before .before .before .before .before .before .before .before .before .before .args .out .now) _ _ (c .before .before .before .before .before .before .before .before .pose .result) (c .before .before .before .before .before .before .before .before .pose .ensures) (c .before .before .before .before .n .given .0 .0) (c .before .before .before .before .n .given .0 .1 .0) (c .before .before .before .before .n .given .1) in let a = m .targets in let l = c .before .before .before .before .before .before .before .before .pose .kept .1 .1 .1 .1 .1 .1 .1 .1 .0 in sym (length-take-le _ _ (omega arith))
 
 rank-of-requires : tie.Need-rank-of-requires
-rank-of-requires c κs = let m = made-room (c .before .before .before .before .before .before .before .before .before .before .before .before .before .before .before .before .args .number) (c .before .before .before .before .before .before .before .before .before .before .before .before .before .before .before .before .args .p) (c .before .before .before .before .before .before .before .before .before .before .before .before .before .before .before .before .args .q) (c .before .before .before .before .before .before .before .before .before .before .before .before .before .before .before .before .args .r) (c .before .before .before .before .before .before .before .before .before .before .before .before .before .before .before .before .args .k) (c .before .before .before .before .before .before .before .before .before .before .before .before .before .before .before .before .args .gs .now) (c .before .before .before .before .before .before .before .before .before .before .before .before .before .before .before .before .args .ts .now) (c .before .before .before .before .before .before .before .before .before .before .before .before .before .before .before .before .args .out .now) _ _ (c .before .before .before .before .before .before .before .before .before .pose .result) (c .before .before .before .before .before .before .before .before .before .pose .ensures) (c .before .before .before .before .before .n .given .0 .0) (c .before .before .before .before .before .n .given .0 .1 .0) (c .before .before .before .before .before .n .given .1) in part-few _ _ (m .generators)
+rank-of-requires c κs = made-few (c .before .before .before .before .before .before .before .before .before .before .before .before .before .before .before .before .args .number) (c .before .before .before .before .before .before .before .before .before .before .before .before .before .before .before .before .args .p) (c .before .before .before .before .before .before .before .before .before .before .before .before .before .before .before .before .args .q) (c .before .before .before .before .before .before .before .before .before .before .before .before .before .before .before .before .args .r) (c .before .before .before .before .before .before .before .before .before .before .before .before .before .before .before .before .args .k) (c .before .before .before .before .before .before .before .before .before .before .before .before .before .before .before .before .args .gs .now) (c .before .before .before .before .before .before .before .before .before .before .before .before .before .before .before .before .args .ts .now) (c .before .before .before .before .before .before .before .before .before .before .before .before .before .before .before .before .args .out .now) _ _ (c .before .before .before .before .before .before .before .before .before .pose .result) (c .before .before .before .before .before .before .before .before .before .pose .ensures) (c .before .before .before .before .before .n .given .0 .0) (c .before .before .before .before .before .n .given .0 .1 .0) (c .before .before .before .before .before .n .given .1)
 
 returns-2 : tie.Need-returns-2
 returns-2 c = ranks-refused (rank (c .before .before .before .before .before .before .before .before .before .before .before .before .args .number) (c .before .before .before .before .before .before .before .before .before .before .before .before .args .p) (c .before .before .before .before .before .before .before .before .before .before .before .before .args .q) (c .before .before .before .before .before .before .before .before .before .before .before .before .args .r) (c .before .before .before .before .before .before .before .before .before .before .before .before .args .k) (c .before .before .before .before .before .before .before .before .before .before .before .before .args .gs .now) (c .before .before .before .before .before .before .before .before .before .before .before .before .args .ts .now) (c .before .before .before .before .before .before .before .before .before .before .before .before .args .out .now)) (c .before .before .before .before .before .before .before .before .before .before .before .before .args .out .now) (c .before .e .given .0 .0) (rank-refused (c .before .before .before .before .before .before .before .before .before .before .before .before .args .number) (c .before .before .before .before .before .before .before .before .before .before .before .before .args .p) (c .before .before .before .before .before .before .before .before .before .before .before .before .args .q) (c .before .before .before .before .before .before .before .before .before .before .before .before .args .r) (c .before .before .before .before .before .before .before .before .before .before .before .before .args .k) (c .before .before .before .before .before .before .before .before .before .before .before .before .args .gs .now) (c .before .before .before .before .before .before .before .before .before .before .before .before .args .ts .now) (c .before .before .before .before .before .before .before .before .before .before .before .before .args .out .now) _ _ (c .before .before .before .before .before .pose .result) (c .before .before .before .before .before .pose .ensures) (c .before .e .given .0 .0) (c .before .e .given .1))

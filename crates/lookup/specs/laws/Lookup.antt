@@ -1,4 +1,4 @@
--- The look-up of an entry in a listing.
+-- The look-up of an entry in a listing, test by test.
 -- Assumes nothing.
 use mathlib.Core.Path.{_≡_, refl, sym, ap, ap₂, _∙_, subst}
 use mathlib.Core.Bool.{Bool, true, false, _&&_, cond}
@@ -9,7 +9,7 @@ use native.Mathlib.Nat.{div-lt-iff-lt-mul, le-div-iff-mul-le, suc-mul}
 use lib.ListN.{length, take, drop}
 use lib.Dec.{ltb, leb}
 use borrow.Author.Tests.{lt-ltb, le-ltb, le-leb, lt-leb}
-use Rattle.search.specs.Catalogue.{lookup}
+use Rattle.lookup.specs.Lookup.{lookup}
 
 module _ (ell k shown number : ℕ) (buffer : List ℕ) where
   abbrev pick : Bool → Bool → Bool → List ℕ
@@ -66,9 +66,14 @@ module _ (ell k shown number : ℕ) (buffer : List ℕ) where
   pub fits-in : 0 < (k - ell) + k → number < length buffer / ((k - ell) + k) → number * ((k - ell) + k) + ((k - ell) + k) ≤ length buffer
   fits-in s h = subst (λ (x : ℕ). x ≤ length buffer) (suc-mul number ((k - ell) + k)) (le-div-iff-mul-le s .0 (let b : suc number ≤ length buffer / ((k - ell) + k) = omega arith in b))
 
+  -- the part of a slice from d to d + n
+  part-is : (d n : ℕ) → take (d + n - d) (drop d buffer) ≡ take n (drop d buffer)
+  part-is d n = ap (λ (i : ℕ). take i (drop d buffer)) (let z : d + n - d ≡ n = omega arith in z)
+
   pub held : number < shown → ell ≤ k → number * ((k - ell) + k) + ((k - ell) + k) ≤ length buffer
-      → take ((k - ell) + k) (drop (number * ((k - ell) + k)) buffer) ≡ lookup ell k shown number buffer
+      → take (number * ((k - ell) + k) + ((k - ell) + k) - number * ((k - ell) + k)) (drop (number * ((k - ell) + k)) buffer) ≡ lookup ell k shown number buffer
   held a b c =
-      sym
+      part-is (number * ((k - ell) + k)) ((k - ell) + k)
+      ∙ sym
       (is-pick ∙ ap (λ (x : Bool). pick x (leb ell k) (leb (number * ((k - ell) + k) + ((k - ell) + k)) (length buffer))) (lt-ltb number shown a)
       ∙ ap₂ (pick true) (le-leb ell k b) (le-leb (number * ((k - ell) + k) + ((k - ell) + k)) (length buffer) c))
