@@ -24,7 +24,8 @@ use Rattle.products.specs.Product.{formOf, productForm}
 use Rattle.forms.specs.Weight.{weight}
 use Rattle.maps.specs.Target.{pair, targetForm}
 use Rattle.maps.specs.Generators.{generatorCount, firstMask, secondMask, generatorForm, listOf, generatorForms, countOf}
-use Rattle.problems.specs.Problem.{targetForms, repeats, listed, mapped, posed}
+use Rattle.lists.specs.Lists.{repeats}
+use Rattle.problems.specs.Problem.{targetForms, listed, mapped, posed}
 use Rattle.rows.specs.Rows.{rowOf}
 use Rattle.choice.specs.Choice.{formulaRecord}
 use Rattle.listing.specs.Listing.{records, flat, fitting}

@@ -1,13 +1,13 @@
--- `problems::fill_generators` meets its contract. Assumes nothing.
+-- `fills::fill_generators` meets its contract. Assumes nothing.
 use native.Mathlib.Omega.{arith}
 use mathlib.Core.Path.{_≡_, refl, sym, ap, _∙_}
 use mathlib.Core.List.{_++_}
 use Prim.Native.Nat.{ℕ, _-_, _≤_}
 use lib.ListN.{length, take, length-set}
 use Rattle.maps.specs.Generators.{listOf, generatorForm, generatorForms}
-use Rattle.problems.specs.laws.Loops.{listed-none, listed-next, listed-end}
-use Rattle.problems.proofs.fill_generators.Statement.{statement}
-use Rattle.problems.proofs.fill_generators.Tie as tie
+use Rattle.fills.specs.laws.Filling.{listed-none, listed-next, listed-end}
+use Rattle.fills.proofs.fill_generators.Statement.{statement}
+use Rattle.fills.proofs.fill_generators.Tie as tie
 
 abbrev Inv-loop : tie.InvT-loop
 Inv-loop n m c g₀ j₀ g j = (j ≤ c) × (length g ≡ length g₀) × (take j g ++ listOf (generatorForm n m) j (c - j) ≡ listOf (generatorForm n m) 0 c)

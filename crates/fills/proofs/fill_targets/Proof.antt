@@ -1,4 +1,4 @@
--- `problems::fill_targets` meets its contract. Assumes nothing.
+-- `fills::fill_targets` meets its contract. Assumes nothing.
 use native.Mathlib.Omega.{arith}
 use mathlib.Core.Path.{_≡_, refl, _∙_}
 use mathlib.Core.List.{_++_}
@@ -8,10 +8,9 @@ use lib.ListN.{length, take, length-set}
 use Rattle.kinds.specs.SizeLaws.{sizes-bounds}
 use Rattle.maps.specs.Generators.{listOf}
 use Rattle.maps.specs.Target.{targetForm}
-use Rattle.problems.specs.Problem.{targetForms}
-use Rattle.problems.specs.laws.Loops.{listed-none, listed-next, listed-end}
-use Rattle.problems.proofs.fill_targets.Statement.{statement}
-use Rattle.problems.proofs.fill_targets.Tie as tie
+use Rattle.fills.specs.laws.Filling.{listed-none, listed-next, listed-end}
+use Rattle.fills.proofs.fill_targets.Statement.{statement}
+use Rattle.fills.proofs.fill_targets.Tie as tie
 
 abbrev Inv-loop : tie.InvT-loop
 Inv-loop kind p q r n m u t₀ i₀ t i = (i ≤ u) × (length t ≡ length t₀) × (take i t ++ listOf (targetForm kind p q r n m) i (u - i) ≡ listOf (targetForm kind p q r n m) 0 u)
@@ -52,7 +51,6 @@ same-length : tie.Need-same-length Inv-loop μ-loop
 same-length c = c .before .loop .inv .1
 
 returns : tie.Need-returns Inv-loop μ-loop
-unfolding targetForms
 returns c =
     let a = c .before .before .before .args in
     let l = c .before .loop in

@@ -1,12 +1,12 @@
--- `problems::copy_forms` meets its contract. Assumes nothing.
+-- `fills::copy_forms` meets its contract. Assumes nothing.
 use native.Mathlib.Omega.{arith}
 use mathlib.Core.Path.{_≡_, refl, _∙_}
 use mathlib.Core.List.{_++_}
 use Prim.Native.Nat.{_-_, _≤_}
 use lib.ListN.{length, getD, take, drop, length-set}
-use Rattle.problems.specs.laws.Loops.{copied-next, copied-end}
-use Rattle.problems.proofs.copy_forms.Statement.{statement}
-use Rattle.problems.proofs.copy_forms.Tie as tie
+use Rattle.fills.specs.laws.Filling.{copied-next, copied-end}
+use Rattle.fills.proofs.copy_forms.Statement.{statement}
+use Rattle.fills.proofs.copy_forms.Tie as tie
 
 abbrev Inv-loop : tie.InvT-loop
 Inv-loop xs out₀ i₀ out i = (i ≤ length xs) × (length out ≡ length out₀) × (take i out ++ drop i xs ≡ xs)

@@ -1,13 +1,13 @@
--- `problems::stands_from` meets its contract. Assumes nothing.
+-- `lists::stands_from` meets its contract. Assumes nothing.
 use native.Mathlib.Omega.{arith}
 use mathlib.Core.Path.{_≡_, refl}
 use Prim.Native.Nat.{_-_}
 use lib.ListN.{length, drop}
 use lib.Dec.{eqb}
 use Rattle.linear.specs.Select.{anyOf}
-use Rattle.problems.specs.laws.Loops.{stands-here, stands-later, stands-end}
-use Rattle.problems.proofs.stands_from.Statement.{statement}
-use Rattle.problems.proofs.stands_from.Tie as tie
+use Rattle.lists.specs.laws.Standing.{stands-here, stands-later, stands-end}
+use Rattle.lists.proofs.stands_from.Statement.{statement}
+use Rattle.lists.proofs.stands_from.Tie as tie
 
 abbrev Inv-loop : tie.InvT-loop
 Inv-loop x xs from i₀ i = anyOf (eqb x) (drop i xs) ≡ anyOf (eqb x) (drop from xs)

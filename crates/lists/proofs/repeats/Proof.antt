@@ -1,13 +1,13 @@
--- `problems::repeats` meets its contract. Assumes nothing.
+-- `lists::repeats` meets its contract. Assumes nothing.
 use native.Mathlib.Omega.{arith}
 use borrow.Author.Needs.{needs}
 use mathlib.Core.Path.{_≡_, refl, sym, _∙_}
 use Prim.Native.Nat.{_-_}
 use lib.ListN.{length, drop}
-use Rattle.problems.specs.Problem.{repeats}
-use Rattle.problems.specs.laws.Loops.{repeats-here, repeats-later, repeats-end}
-use Rattle.problems.proofs.repeats.Statement.{statement}
-use Rattle.problems.proofs.repeats.Tie as tie
+use Rattle.lists.specs.Lists.{repeats}
+use Rattle.lists.specs.laws.Standing.{repeats-here, repeats-later, repeats-end}
+use Rattle.lists.proofs.repeats.Statement.{statement}
+use Rattle.lists.proofs.repeats.Tie as tie
 
 abbrev Inv-loop : tie.InvT-loop
 Inv-loop xs i₀ i = repeats (drop i xs) ≡ repeats xs
