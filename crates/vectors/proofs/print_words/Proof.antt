@@ -1,10 +1,10 @@
--- `space_values::print_words`: each word is there. Assumes nothing.
+-- `vectors::print_words`: each word is there. Assumes nothing.
 use Prim.Native.Nat.{_-_}
 use lib.ListN.{length}
 use borrow.Author.Needs.{needs}
 use native.Mathlib.Omega.{arith}
-use Rattle.space_values.proofs.print_words.Statement.{statement}
-use Rattle.space_values.proofs.print_words.Tie as tie
+use Rattle.vectors.proofs.print_words.Statement.{statement}
+use Rattle.vectors.proofs.print_words.Tie as tie
 
 abbrev Inv-loop : tie.InvT-loop
 Inv-loop xs i₀ i = Unit {0}

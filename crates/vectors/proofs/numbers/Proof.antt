@@ -1,11 +1,11 @@
--- `space_values::numbers`: places stay in the buffer. Assumes nothing.
+-- `vectors::numbers`: places stay in the buffer. Assumes nothing.
 use native.Mathlib.Omega.{arith}
 use borrow.Author.Needs.{needs}
 use mathlib.Core.Path.{_≡_, refl, _∙_}
 use Prim.Native.Nat.{_-_, _≤_}
 use lib.ListN.{length}
-use Rattle.space_values.proofs.numbers.Statement.{statement}
-use Rattle.space_values.proofs.numbers.Tie as tie
+use Rattle.vectors.proofs.numbers.Statement.{statement}
+use Rattle.vectors.proofs.numbers.Tie as tie
 
 abbrev Inv-loop : tie.InvT-loop
 Inv-loop text out₀ x₀ at₀ i₀ out x at i = (length out ≡ length out₀) × (at ≤ length out)
