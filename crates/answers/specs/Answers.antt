@@ -19,7 +19,7 @@ use Rattle.problems.specs.Problem.{posed}
 use Rattle.pieces.specs.RefusedText.{refusedText}
 use Rattle.reports.specs.Reports.{catalogueText, rankText, farRankText}
 use Rattle.search.specs.Catalogue.{Catalogued, catalogue}
-use Rattle.search.specs.Rank.{rank}
+use Rattle.ranks.specs.Rank.{rank}
 use Rattle.fewest.specs.Fewest.{Ranking, is, above, beyond}
 
 abbrev pub listingRoom : List ℕ

@@ -128,7 +128,7 @@ fn put_rank(
     ensures { λ e. ⌜ (take e (now (page .exit)) ≡ rankReply kind p q r k (now (gs .entry)) (now (ts .entry))) × (e ≤ 196608) ⌝ }
 {
     let mut formula = [0u64; 4096];
-    let said = search::rank(kinds::number_of(kind), p, q, r, k, gs, ts, &mut formula);
+    let said = ranks::rank(kinds::number_of(kind), p, q, r, k, gs, ts, &mut formula);
     match said {
         Ranked::Refused(e) => refused_page(e, page),
         Ranked::Is(n) => put_formula(kind, p, q, r, k, ell as u64, n, t, &formula, page),

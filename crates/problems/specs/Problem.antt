@@ -2,25 +2,22 @@
 --   Problem                       == the generators' forms and the target forms, each in order
 --   problem gs ts                 == the problem with those
 --   targetForms kd p q r n m u    == the target forms of a map with u outputs, in order
---   repeats xs                    == some form of xs stands in it again
---   unlike c u gs ts              == gs has not c forms, or ts has not u
 --   listed p q r gs ts others     == a list of p bits: refusals 4 to 7, then the forms handed in
 --   mapped kd .. gs ts others     == a map in n and m variables with u outputs: refusals 4 to 6, then its generators and targets
 --   posed number p q r gs ts others == the problem of the kind with that number: refusals 2 to 7, or what it is
--- gs and ts are handed in for list only; `others` are further forms of the same call (the rows of a space, a form asked for).
+-- `repeats` and `unlike`: crate lists. gs and ts are handed in for list only; `others` are further forms of the same call (the rows of a space, a form asked for).
 -- Theorems: posed-few, posed-map, posed-list (Theorems). Assumes nothing.
-use mathlib.Core.Bool.{Bool, false, not, _||_}
-use mathlib.Core.List.{List, [], _∷_}
+use mathlib.Core.Bool.{_||_}
+use mathlib.Core.List.{List}
 use Prim.Native.Nat.{ℕ, _*_}
-use lib.ListN.{length}
-use lib.Dec.{eqb, ltb}
-use Rattle.linear.specs.Select.{anyOf}
+use lib.Dec.{ltb}
 use Rattle.kinds.specs.Kinds.{kindNumbered}
 use Rattle.kinds.specs.Sizes.{sizes}
 use Rattle.kinds.specs.Refusal.{Answer, accepted, need, refuse}
 use Rattle.kinds.specs.declared.Kind.{Kind}
 use Rattle.kinds.specs.declared.Kind.the-variants as kind
 use Rattle.words.specs.Masks.{wide, zeroIn}
+use Rattle.lists.specs.Lists.{repeats, unlike}
 use Rattle.maps.specs.Target.{targetForm}
 use Rattle.maps.specs.Generators.{listOf, generatorForms, countOf}
 
@@ -34,15 +31,6 @@ problem gs ts = record { generators = gs; targets = ts }
 
 unfoldable pub targetForms : Kind → (p q r n m u : ℕ) → List ℕ
 targetForms kd p q r n m u = listOf (targetForm kd p q r n m) 0 u
-
--- refusal 7: "A menu form is zero or repeats an earlier one"
-unfoldable pub repeats : List ℕ → Bool
-repeats [] = false
-repeats (x ∷ xs) = anyOf (eqb x) xs || repeats xs
-
--- refusal 5: "in calls on numbers, a list handed in has the wrong length"
-abbrev pub unlike : (c u : ℕ) (gs ts : List ℕ) → Bool
-unlike c u gs ts = not (eqb (length gs) c) || not (eqb (length ts) u)
 
 -- refusal 4: "has more than 4,095 forms"; refusal 6: "A form, factor or row has a bit outside its width"
 unfoldable pub listed : (p q r : ℕ) (gs ts others : List ℕ) → Answer Problem

@@ -1,16 +1,14 @@
--- Catalogue on numbers, and the look-up of an entry.
+-- Catalogue on numbers.
 --   Catalogued            == ℓ, found, shown, and the buffer's content
 --   listing x k old       == what is said of the problem x for k, in a buffer that holds old
 --   catalogue ..          == refused by a number of document 01's list (2 to 8), or that
 --   seenCatalogue r after == what the code's answer r says, the buffer holding `after`; `catalogueNumbers r`, the refusal's number, ℓ, found and shown
 --   lentCatalogue a old   == the buffer's content at exit
---   lookup ..             == the stretch of a listing that holds the entry with a number
 -- What it means is in `Theorems`. Assumes nothing.
-use mathlib.Core.Bool.{_&&_, cond}
 use mathlib.Core.List.{List, [], _++_}
-use Prim.Native.Nat.{ℕ, _+_, _-_, _*_}
+use Prim.Native.Nat.{ℕ, _+_, _*_}
 use lib.ListN.{length, take, drop}
-use lib.Dec.{ltb, leb}
+use lib.Dec.{ltb}
 use Rattle.kinds.specs.Refusal.{Answer, refused, accepted, refuse, follow}
 use Rattle.problems.specs.Problem.{Problem, posed}
 use Rattle.linear.specs.Basis.{dim}
@@ -61,11 +59,3 @@ catalogueNumbers (reply.Entries l f s) = (0, l, f, s)
 abbrev pub lentCatalogue : Answer Catalogued → List ℕ → List ℕ
 lentCatalogue (refused e) old = old
 lentCatalogue (accepted x) old = x .buffer
-
--- ---- the look-up
--- Document 01: "An entry asked for by its number comes back as that stretch of the listing buffer; a number not below shown, k below ℓ, or a stretch
--- that runs past the buffer brings back an empty one."
-unfoldable pub lookup : (ell k shown number : ℕ) (buffer : List ℕ) → List ℕ
-lookup ell k shown number buffer =
-    let size = (k - ell) + k in
-    cond (ltb number shown && (leb ell k && leb (number * size + size) (length buffer))) (take size (drop (number * size) buffer)) []

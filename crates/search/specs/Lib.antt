@@ -1,5 +1,3 @@
--- Catalogue, its look-up, and Rank, on numbers.
+-- Catalogue on numbers.
 pub mod Catalogue
-pub mod Rank
-pub mod Theorems
 pub mod laws

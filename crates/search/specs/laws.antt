@@ -1,3 +1,2 @@
--- The laws behind Catalogue and Rank.
+-- The laws behind Catalogue.
 pub mod Replies
-pub mod Lookup

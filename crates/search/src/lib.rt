@@ -1,12 +1,9 @@
-// Catalogue, its look-up, and Rank, on numbers.
+// Catalogue on numbers.
 ghost use mathlib.Core.Path.{_≡_};
 ghost use Prim.Native.Nat.{_≤_};
 ghost use lib.ListN.{length};
-ghost use Rattle.search.specs.Catalogue.{catalogue, seenCatalogue, lentCatalogue, lookup, listing};
-ghost use Rattle.search.specs.Rank.{rank};
-ghost use Rattle.fewest.specs.Fewest.{seenRanked, lentRanking};
+ghost use Rattle.search.specs.Catalogue.{catalogue, seenCatalogue, lentCatalogue};
 ghost use Rattle.search.specs.laws.Replies.{Given};
-use fewest::Ranked;
 use problems::Posed;
 
 // What Catalogue says: a refusal's number, or the targets' dimension, how many entries there are and how many are shown.
@@ -47,56 +44,5 @@ pub fn catalogue(
     match problems::pose(number, p, q, r, gs, ts, &gs[..0], &mut g, &mut t) {
         Posed::Refused(e) => Catalogued::Refused(e),
         Posed::Are(n, u) => list_problem(&g[..n], &t[..u], k, out),
-    }
-}
-
-// The record of the entry with a number, out of a listing that shows `shown` entries for `k`; an empty part where there is none.
-pub fn entry(listing: &[u64], ell: u64, k: u64, shown: u64, number: u64) -> &[u64]
-    ensures { λ r. ⌜ now r ≡ lookup ell k shown number (now (listing .entry)) ⌝ }
-{
-    if number >= shown {
-        return &listing[..0];
-    }
-    if k < ell {
-        return &listing[..0];
-    }
-    let room = listing.len() as u64;
-    if k > room {
-        return &listing[..0];
-    }
-    let size = (k - ell) + k;
-    if size == 0 {
-        return &listing[..0];
-    }
-    if number >= room / size {
-        return &listing[..0];
-    }
-    let at = (number * size) as usize;
-    &listing[at..at + size as usize]
-}
-
-// The fewest generators that compute the targets, with the first formula of the first entry in `out`.
-pub fn rank(
-    number: u64,
-    p: u64,
-    q: u64,
-    r: u64,
-    k: u64,
-    gs: &[u64],
-    ts: &[u64],
-    out: &mut [u64],
-) -> Ranked
-    ensures { λ x. ⌜ (rank number p q r k (now (gs .entry)) (now (ts .entry)) (now (out .entry)) ≡ seenRanked x (now (out .exit))) × (now (out .exit) ≡ lentRanking (rank number p q r k (now (gs .entry)) (now (ts .entry)) (now (out .entry))) (now (out .entry))) ⌝ }
-{
-    let mut g = [0u64; 4095];
-    let mut t = [0u64; 64];
-    match problems::pose(number, p, q, r, gs, ts, &gs[..0], &mut g, &mut t) {
-        Posed::Refused(e) => Ranked::Refused(e),
-        Posed::Are(n, u) => {
-            if k != 0 {
-                return Ranked::Refused(8);
-            }
-            fewest::rank_of(&g[..n], &t[..u], out)
-        }
     }
 }

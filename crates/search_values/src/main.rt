@@ -6,90 +6,15 @@ use libc::STDIN_FILENO;
 use libc::STDOUT_FILENO;
 use search::Catalogued;
 
-// x with the decimal digit d behind it, where that is a word.
-fn with_digit(x: u64, d: u64) -> u64
-    requires { ⌜ d ≤ 9 ⌝ }
-{
-    if x > 1844674407370955161 {
-        return 0;
-    }
-    let y = x * 10;
-    if d > 18446744073709551615 - y {
-        return 0;
-    }
-    y + d
-}
-
-// The number read so far, behind the byte b; 0 behind a byte that is no digit.
-fn next_value(b: u8, x: u64) -> u64 {
-    if b < 48 {
-        return 0;
-    }
-    if b > 57 {
-        return 0;
-    }
-    with_digit(x, (b - 48) as u64)
-}
-
-// The place of the next number, among n.
-fn next_place(b: u8, at: usize, n: usize) -> usize
-    requires { ⌜ at ≤ n ⌝ }
-    ensures { λ r. ⌜ r ≤ n ⌝ }
-{
-    if b > 47 {
-        return at;
-    }
-    if at < n { at + 1 } else { at }
-}
-
-// The numbers of a text, each ended by a byte below the digits; how many there are.
-fn numbers(text: &[u8], out: &mut [u64]) -> usize
-    ensures { λ r. ⌜ r ≤ length (now (out .exit)) ⌝ }
-{
-    let mut x: u64 = 0;
-    let mut at: usize = 0;
-    let mut i: usize = 0;
-    while i < text.len() {
-        let b = text[i];
-        words::put_word(out, at, x);
-        at = next_place(b, at, out.len());
-        x = next_value(b, x);
-        i += 1;
-    }
-    at
-}
-
-// A space and a number.
-fn print_next(x: u64) {
-    io::write_all(STDOUT_FILENO, b" ");
-    io::print_decimal(STDOUT_FILENO, x);
-}
-
-// Some numbers, and a colon before them.
-fn print_words(xs: &[u64]) {
-    io::write_all(STDOUT_FILENO, b" :");
-    let mut i: usize = 0;
-    while i < xs.len() {
-        print_next(xs[i]);
-        i += 1;
-    }
-}
-
-// A word, and a number behind it.
-fn print_number(word: &[u8], x: u64) {
-    io::write_all(STDOUT_FILENO, word);
-    print_next(x);
-}
-
 // A listing; the entries that it shows, by their numbers; and what is at the number behind the last.
 fn print_listing(listing: &[u64], ell: u64, k: u64, shown: u64) {
-    print_words(listing);
+    vectors::print_words(listing);
     let mut j: u64 = 0;
     while j < shown {
-        print_words(search::entry(listing, ell, k, shown, j));
+        vectors::print_words(lookup::entry(listing, ell, k, shown, j));
         j += 1;
     }
-    print_words(search::entry(listing, ell, k, shown, shown));
+    vectors::print_words(lookup::entry(listing, ell, k, shown, shown));
 }
 
 // Word i of a buffer holds 1000000 + i before a call.
@@ -105,13 +30,13 @@ fn mark(out: &mut [u64]) {
 fn print_catalogued(said: Catalogued, k: u64, out: &[u64]) {
     match said {
         Catalogued::Refused(e) => {
-            print_number(b"refused", e);
-            print_words(out);
+            vectors::print_number(b"refused", e);
+            vectors::print_words(out);
         }
         Catalogued::Entries(ell, found, shown) => {
-            print_number(b"entries", ell as u64);
-            print_next(found);
-            print_next(shown as u64);
+            vectors::print_number(b"entries", ell as u64);
+            vectors::print_next(found);
+            vectors::print_next(shown as u64);
             print_listing(out, ell as u64, k, shown as u64);
         }
     }
@@ -120,8 +45,8 @@ fn print_catalogued(said: Catalogued, k: u64, out: &[u64]) {
 // What Rank says.
 fn print_ranked(said: Ranked) {
     match said {
-        Ranked::Refused(e) => print_number(b"refused", e),
-        Ranked::Is(r) => print_number(b"rank", r as u64),
+        Ranked::Refused(e) => vectors::print_number(b"refused", e),
+        Ranked::Is(r) => vectors::print_number(b"rank", r as u64),
         Ranked::Above => {
             io::write_all(STDOUT_FILENO, b"above");
         }
@@ -148,9 +73,9 @@ fn call_catalogue(
 
 // Rank.
 fn call_rank(number: u64, p: u64, q: u64, r: u64, k: u64, gs: &[u64], ts: &[u64], out: &mut [u64]) {
-    let said = search::rank(number, p, q, r, k, gs, ts, out);
+    let said = ranks::rank(number, p, q, r, k, gs, ts, out);
     print_ranked(said);
-    print_words(out);
+    vectors::print_words(out);
 }
 
 // One call: 0 for Catalogue, 1 for Rank; else the look-up of an entry, with ell, k, shown and its number for the kind's number and the sizes.
@@ -174,7 +99,7 @@ fn call_on(
         call_rank(number, p, q, r, k, gs, ts, out);
         return;
     }
-    print_words(search::entry(out, number, p, q, r));
+    vectors::print_words(lookup::entry(out, number, p, q, r));
 }
 
 // The call that some words start with, in a buffer of as many words as it asks for, of 64 at most.
@@ -234,6 +159,6 @@ fn main() {
     let mut text = [0u8; 65536];
     let n = io::read_full(STDIN_FILENO, &mut text);
     let mut found = [0u64; 32768];
-    let c = numbers(&text[..n], &mut found);
+    let c = vectors::numbers(&text[..n], &mut found);
     call_all(&found[..c]);
 }

@@ -15,7 +15,8 @@ use Prim.Native.Nat.{ℕ}
 use lib.ListN.{length}
 use lib.Dec.{eqb, ltb}
 use Rattle.kinds.specs.Refusal.{Answer, refused, accepted, refuse, follow}
-use Rattle.problems.specs.Problem.{Problem, posed, repeats}
+use Rattle.problems.specs.Problem.{Problem, posed}
+use Rattle.lists.specs.Lists.{repeats}
 use Rattle.linear.specs.Basis.{basisOf}
 use Rattle.linear.specs.Select.{anyOf, only}
 use Rattle.linear.specs.Entry.{inside, chosen}

@@ -13,7 +13,8 @@ use lib.Dec.{eqb, ltb}
 use borrow.Author.Tests.{eqb-true, ltb-true}
 use Rattle.kinds.specs.Refusal.{accepted, refuse}
 use Rattle.kinds.specs.RefusalLaws.{accepted-inj, follow-inv, refuse-inv}
-use Rattle.problems.specs.Problem.{Problem, posed, repeats}
+use Rattle.problems.specs.Problem.{Problem, posed}
+use Rattle.lists.specs.Lists.{repeats}
 use Rattle.linear.specs.Span.{Span}
 use Rattle.linear.specs.Basis.{basisOf}
 use Rattle.linear.specs.Select.{anyOf}

@@ -41,7 +41,7 @@ fn misfits(sel: &[u64], n: usize) -> bool
     if any_outside(sel, n) {
         return true;
     }
-    problems::repeats(sel)
+    lists::repeats(sel)
 }
 
 // The span of the selected generators but the one with the number `skip`.
@@ -91,7 +91,7 @@ fn say_redundant(gens: &[u64], targets: &[u64], sel: &[u64], j: u64) -> Said
     if choice::misses(span_without(gens, sel, n as u64), targets) {
         return Said::Refused(11);
     }
-    if !problems::stands_from(j, sel, 0) {
+    if !lists::stands_from(j, sel, 0) {
         return Said::Refused(11);
     }
     if choice::misses(span_without(gens, sel, j), targets) {

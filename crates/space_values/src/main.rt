@@ -6,94 +6,19 @@ use libc::STDOUT_FILENO;
 use selections::Said;
 use spaces::Listed;
 
-// x with the decimal digit d behind it, where that is a word.
-fn with_digit(x: u64, d: u64) -> u64
-    requires { ⌜ d ≤ 9 ⌝ }
-{
-    if x > 1844674407370955161 {
-        return 0;
-    }
-    let y = x * 10;
-    if d > 18446744073709551615 - y {
-        return 0;
-    }
-    y + d
-}
-
-// The number read so far, behind the byte b; 0 behind a byte that is no digit.
-fn next_value(b: u8, x: u64) -> u64 {
-    if b < 48 {
-        return 0;
-    }
-    if b > 57 {
-        return 0;
-    }
-    with_digit(x, (b - 48) as u64)
-}
-
-// The place of the next number, among n.
-fn next_place(b: u8, at: usize, n: usize) -> usize
-    requires { ⌜ at ≤ n ⌝ }
-    ensures { λ r. ⌜ r ≤ n ⌝ }
-{
-    if b > 47 {
-        return at;
-    }
-    if at < n { at + 1 } else { at }
-}
-
-// The numbers of a text, each ended by a byte below the digits; how many there are.
-fn numbers(text: &[u8], out: &mut [u64]) -> usize
-    ensures { λ r. ⌜ r ≤ length (now (out .exit)) ⌝ }
-{
-    let mut x: u64 = 0;
-    let mut at: usize = 0;
-    let mut i: usize = 0;
-    while i < text.len() {
-        let b = text[i];
-        words::put_word(out, at, x);
-        at = next_place(b, at, out.len());
-        x = next_value(b, x);
-        i += 1;
-    }
-    at
-}
-
-// A space and a number.
-fn print_next(x: u64) {
-    io::write_all(STDOUT_FILENO, b" ");
-    io::print_decimal(STDOUT_FILENO, x);
-}
-
-// Some numbers, and a colon before them.
-fn print_words(xs: &[u64]) {
-    io::write_all(STDOUT_FILENO, b" :");
-    let mut i: usize = 0;
-    while i < xs.len() {
-        print_next(xs[i]);
-        i += 1;
-    }
-}
-
-// A word, and a number behind it.
-fn print_number(word: &[u8], x: u64) {
-    io::write_all(STDOUT_FILENO, word);
-    print_next(x);
-}
-
 // What is said of a space's formulae.
 fn print_listed(said: Listed) {
     match said {
-        Listed::Refused(e) => print_number(b"refused", e),
-        Listed::All(n) => print_number(b"all", n as u64),
-        Listed::More(n) => print_number(b"more", n as u64),
+        Listed::Refused(e) => vectors::print_number(b"refused", e),
+        Listed::All(n) => vectors::print_number(b"all", n as u64),
+        Listed::More(n) => vectors::print_number(b"more", n as u64),
     }
 }
 
 // What is said of a selection.
 fn print_said(said: Said) {
     match said {
-        Said::Refused(e) => print_number(b"refused", e),
+        Said::Refused(e) => vectors::print_number(b"refused", e),
         Said::Yes => {
             io::write_all(STDOUT_FILENO, b"yes");
         }
@@ -117,10 +42,10 @@ fn digest(xs: &[u64]) -> u64 {
 // A buffer: its words where they are few, else its digest.
 fn print_buffer(out: &[u64]) {
     if out.len() > 64 {
-        print_next(digest(out));
+        vectors::print_next(digest(out));
         return;
     }
-    print_words(out);
+    vectors::print_words(out);
 }
 
 // The formulae of a space, in a lent buffer.
@@ -217,6 +142,6 @@ fn main() {
     let mut text = [0u8; 131072];
     let n = io::read_full(STDIN_FILENO, &mut text);
     let mut found = [0u64; 65536];
-    let c = numbers(&text[..n], &mut found);
+    let c = vectors::numbers(&text[..n], &mut found);
     call_all(&found[..c]);
 }

@@ -24,13 +24,14 @@ use Rattle.products.specs.Product.{formOf, productForm}
 use Rattle.forms.specs.Weight.{weight}
 use Rattle.maps.specs.Target.{pair, targetForm}
 use Rattle.maps.specs.Generators.{generatorCount, firstMask, secondMask, generatorForm, listOf, generatorForms, countOf}
-use Rattle.problems.specs.Problem.{targetForms, repeats, listed, mapped, posed}
+use Rattle.lists.specs.Lists.{repeats}
+use Rattle.problems.specs.Problem.{targetForms, listed, mapped, posed}
 use Rattle.rows.specs.Rows.{rowOf}
 use Rattle.choice.specs.Choice.{formulaRecord}
 use Rattle.listing.specs.Listing.{records, flat, fitting}
 use Rattle.fewest.specs.Fewest.{Ranking, is, above, beyond, ranking}
 use Rattle.search.specs.Catalogue.{Catalogued, listing, catalogue}
-use Rattle.search.specs.Rank.{rank}
+use Rattle.ranks.specs.Rank.{rank}
 use Rattle.spaces.specs.Spaces as space
 use Rattle.spaces.specs.Spaces.{isEntry, formulaeOf}
 use Rattle.formula.specs.Formula.{firstWrong, lengths, judged, check}

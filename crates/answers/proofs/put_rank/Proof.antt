@@ -10,7 +10,7 @@ use Rattle.answers.proofs.put_formula.Reads as put-formula-reads
 use Rattle.answers.proofs.refused_page.Reads as refused-page-reads
 use Rattle.kinds.proofs.number_of.Reads as number-of-reads
 use Rattle.reports.proofs.far_rank_text.Reads as far-rank-text-reads
-use Rattle.search.proofs.rank.Reads as rank-reads
+use Rattle.ranks.proofs.rank.Reads as rank-reads
 
 number-of-requires : tie.Need-number-of-requires
 number-of-requires c κs = search needs

@@ -32,7 +32,7 @@ use Rattle.problems.specs.declared.Posed.the-variants as answer
 use Rattle.fewest.specs.Fewest.{is, above, beyond, written, ranking, seenRanked}
 use Rattle.fewest.specs.declared.Ranked.{Ranked}
 use Rattle.fewest.specs.declared.Ranked.the-variants as ranked
-use Rattle.search.specs.Rank.{rank}
+use Rattle.ranks.specs.Rank.{rank}
 use Rattle.pieces.specs.Piece.{Piece}
 use Rattle.pieces.specs.laws.Pieces.{whole}
 use Rattle.pieces.specs.RefusedText.{refusedText}

@@ -33,7 +33,8 @@ use Rattle.linear.specs.laws.Order.{mem-map}
 use Rattle.listing.specs.Listing.{records, recordLength, flat, fitting}
 use Rattle.listing.specs.laws.Listing.{record-length}
 use Rattle.maps.specs.Generators.{listOf, generatorForm, generatorForms, generator-below, countOf, generatorCount}
-use Rattle.problems.specs.Problem.{Problem, problem, targetForms, repeats, unlike, listed, mapped, sorted, posed}
+use Rattle.lists.specs.Lists.{repeats, unlike}
+use Rattle.problems.specs.Problem.{Problem, problem, targetForms, listed, mapped, sorted, posed}
 use Rattle.problems.specs.laws.Taken.{listed-taken, mapped-taken, posed-kind}
 use Rattle.search.specs.Catalogue.{Catalogued, catalogue}
 use Rattle.search.specs.Catalogue as search

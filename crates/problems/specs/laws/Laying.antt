@@ -22,12 +22,14 @@ use Rattle.kinds.specs.SizeLaws.{given-some, sizes-bounds}
 use Rattle.kinds.specs.Refusal.{Answer, refused, accepted, need}
 use Rattle.kinds.specs.declared.Kind.{Kind}
 use Rattle.kinds.specs.declared.Kind.the-variants as kind
-use Rattle.maps.specs.Generators.{generatorForms, countOf}
+use Rattle.lists.specs.Lists.{listRefusal, mapRefusal}
+use Rattle.maps.specs.Target.{targetForm}
+use Rattle.maps.specs.Generators.{listOf, generatorForms, countOf}
 use Rattle.problems.specs.Problem.{Problem, problem, targetForms, listed, mapped, sorted, posed}
 use Rattle.problems.specs.declared.Posed.{Posed}
 use Rattle.problems.specs.declared.Posed.the-variants as reply
-use Rattle.problems.specs.Replies.{refusedBy, seenPosed, Barred, Fits, Laid, Room}
-use Rattle.problems.specs.laws.Refusals.{by-some, by-none, mapped-4, mapped-counted, counted}
+use Rattle.problems.specs.Replies.{refusedBy, seenPosed, Fits, Laid, Room}
+use Rattle.problems.specs.laws.Refusals.{listed-by, mapped-by, by-some, by-none, mapped-4, mapped-counted, counted}
 use Rattle.problems.specs.laws.Taken.{listed-taken}
 
 module _ (kd : Kind) (p q r n m u : ℕ) (gs ts others g t : List ℕ) where
@@ -37,15 +39,16 @@ module _ (kd : Kind) (p q r n m u : ℕ) (gs ts others g t : List ℕ) where
   pub mapped-4-laid : countOf n m ≡ none → Laid (mapped kd p q r n m u gs ts others) (reply.Refused 4) g t
   mapped-4-laid e = record { answer = mapped-4 kd p q r n m u gs ts others e; room = tt }
 
-  module _ (c e : ℕ) (C : countOf n m ≡ some c) (B : Barred (n * m) gs ts others e) where
+  module _ (c e : ℕ) (C : countOf n m ≡ some c) (B : mapRefusal (n * m) gs ts others ≡ e) where
     by : mapped kd p q r n m u gs ts others ≡ refusedBy e made
-    by = mapped-counted kd p q r n m u gs ts others c C ∙ B .by made
+    by = mapped-counted kd p q r n m u gs ts others c C ∙ mapped-by (n * m) gs ts others made e B
 
     pub mapped-by-laid : (e ≡ 0 → ⊥) → Laid (mapped kd p q r n m u gs ts others) (reply.Refused e) g t
     mapped-by-laid d = record { answer = by ∙ by-some e made d; room = tt }
 
-    pub mapped-laid : e ≡ 0 → sizes kd p q r ≡ some (n, m, u) → take c g ≡ generatorForms n m → take u t ≡ targetForms kd p q r n m u
+    pub mapped-laid : e ≡ 0 → sizes kd p q r ≡ some (n, m, u) → take c g ≡ generatorForms n m → take u t ≡ listOf (targetForm kd p q r n m) 0 u
         → Laid (mapped kd p q r n m u gs ts others) (reply.Are c u) g t
+    unfolding targetForms
     mapped-laid d s G T =
         let b = sizes-bounds kd p q r (n, m, u) s in
         record {
@@ -53,9 +56,12 @@ module _ (kd : Kind) (p q r n m u : ℕ) (gs ts others g t : List ℕ) where
           room = record { generators = counted n m c C .1; some-target = b .some-output; targets = b .most-outputs };
         }
 
-module _ (p q r : ℕ) (gs ts others : List ℕ) (e : ℕ) (E : listed p q r gs ts others ≡ refusedBy e (problem gs ts)) where
+module _ (p q r : ℕ) (gs ts others : List ℕ) (e : ℕ) (R : listRefusal p q r gs ts others ≡ e) where
+  by-number : listed p q r gs ts others ≡ refusedBy e (problem gs ts)
+  by-number = listed-by p q r gs ts others e R
+
   pub listed-by-laid : (g t : List ℕ) → (e ≡ 0 → ⊥) → Laid (listed p q r gs ts others) (reply.Refused e) g t
-  listed-by-laid g t d = record { answer = E ∙ by-some e (problem gs ts) d; room = tt }
+  listed-by-laid g t d = record { answer = by-number ∙ by-some e (problem gs ts) d; room = tt }
 
   -- the forms of a list that is taken have room in the buffers
   pub record Few : Type 0 where
@@ -64,7 +70,7 @@ module _ (p q r : ℕ) (gs ts others : List ℕ) (e : ℕ) (E : listed p q r gs 
 
   pub listed-few : e ≡ 0 → Few
   listed-few d =
-      let T = listed-taken p q r gs ts others (problem gs ts) (E ∙ by-none e (problem gs ts) d) in
+      let T = listed-taken p q r gs ts others (problem gs ts) (by-number ∙ by-none e (problem gs ts) d) in
       let a = T .few in
       let b = T .generators in
       record { generators = omega arith; targets = T .targets }
@@ -75,7 +81,7 @@ module _ (p q r : ℕ) (gs ts others : List ℕ) (e : ℕ) (E : listed p q r gs 
       let F = listed-few d in
       let f = F .targets in
       record {
-        answer = E ∙ by-none e (problem gs ts) d ∙ ap₂ (λ (x y : List ℕ). accepted (problem x y)) (sym G) (sym T);
+        answer = by-number ∙ by-none e (problem gs ts) d ∙ ap₂ (λ (x y : List ℕ). accepted (problem x y)) (sym G) (sym T);
         room = record { generators = F .generators; some-target = omega arith; targets = omega arith };
       }
 

@@ -1,16 +1,15 @@
 -- The steps of the reading, one after the other, in the definitions' terms.
---   barred-as, listed-as     the refusals by what the tests say
+--   listed-by, mapped-by     the refusals by their number
 --   by-some, by-none         a refusal's number that is not 0, and 0
 --   mapped-4, mapped-counted a map with too many generators, and with at most 4,095
 -- Assumes nothing.
 use mathlib.Core.Path.{_≡_, refl, sym, ap, _∙_}
-use mathlib.Core.Bool.{Bool, not, _||_}
+use mathlib.Core.Bool.{Bool, true, false, _||_, cond}
 use mathlib.Core.List.{List}
 use mathlib.Core.Option.{Option, none, some}
 use Prim.Native.Nat.{ℕ, zero, suc, _*_, _≤_}
 use native.Mathlib.Omega.{arith}
-use lib.ListN.{length}
-use lib.Dec.{eqb, ltb, leb}
+use lib.Dec.{ltb, leb}
 use borrow.Author.Tests.{leb-true}
 use Rattle.kinds.specs.Kinds.{kindNumbered}
 use Rattle.kinds.specs.Sizes.{sizes, given}
@@ -18,19 +17,31 @@ use Rattle.kinds.specs.SizeLaws.{given-some}
 use Rattle.kinds.specs.Refusal.{Answer, refused, accepted, need, refuse}
 use Rattle.kinds.specs.declared.Kind.{Kind}
 use Rattle.words.specs.Masks.{wide, zeroIn}
+use Rattle.lists.specs.Lists.{repeats, unlike, listRefusal, mapRefusal}
 use Rattle.maps.specs.Generators.{generatorForms, generatorCount, countOf}
-use Rattle.problems.specs.Problem.{Problem, problem, targetForms, repeats, unlike, listed, mapped, sorted, posed}
-use Rattle.problems.specs.Replies.{refusedBy, Barred}
+use Rattle.problems.specs.Problem.{Problem, problem, targetForms, listed, mapped}
+use Rattle.problems.specs.Replies.{refusedBy}
 
-pub barred-as : (w : ℕ) (gs ts others : List ℕ) (g t o : Bool) → eqb (length gs) 0 ≡ g → eqb (length ts) 0 ≡ t → wide w others ≡ o → (P : Problem)
-    → refuse 5 (unlike 0 0 gs ts) (refuse 6 (wide w others) (accepted P)) ≡ refuse 5 (not g || not t) (refuse 6 o (accepted P))
-barred-as w gs ts others g t o a b c P = rw (a, b, c)
+module _ (p q r : ℕ) (gs ts others : List ℕ) where
+  pub listed-by : (e : ℕ) → listRefusal p q r gs ts others ≡ e → listed p q r gs ts others ≡ refusedBy e (problem gs ts)
+  unfolding listed listRefusal
+  listed-by e h = go (ltb 4095 q) (unlike q r gs ts) (wide p gs || (wide p ts || wide p others)) (zeroIn gs || repeats gs) ∙ ap (λ (n : ℕ). refusedBy n (problem gs ts)) h
+    where
+      go : (a b c d : Bool) → refuse 4 a (refuse 5 b (refuse 6 c (refuse 7 d (accepted (problem gs ts))))) ≡ refusedBy (cond a 4 (cond b 5 (cond c 6 (cond d 7 0)))) (problem gs ts)
+      go true b c d = refl
+      go false true c d = refl
+      go false false true d = refl
+      go false false false true = refl
+      go false false false false = refl
 
-pub listed-as : (p q r : ℕ) (gs ts others : List ℕ) (big lg lt wg wt wo z d : Bool)
-    → ltb 4095 q ≡ big → eqb (length gs) q ≡ lg → eqb (length ts) r ≡ lt → wide p gs ≡ wg → wide p ts ≡ wt → wide p others ≡ wo → zeroIn gs ≡ z → repeats gs ≡ d
-    → listed p q r gs ts others ≡ refuse 4 big (refuse 5 (not lg || not lt) (refuse 6 (wg || (wt || wo)) (refuse 7 (z || d) (accepted (problem gs ts)))))
-unfolding listed
-listed-as p q r gs ts others big lg lt wg wt wo z d a b c e f g h i = rw (a, b, c, e, f, g, h, i)
+pub mapped-by : (w : ℕ) (gs ts others : List ℕ) (P : Problem) (e : ℕ) → mapRefusal w gs ts others ≡ e → refuse 5 (unlike 0 0 gs ts) (refuse 6 (wide w others) (accepted P)) ≡ refusedBy e P
+unfolding mapRefusal
+mapped-by w gs ts others P e h = go (unlike 0 0 gs ts) (wide w others) ∙ ap (λ (n : ℕ). refusedBy n P) h
+  where
+    go : (a b : Bool) → refuse 5 a (refuse 6 b (accepted P)) ≡ refusedBy (cond a 5 (cond b 6 0)) P
+    go true b = refl
+    go false true = refl
+    go false false = refl
 
 pub by-some : {A : Type 0} (e : ℕ) (a : A) → (e ≡ 0 → ⊥) → refusedBy e a ≡ refused e
 by-some zero a d = absurd (d refl)

@@ -1,15 +1,15 @@
--- What the steps of Catalogue and Rank say, and that together they say what is defined.
+-- What the steps of Catalogue say, and that together they say what is defined.
 --   Given gens targets k old r after == refusal 8, or the listing of the problem
---   Answered, Replied                == the two equations of a public call: the answer, and the buffer at exit
+--   Replied                          == the two equations of a public call: the answer, and the buffer at exit
 -- Assumes nothing.
 use mathlib.Core.Path.{_≡_, sym, ap, _∙_, subst}
-use mathlib.Core.Bool.{Bool, not}
+use mathlib.Core.Bool.{Bool}
 use mathlib.Core.List.{List, [], _++_}
 use Prim.Native.Nat.{ℕ, _+_, _-_, _*_, _<_, _≤_}
 use native.Mathlib.Omega.{arith}
 use lib.ListN.{length, take, drop, length-take}
-use lib.Dec.{ltb, eqb}
-use borrow.Author.Tests.{lt-ltb, le-ltb, eq-eqb, ne-eqb}
+use lib.Dec.{ltb}
+use borrow.Author.Tests.{lt-ltb, le-ltb}
 use Rattle.kinds.specs.Refusal.{Answer, refused, accepted, refuse, follow}
 use Rattle.problems.specs.Problem.{Problem, problem, posed}
 use Rattle.problems.specs.declared.Posed.{Posed}
@@ -21,12 +21,9 @@ use Rattle.linear.specs.Word.{word}
 use Rattle.listing.specs.declared.Listing.{Listing}
 use Rattle.listing.specs.Listing.{records, recordLength, flat, fitting, Listed}
 use Rattle.listing.specs.laws.Listing.{found-all}
-use Rattle.fewest.specs.Fewest.{Ranking, ranking, seenRanked, lentRanking}
-use Rattle.fewest.specs.declared.Ranked.{Ranked}
 use Rattle.search.specs.declared.Catalogued.{Catalogued as Reply}
 use Rattle.search.specs.declared.Catalogued.the-variants as reply
 use Rattle.search.specs.Catalogue.{Catalogued, listing, catalogue, seenCatalogue, lentCatalogue}
-use Rattle.search.specs.Rank.{rank}
 
 -- ---- Catalogue of a problem that is made
 abbrev pub judged : Problem → ℕ → List ℕ → Answer Catalogued
@@ -76,14 +73,6 @@ module _ (number p q r k : ℕ) (gs ts old : List ℕ) (g t : List ℕ) (x : Pos
   unfolding catalogue
   catalogue-made c u q = ap (λ (a : Answer Problem). follow a (λ x. judged x k old)) (L .answer ∙ ap (seenPosed g t) q)
 
-  pub rank-refused : (e : ℕ) → x ≡ answer.Refused e → rank number p q r k gs ts old ≡ refused e
-  unfolding rank
-  rank-refused e q = ap (λ (a : Answer Problem). follow a (λ x. refuse 8 (not (eqb k 0)) (ranking (x .generators) (x .targets) old))) (L .answer ∙ ap (seenPosed g t) q)
-
-  pub rank-made : (c u : ℕ) → x ≡ answer.Are c u → rank number p q r k gs ts old ≡ refuse 8 (not (eqb k 0)) (ranking (take c g) (take u t) old)
-  unfolding rank
-  rank-made c u q = ap (λ (a : Answer Problem). follow a (λ x. refuse 8 (not (eqb k 0)) (ranking (x .generators) (x .targets) old))) (L .answer ∙ ap (seenPosed g t) q)
-
   pub made-room : (c u : ℕ) → x ≡ answer.Are c u → Room c u
   made-room c u q = subst Fits q (L .room)
 
@@ -97,21 +86,6 @@ replied-refused a old e q = (q, sym (ap (λ (b : Answer Catalogued). lentCatalog
 pub replied-given : (a : Answer Catalogued) (gens targets : List ℕ) (k : ℕ) (old : List ℕ) (x : Reply) (after : List ℕ) → a ≡ judged (problem gens targets) k old → Given gens targets k old x after
     → Replied a old x after
 replied-given a gens targets k old x after q G = (q ∙ G .answer, G .lent ∙ sym (ap (λ (b : Answer Catalogued). lentCatalogue b old) q))
-
-abbrev pub Ranks : Answer Ranking → List ℕ → Ranked → List ℕ → Type 0
-Ranks a old x after = (a ≡ seenRanked x after) × (after ≡ lentRanking a old)
-
-pub ranks-refused : (a : Answer Ranking) (old : List ℕ) (e : ℕ) → a ≡ refused e → (a ≡ refused e) × (old ≡ lentRanking a old)
-ranks-refused a old e q = (q, sym (ap (λ (b : Answer Ranking). lentRanking b old) q))
-
-pub rank-far : (a b : Answer Ranking) (k : ℕ) → a ≡ refuse 8 (not (eqb k 0)) b → (k ≡ 0 → ⊥) → a ≡ refused 8
-rank-far a b k q n = q ∙ ap (λ (t : Bool). refuse 8 (not t) b) (ne-eqb k 0 n)
-
-pub ranks-made : (a b : Answer Ranking) (k : ℕ) (old : List ℕ) (x : Ranked) (after : List ℕ) → a ≡ refuse 8 (not (eqb k 0)) b → k ≡ 0 → (b ≡ seenRanked x after) × (after ≡ lentRanking b old)
-    → (a ≡ seenRanked x after) × (after ≡ lentRanking a old)
-ranks-made a b k old x after q z R =
-    let e : a ≡ b = q ∙ ap (λ (t : Bool). refuse 8 (not t) b) (eq-eqb k 0 z) in
-    (e ∙ R .0, R .1 ∙ sym (ap (λ (c : Answer Ranking). lentRanking c old) e))
 
 pub part-few : (n : ℕ) (l : List ℕ) → n ≤ 4095 → length (take n l) ≤ 4095
 part-few n l h = omega (arith, length-take n l, h)

@@ -19,7 +19,7 @@ use Rattle.linear.specs.Word.{word}
 use Rattle.linear.specs.laws.Order.{mem-getD}
 use Rattle.bases.specs.declared.Basis.{Basis}
 use Rattle.bases.specs.Basis.{rowsOf, Valid, Holds}
-use Rattle.problems.specs.Problem.{repeats}
+use Rattle.lists.specs.Lists.{repeats}
 use Rattle.selections.specs.Selections.{misfit, without}
 use Rattle.selections.specs.Theorems.{fits}
 

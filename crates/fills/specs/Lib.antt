@@ -1,0 +1,3 @@
+-- Forms written to a lent buffer.
+pub mod Fills
+pub mod laws

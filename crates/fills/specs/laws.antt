@@ -1,0 +1,2 @@
+-- The laws behind forms written to a lent buffer.
+pub mod Filling

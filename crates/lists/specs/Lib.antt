@@ -1,0 +1,3 @@
+-- Lists of forms handed in.
+pub mod Lists
+pub mod laws

@@ -1,0 +1,2 @@
+-- The laws behind the look-up.
+pub mod Lookup

@@ -1,0 +1,3 @@
+-- Rank on numbers.
+pub mod Rank
+pub mod laws

@@ -1,0 +1,2 @@
+-- The laws behind Rank.
+pub mod Replies
