@@ -1,7 +1,6 @@
 -- `buckets::bucket` meets its contract: it is the definition's formula, and no step of it wraps. Assumes nothing.
 use mathlib.Core.Path.{refl}
 use borrow.Author.Needs.{needs}
-use native.Mathlib.Nat.{mod-lt, zero-lt-suc}
 use native.Mathlib.Omega.{arith}
 use Rattle.buckets.specs.Bucket.{bucketOf}
 use Rattle.buckets.proofs.bucket.Statement.{statement}

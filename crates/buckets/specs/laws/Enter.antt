@@ -6,7 +6,7 @@
 -- Assumes nothing.
 use mathlib.Core.Path.{_≡_, refl, sym, ap, ap₂, _∙_, subst}
 use mathlib.Core.Logic.{_≢_}
-use mathlib.Core.List.{List, [], _∷_, _++_}
+use mathlib.Core.List.{List, _∷_, _++_}
 use Prim.Native.Nat.{ℕ, zero, suc, _+_, _-_, _<_, _≤_}
 use native.Mathlib.Omega.{arith}
 use native.Mathlib.Decide.{ℕ-discrete}
@@ -18,7 +18,7 @@ use Rattle.linear.specs.Word.{word}
 use Rattle.linear.specs.laws.Span.{cast, span-weak, span-head, span-cons, span-uncons, span-rest}
 use Rattle.residues.specs.laws.Known.{known-zero, known-found}
 use Rattle.buckets.specs.Bucket.{bucketOf, stretch, Growing, Grown}
-use Rattle.buckets.specs.Table.{bucketRows, Sound, Cover, Sizes, Entering, Entered}
+use Rattle.buckets.specs.Table.{bucketRows, Sound, Cover, Entering, Entered}
 
 -- an index is the one that was set, or another
 either : {P : Type 0} (b c : ℕ) → (c ≡ b → P) → (c ≢ b → P) → P

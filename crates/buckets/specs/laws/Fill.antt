@@ -4,7 +4,7 @@
 --   filling-entering                           the next one may be entered
 --   cover-bounded                              the ranks of a full table are bounds
 -- Assumes nothing.
-use mathlib.Core.Path.{_≡_, refl, sym, ap, ap₂, _∙_, subst}
+use mathlib.Core.Path.{_≡_, refl, sym, ap, _∙_, subst}
 use mathlib.Core.Logic.{_≢_, _⊎_, inl, inr, ⊎-elim}
 use mathlib.Core.Bool.{Bool, true, false, cond}
 use mathlib.Core.List.{List, [], _∷_, _++_, List·Memᴰ, List·Memᴰ·head, List·Memᴰ·tail, List·Memᴰ·not-nil, List·Memᴰ·append-cases, Memᴰ·append-right}
@@ -12,7 +12,7 @@ use Prim.Native.Nat.{ℕ, zero, suc, _+_, _*_, _^_, _<_, _≤_}
 use native.Mathlib.Omega.{arith}
 use native.Mathlib.Decide.{decLt, ℕ-discrete}
 use lib.Dec.{eqb}
-use lib.ListN.{length, getD, set, take, drop, replicate, length-set, length-take, length-drop, getD-replicate, length-replicate, List·getD-eq-default}
+use lib.ListN.{length, getD, set, drop, replicate, length-set, length-take, length-drop, getD-replicate, length-replicate, List·getD-eq-default}
 use lib.Seq.{getD-drop, getD-set-same, getD-set-other}
 use borrow.Author.Tests.{eqb-true}
 use Rattle.linear.specs.Basis.{inserts, basisOf, Reduced}
@@ -21,10 +21,10 @@ use Rattle.linear.specs.Span.{Span}
 use Rattle.linear.specs.Word.{word}
 use Rattle.linear.specs.laws.Dimension.{sub-length, inserts-le}
 use Rattle.linear.specs.laws.Insert.{inserts-reduced, inserts-span, basisOf-reduced}
-use Rattle.linear.specs.laws.Span.{span-bind, span-mem, span-mono}
+use Rattle.linear.specs.laws.Span.{span-bind, span-mem}
 use Rattle.linear.specs.laws.Word.{Below, at-most, inserts-below, basisOf-below}
 use Rattle.residues.specs.Residues.{known, withResidue}
-use Rattle.buckets.specs.Bucket.{bucketOf, stretch}
+use Rattle.buckets.specs.Bucket.{bucketOf}
 use Rattle.residues.specs.Filter.{Bounded}
 use Rattle.buckets.specs.Table.{bucketRows, Sound, Cover, Sizes, Entering, Entered, Filled}
 

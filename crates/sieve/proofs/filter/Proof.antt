@@ -1,8 +1,6 @@
 -- `sieve::filter` meets its contract: the table's ranks are bounds, and what they rule out is barren. Assumes nothing.
 use mathlib.Core.Path.{_≡_, refl, sym, _∙_}
 use Prim.Native.Nat.{ℕ}
-use borrow.Author.Needs.{needs}
-use native.Mathlib.Omega.{arith}
 use lib.ListN.{length, replicate, length-replicate}
 use Rattle.sieve.specs.laws.Settle.{pairs-one, marking-of, small-of, kept-by}
 use Rattle.sieve.proofs.filter.Statement.{statement}

@@ -1,7 +1,5 @@
 -- `sieve::judge` meets its contract. Assumes nothing.
 use mathlib.Core.Path.{sym, _∙_}
-use borrow.Author.Needs.{needs}
-use native.Mathlib.Omega.{arith}
 use Rattle.sieve.specs.laws.Marks.{judged-known, judged-worth}
 use Rattle.sieve.proofs.judge.Statement.{statement}
 use Rattle.sieve.proofs.judge.Tie as tie

@@ -1,10 +1,8 @@
 -- `sieve::sieve` meets its contract: the filter keeps, then the marks are settled. Assumes nothing.
-use mathlib.Core.Path.{_≡_, sym, _∙_, subst}
+use mathlib.Core.Path.{sym, _∙_, subst}
 use Prim.Native.Nat.{ℕ}
 use borrow.Author.Needs.{needs}
-use native.Mathlib.Omega.{arith}
-use lib.ListN.{length}
-use Rattle.bases.specs.Basis.{rowsOf, rows-length}
+use Rattle.bases.specs.Basis.{rows-length}
 use Rattle.residues.specs.Residues.{withResidue}
 use Rattle.residues.specs.laws.Held.{from-empty}
 use Rattle.sieve.specs.Sieve.{Sieved}

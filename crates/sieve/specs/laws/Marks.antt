@@ -7,11 +7,9 @@ use mathlib.Core.Path.{_≡_, refl, sym, ap, ap₂, _∙_, subst}
 use mathlib.Core.Logic.{_≢_, inl, inr}
 use mathlib.Core.Bool.{true, false}
 use mathlib.Core.List.{List, [], _∷_}
-use Prim.Native.Nat.{ℕ, _+_, _<_, _≤_}
+use Prim.Native.Nat.{ℕ}
 use native.Mathlib.Omega.{arith}
-use native.Mathlib.Decide.{ℕ-discrete}
-use lib.ListN.{length, getD, set, length-set}
-use lib.Seq.{getD-set-same, getD-set-other}
+use lib.ListN.{length, getD}
 use Rattle.linear.specs.Basis.{reduce, insert, inserts, basisOf, Reduced, dim}
 use Rattle.linear.specs.Entry.{generator, chosen, generatorsIn}
 use Rattle.linear.specs.Word.{word}
@@ -22,7 +20,7 @@ use Rattle.residues.specs.Residues.{residues, withResidue, known}
 use Rattle.residues.specs.laws.Child.{residue-at, child-dim}
 use Rattle.residues.specs.laws.Held.{holds-length}
 use Rattle.residues.specs.Barren.{Barren}
-use Rattle.sieve.specs.Sieve.{Worth, Judged, Sieved}
+use Rattle.sieve.specs.Sieve.{Worth, Judged}
 
 pub barren-last : (gens h : List ℕ) (j k r : ℕ) → r ≡ length (inserts word (basisOf word (withResidue 0 gens h)) (withResidue (getD h j 0) gens h)) → (r ≡ k → ⊥)
     → Barren gens h j k 1

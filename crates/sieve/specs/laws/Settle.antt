@@ -5,11 +5,11 @@
 --   Settling                            == the numbers from start on and below j are judged, and those after are kept
 --   settling-start, settling-skip, settling-set, settling-end   none; one more, left unmarked or judged; all
 -- Assumes nothing.
-use mathlib.Core.Path.{_≡_, refl, sym, ap, ap₂, _∙_, subst}
+use mathlib.Core.Path.{_≡_, sym, ap, _∙_, subst}
 use mathlib.Core.Logic.{_≢_, _⊎_, inl, inr}
 use mathlib.Core.Bool.{true}
 use mathlib.Core.List.{List}
-use Prim.Native.Nat.{ℕ, zero, suc, _+_, _-_, _*_, _%_, _^_, _<_, _≤_}
+use Prim.Native.Nat.{ℕ, _+_, _-_, _*_, _%_, _^_, _<_, _≤_}
 use native.Mathlib.Omega.{arith}
 use native.Mathlib.Decide.{ℕ-discrete}
 use lib.ListN.{length, getD, set, length-set}
@@ -20,11 +20,11 @@ use Rattle.linear.specs.Word.{word}
 use Rattle.linear.specs.laws.Shift.{one-shift}
 use Rattle.residues.specs.Residues.{known, withResidue}
 use Rattle.residues.specs.Barren.{Barren}
-use Rattle.residues.specs.Filter.{Bounded, pairs, Dropped}
+use Rattle.residues.specs.Filter.{pairs, Dropped}
 use Rattle.residues.specs.laws.Drop.{dropped-barren}
 use Rattle.buckets.specs.Table.{Filled}
 use Rattle.thin.specs.Thin.{boundOf, Small, Ruled, Marking}
-use Rattle.sieve.specs.Kept.{Sieving, Kept}
+use Rattle.sieve.specs.Kept.{Kept}
 use Rattle.sieve.specs.Sieve.{Judged, Sieved}
 
 -- ---- pairs

@@ -1,6 +1,5 @@
 -- `thin::judge` meets its contract. Assumes nothing.
 use borrow.Author.Needs.{needs}
-use native.Mathlib.Omega.{arith}
 use Rattle.thin.proofs.judge.Statement.{statement}
 use Rattle.thin.proofs.judge.Tie as tie
 

@@ -1,5 +1,5 @@
 -- `thin::thin` meets its contract: the numbers from j on are weighed. Assumes nothing.
-use mathlib.Core.Path.{_≡_, refl, sym, _∙_}
+use mathlib.Core.Path.{sym, _∙_}
 use native.Mathlib.Omega.{arith}
 use Prim.Native.Nat.{ℕ}
 use lib.ListN.{replicate, length-replicate}

@@ -1,5 +1,4 @@
 -- `thin::viable` meets its contract: the values from q on do not reach. Assumes nothing.
-use mathlib.Core.Path.{refl}
 use mathlib.Core.Bool.{true≢false}
 use native.Mathlib.Omega.{arith}
 use Rattle.thin.specs.laws.Thin.{Passed, passed-start, passed-next, passed-end}

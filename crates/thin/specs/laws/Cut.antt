@@ -1,7 +1,7 @@
 -- Marks taken away by the ranks alone, where one dimension is missing and there are no pairs.
 --   Cutting        == the numbers from start on and below j are ruled; cutting-start, cutting-next, cutting-end: none, one more, and all
 -- Assumes nothing.
-use mathlib.Core.Path.{_≡_, refl, sym, ap, _∙_, subst}
+use mathlib.Core.Path.{_≡_, sym, ap, _∙_, subst}
 use mathlib.Core.Logic.{_⊎_, inl, inr}
 use mathlib.Core.Bool.{true}
 use mathlib.Core.List.{List}

@@ -3,12 +3,12 @@
 --   light-slight    a pair that is too light
 --   Passed          == the values from q on do not reach; passed-next, passed-end: one more, and all
 -- Assumes nothing.
-use mathlib.Core.Path.{_≡_, refl, sym, ap, _∙_, subst}
+use mathlib.Core.Path.{_≡_, sym, subst}
 use mathlib.Core.List.{List}
 use lib.Bits.{bitXor}
 use lib.ListN.{length, getD}
 use Rattle.buckets.specs.Bucket.{bucketOf}
-use Rattle.thin.specs.Thin.{boundOf, Light, Unreached, Small, Heavies, Ruled, Weighing, Weighed}
+use Rattle.thin.specs.Thin.{boundOf, Light, Unreached}
 use Prim.Native.Nat.{ℕ, _+_, _-_, _*_, _<_, _≤_}
 use native.Mathlib.Nat.{le-trans, mul-le-mul-right}
 use native.Mathlib.Omega.{arith}

@@ -4,7 +4,7 @@
 --   weighed-slight, weighed-heavy   its mark is judged; it is heavy or not
 --   Thinning       == the numbers from j on are weighed, and those below it still to be; thinning-start, thinning-next, thinning-end: none, one more, and all
 -- Assumes nothing.
-use mathlib.Core.Path.{_≡_, refl, sym, ap, ap₂, _∙_, subst}
+use mathlib.Core.Path.{_≡_, refl, sym, ap, _∙_, subst}
 use mathlib.Core.Logic.{_≢_, _⊎_, inl, inr}
 use mathlib.Core.Bool.{true, false, true≢false}
 use mathlib.Core.List.{List}
@@ -21,7 +21,7 @@ use Rattle.residues.specs.Residues.{known}
 use Rattle.residues.specs.laws.Known.{known-ne, known-found}
 use Rattle.buckets.specs.Bucket.{bucketOf}
 use Rattle.residues.specs.Filter.{Dropped}
-use Rattle.thin.specs.Thin.{boundOf, Light, Unreached, Small, Heavies, Ruled, Seen, Marking, Weighing, Weighed}
+use Rattle.thin.specs.Thin.{boundOf, Light, Unreached, Small, Ruled, Seen, Marking, Weighing, Weighed}
 
 xor-zero : (x y : ℕ) → bitXor x y ≡ 0 → x ≡ y
 unfolding sameVec
