@@ -2,4 +2,5 @@
 pub mod FormulaeProgram
 pub mod Plans
 pub mod Theorems
+pub mod Worked
 pub mod laws

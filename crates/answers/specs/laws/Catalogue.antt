@@ -1,4 +1,10 @@
 -- The Catalogue's answer fits the page.
+--   fits-in, few-shown   what fits into a buffer is at most its words, and at most all
+--   Fitted k c           == of the answer c for k: its records are in 4,096 words
+--   fitted               an accepted answer is such
+--   text-fits            so its text fits the page
+--   Said                 == what the code knows of Catalogue's answer x
+--   reply-refused, reply-records, reply-entries   the reply, by its cases
 -- Assumes nothing.
 use Prim.Native.Nat.{ℕ, zero, suc, _+_, _-_, _*_, _/_, _≤_, min}
 use mathlib.Core.Path.{_≡_, refl, sym, ap, _∙_, subst}
@@ -59,14 +65,14 @@ one-space gens targets =
     one : (n : ℕ) → length (risingLists n 0 0) ≡ 1
     one n = unfold risingLists in refl
 
-pub record Fitted (p q r k : ℕ) (c : Catalogued) : Type 0 where
+pub record Fitted (k : ℕ) (c : Catalogued) : Type 0 where
   pub held : c .shown * ((k - c .ell) + k) ≤ 4096
   pub few : c .shown ≤ 4096
   pub rows : k ≤ 70
 
-listing-fitted : (x : Problem) (p q r k : ℕ) (old : List ℕ) → length old ≡ 4096 → k ≤ 70 → Fitted p q r k (listing x k old)
+listing-fitted : (x : Problem) (k : ℕ) (old : List ℕ) → length old ≡ 4096 → k ≤ 70 → Fitted k (listing x k old)
 unfolding listing
-listing-fitted x p q r k old w h =
+listing-fitted x k old w h =
     record { held = (let a = fits-in size found (length old) in omega arith); few = go size refl; rows = h }
   where
     size : ℕ
@@ -86,7 +92,7 @@ listing-fitted x p q r k old w h =
         let b : fitting size found (length old) * 1 ≤ fitting size found (length old) * size = mul-le-mul (le-refl (fitting size found (length old))) (let z : 1 ≤ size = omega (arith, e) in z) in
         omega (arith, a, b, w)
 
-pub fitted : (number p q r k : ℕ) (gs ts : List ℕ) (old : List ℕ) (c : Catalogued) → length old ≡ 4096 → catalogue number p q r k gs ts old ≡ accepted c → Fitted p q r k c
+pub fitted : (number p q r k : ℕ) (gs ts : List ℕ) (old : List ℕ) (c : Catalogued) → length old ≡ 4096 → catalogue number p q r k gs ts old ≡ accepted c → Fitted k c
 unfolding catalogue
 fitted number p q r k gs ts old c w e =
     let i = follow-inv (posed number p q r gs ts []) (λ x. refuse 8 (ltb (dim word (x .targets) + 6) k) (accepted (listing x k old))) c e in
@@ -95,11 +101,11 @@ fitted number p q r k gs ts old c w e =
     let a = ltb-false (dim word (i .0 .targets) + 6) k (j .0) in
     let b = F .targets in
     let d = dim-length word (i .0 .targets) in
-    subst (Fitted p q r k) (accepted-inj (listing (i .0) k old) c (j .1)) (listing-fitted (i .0) p q r k old w (omega arith))
+    subst (Fitted k) (accepted-inj (listing (i .0) k old) c (j .1)) (listing-fitted (i .0) k old w (omega arith))
 
 -- ---- the text
-pub records-fit : (p q r k : ℕ) (c : Catalogued) → Fitted p q r k c → length (c .buffer) ≡ 4096 → Records (c .buffer) (k - c .ell) k (c .shown) 204
-records-fit p q r k c F l =
+pub records-fit : (k : ℕ) (c : Catalogued) → Fitted k c → length (c .buffer) ≡ 4096 → Records (c .buffer) (k - c .ell) k (c .shown) 204
+records-fit k c F l =
     record {
       held = (let a = F .held in omega arith);
       small = omega arith;
@@ -109,7 +115,7 @@ records-fit p q r k c F l =
       place = omega arith;
     }
 
-pub text-fits : (kind : Kind) (p q r k : ℕ) (c : Catalogued) (d d₁ : List ℕ) (e : ℕ) → Fitted p q r k c → length d ≡ 196608
+pub text-fits : (kind : Kind) (p q r k : ℕ) (c : Catalogued) (d d₁ : List ℕ) (e : ℕ) → Fitted k c → length d ≡ 196608
     → Piece d 0 (catalogueText kind p q r k (c .ell) (c .found) (c .shown) (c .buffer)) (204 + (21 * (c .shown * ((k - c .ell) + k)) + 25 * c .shown)) d₁ e
     → (take e d₁ ≡ catalogueAnswer kind p q r k (accepted c)) × (e ≤ 196608)
 text-fits kind p q r k c d d₁ e F l P =
@@ -140,11 +146,11 @@ module _ (kind : Kind) (p q r k : ℕ) (gs ts : List ℕ) (number : ℕ) (x : Re
       abbrev c : Catalogued
       c = record { ell = l; found = f; shown = s; buffer = after }
 
-      fit : Fitted p q r k c
+      fit : Fitted k c
       fit = fitted number p q r k gs ts listingRoom c refl (S .answer ∙ ap (λ (z : Reply). seenCatalogue z after) h)
 
       pub reply-records : Records after (k - l) k s 204
-      reply-records = records-fit p q r k c fit (S .size)
+      reply-records = records-fit k c fit (S .size)
 
       pub reply-entries : (d d₁ : List ℕ) (e : ℕ) → length d ≡ 196608 → Piece d 0 (catalogueText kind p q r k l f s after) (204 + (21 * (s * ((k - l) + k)) + 25 * s)) d₁ e
           → (take e d₁ ≡ catalogueReply kind p q r k gs ts) × (e ≤ 196608)

@@ -102,7 +102,7 @@ module _ (kind : Kind) (p q r k : ℕ) (gs ts : List ℕ) (number : ℕ) (y : Re
       abbrev c : Catalogued
       c = record { ell = l; found = f; shown = s; buffer = after }
 
-      fit : Fitted p q r k c
+      fit : Fitted k c
       fit = fitted number p q r k gs ts listingRoom c refl (said ∙ ap (λ (z : Reply). seenCatalogue z after) h)
 
       pub starts-listed : (x : Plan) (page : List ℕ) → Follows (record { problem = P; said = c }) x gs ts after → x .generators ≤ length gs → x .targets ≤ length ts

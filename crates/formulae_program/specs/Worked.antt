@@ -1,0 +1,45 @@
+-- An example of the Formulae program, from the bytes of an input to the bytes that are printed.
+--   worked-formulae   document 01: "list of 2 bits, menu 1, 2, 3, target 3: .. k = 2 finds one, .. with formulae 0 1, 0 2 and 1 2"
+-- Assumes nothing.
+use mathlib.Core.Path.{_≡_, refl}
+use mathlib.Core.List.{[], _∷_, _++_}
+use Rattle.linear.specs.Bit.{bit, digitsOf, top}
+use Rattle.linear.specs.Basis.{clear, reduce, norm, place, insert, inserts, basisOf, dim}
+use Rattle.linear.specs.Order.{risingLists}
+use Rattle.linear.specs.Select.{anyOf, only, firstOfEach}
+use Rattle.linear.specs.Formulae.{formulae}
+use Rattle.linear.specs.Entry.{sameVec, sameBasis, inside, generator, chosen, generatorsIn, fits, space, entries}
+use Rattle.kinds.specs.Kinds.{kindNumbered}
+use Rattle.kinds.specs.Sizes.{within, listSizes}
+use Rattle.words.specs.Masks.{wide, zeroIn}
+use Rattle.problems.specs.Problem.{repeats, listed, posed}
+use Rattle.listing.specs.Listing.{records, flat, fitting}
+use Rattle.rows.specs.Rows.{rowOf}
+use Rattle.choice.specs.Choice.{formulaRecord}
+use Rattle.search.specs.Catalogue.{listing, catalogue}
+use Rattle.text.specs.Line.{cut, field, nameLine}
+use Rattle.text.specs.Numeral.{digits, numeral}
+use Rattle.heads.specs.Head.{countFields, headLine, headLines}
+use Rattle.lines.specs.Formula.{ended}
+use Rattle.print.specs.Print.{printed}
+use Rattle.pieces.specs.Fields.{sizesText}
+use Rattle.inner.specs.Inner.{spacedText, innerText}
+use Rattle.reports.specs.Reports.{listsText, entryText, recordLines, countsText, formulaText}
+use Rattle.problem_files.specs.ProblemFile.{listLines, settled, judged, formsOf, problemFile}
+use Rattle.spaces.specs.Spaces as spaces
+use Rattle.spaces.specs.Spaces.{isEntry, formulaeOf}
+use Rattle.roles.specs.Roles.{roleLine, roleLines, listBody}
+use Rattle.programs.specs.Programs.{inputOf}
+use Rattle.formula_lines.specs.FormulaLines.{formulaeText}
+use Rattle.formula_answers.specs.FormulaAnswers.{entryFormulae}
+use Rattle.formulae_program.specs.FormulaeProgram.{listedInput, headText, entriesPart, formulaeProgram}
+
+pub worked-formulae : formulaeProgram ((107 ∷ 105 ∷ 110 ∷ 100 ∷ 44 ∷ 112 ∷ 44 ∷ 113 ∷ 44 ∷ 114 ∷ 44 ∷ 107 ∷ 10 ∷ []) ++ (108 ∷ 105 ∷ 115 ∷ 116 ∷ 44 ∷ 50 ∷ 44 ∷ 51 ∷ 44 ∷ 49 ∷ 44 ∷ 50 ∷ 10 ∷ []) ++ (114 ∷ 111 ∷ 108 ∷ 101 ∷ 44 ∷ 102 ∷ 111 ∷ 114 ∷ 109 ∷ 10 ∷ []) ++ (103 ∷ 44 ∷ 49 ∷ 10 ∷ []) ++ (103 ∷ 44 ∷ 50 ∷ 10 ∷ []) ++ (103 ∷ 44 ∷ 51 ∷ 10 ∷ []) ++ (116 ∷ 44 ∷ 51 ∷ 10 ∷ []))
+    ≡ (107 ∷ 105 ∷ 110 ∷ 100 ∷ 44 ∷ 112 ∷ 44 ∷ 113 ∷ 44 ∷ 114 ∷ 44 ∷ 107 ∷ 44 ∷ 101 ∷ 108 ∷ 108 ∷ 44 ∷ 102 ∷ 111 ∷ 117 ∷ 110 ∷ 100 ∷ 44 ∷ 115 ∷ 104 ∷ 111 ∷ 119 ∷ 110 ∷ 10 ∷ [])
+    ++ (108 ∷ 105 ∷ 115 ∷ 116 ∷ 44 ∷ 50 ∷ 44 ∷ 51 ∷ 44 ∷ 49 ∷ 44 ∷ 50 ∷ 44 ∷ 49 ∷ 44 ∷ 49 ∷ 44 ∷ 49 ∷ 10 ∷ [])
+    ++ (101 ∷ 110 ∷ 116 ∷ 114 ∷ 121 ∷ 44 ∷ 102 ∷ 111 ∷ 114 ∷ 109 ∷ 117 ∷ 108 ∷ 97 ∷ 44 ∷ 112 ∷ 114 ∷ 111 ∷ 100 ∷ 117 ∷ 99 ∷ 116 ∷ 115 ∷ 44 ∷ 114 ∷ 111 ∷ 119 ∷ 115 ∷ 10 ∷ [])
+    ++ (48 ∷ 44 ∷ 48 ∷ 44 ∷ 48 ∷ 32 ∷ 49 ∷ 44 ∷ 51 ∷ 10 ∷ [])
+    ++ (48 ∷ 44 ∷ 49 ∷ 44 ∷ 48 ∷ 32 ∷ 50 ∷ 44 ∷ 50 ∷ 10 ∷ [])
+    ++ (48 ∷ 44 ∷ 50 ∷ 44 ∷ 49 ∷ 32 ∷ 50 ∷ 44 ∷ 50 ∷ 10 ∷ [])
+unfolding bit digitsOf top clear reduce norm place insert inserts basisOf dim risingLists anyOf only firstOfEach sameVec sameBasis inside generator chosen generatorsIn fits space entries formulae rowOf formulaRecord kindNumbered within listSizes wide zeroIn repeats listed posed records flat fitting listing catalogue printed sizesText spacedText innerText listsText entryText recordLines countsText formulaText cut field nameLine digits numeral countFields headLine headLines ended roleLine roleLines listBody listLines settled judged formsOf problemFile isEntry spaces.listing formulaeOf formulaeText entryFormulae inputOf listedInput headText entriesPart formulaeProgram
+worked-formulae = refl
