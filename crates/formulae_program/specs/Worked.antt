@@ -12,7 +12,8 @@ use Rattle.linear.specs.Entry.{sameVec, sameBasis, inside, generator, chosen, g
 use Rattle.kinds.specs.Kinds.{kindNumbered}
 use Rattle.kinds.specs.Sizes.{within, listSizes}
 use Rattle.words.specs.Masks.{wide, zeroIn}
-use Rattle.problems.specs.Problem.{repeats, listed, posed}
+use Rattle.lists.specs.Lists.{repeats}
+use Rattle.problems.specs.Problem.{listed, posed}
 use Rattle.listing.specs.Listing.{records, flat, fitting}
 use Rattle.rows.specs.Rows.{rowOf}
 use Rattle.choice.specs.Choice.{formulaRecord}

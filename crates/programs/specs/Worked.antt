@@ -22,7 +22,7 @@ use Rattle.rows.specs.Rows.{rowOf}
 use Rattle.choice.specs.Choice.{formulaRecord}
 use Rattle.fewest.specs.Fewest.{ranking}
 use Rattle.search.specs.Catalogue.{listing, catalogue}
-use Rattle.search.specs.Rank.{rank}
+use Rattle.ranks.specs.Rank.{rank}
 use Rattle.text.specs.Line.{cut, field, nameLine}
 use Rattle.text.specs.Numeral.{digits, numeral}
 use Rattle.heads.specs.Head.{countFields, headLine, headLines}
