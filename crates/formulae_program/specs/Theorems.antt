@@ -1,5 +1,6 @@
 -- The parts are all that is printed, and each is a list of formulae.
 --   parts-are-all    after `start`, what is on the page and then the parts of the entries, 0 to shown − 1, are the program's text
+--   input-answered   an input that is accepted is answered, with its Catalogue
 --   entry-has-lines  no entry that is shown is refused: its part is the lines of its formulae, as many as fit into 4,096 words. That these are its formulae, none
 --                    missing and none twice: spaces' `formulae-means`
 -- Assumes nothing.
@@ -7,18 +8,20 @@ use Prim.Native.Nat.{ℕ, zero, suc, _<_}
 use mathlib.Core.Path.{_≡_, refl, sym, ap, ap₂, _∙_, subst}
 use mathlib.Core.List.{List, _++_, append-nil}
 use lib.ListN.{length, take}
+use lib.Dec.{ltb}
 use Rattle.kinds.specs.Kinds.{numberOf}
 use Rattle.kinds.specs.Refusal.{Answer, refused, accepted, follow}
-use Rattle.kinds.specs.RefusalLaws.{accepted-inj, follow-inv}
+use Rattle.kinds.specs.RefusalLaws.{accepted-inj, refuse-inv, follow-inv}
 use Rattle.problems.specs.Problem.{Problem, posed}
-use Rattle.problem_files.specs.ProblemFile.{ProblemFile}
+use Rattle.problem_files.specs.ProblemFile.{ProblemFile, problemFile}
 use Rattle.problem_files.specs.declared.Purpose.the-variants as purpose
-use Rattle.search.specs.Catalogue.{catalogue}
+use Rattle.search.specs.Catalogue.{Catalogued, catalogue}
 use Rattle.spaces.specs.Spaces.{Formulae, formulaeOf}
 use Rattle.spaces.specs.Theorems.{formulae-means}
 use Rattle.formula_lines.specs.FormulaLines.{formulaeText}
 use Rattle.formula_answers.specs.FormulaAnswers.{formulaeAnswer, entryFormulae}
 use Rattle.programs.specs.Programs.{inputOf}
+use Rattle.programs.specs.laws.Answered.{file-posed, catalogue-accepted}
 use Rattle.answers.specs.Answers.{listingRoom, printed}
 use Rattle.formulae_program.specs.FormulaeProgram.{Listed, listed, listedInput, rowsAt, firstPart, entryPart, entriesPart, formulaeProgram}
 use Rattle.formulae_program.specs.Plans.{planText, planTexts, Follows, Printing, Starts}
@@ -46,6 +49,18 @@ module _ (x : Plan) (g t listing : List ℕ) where
   pub parts-are-all : (s page : List ℕ) → Starts (listedInput s) x g t listing page → formulaeProgram s ≡ take (x .head) page ++ planTexts x g t listing 0 (x .shown)
   unfolding formulaeProgram
   parts-are-all s page S = said-all (listedInput s) page (S .prints)
+
+-- ---- an accepted input
+pub input-answered : (s : List ℕ) (P : ProblemFile) → inputOf purpose.Catalogue s ≡ accepted P → (c : Catalogued) × (listedInput s ≡ accepted (record { problem = P; said = c }))
+unfolding inputOf listedInput
+input-answered s P e =
+    let f = refuse-inv 1 (ltb 65536 (length s)) (problemFile purpose.Catalogue s 4096 4096) P e .1 in
+    let g = file-posed purpose.Catalogue s 4096 4096 P f in
+    let c = catalogue-accepted (numberOf (P .kind)) (P .p) (P .q) (P .r) (P .k) (P .generators) (P .targets) listingRoom (g .0) (g .1) (g .2) in (
+      c .0,
+      ap (λ (o : Answer ProblemFile). follow o listed) e
+          ∙ ap (λ (o : Answer Catalogued). follow o λ d. accepted (record { problem = P; said = d })) (c .1),
+    )
 
 -- ---- an entry's part
 module _ (L : Listed) where

@@ -1,4 +1,5 @@
 -- What the programs print of an input.
 pub mod Programs
+pub mod Theorems
 pub mod Worked
 pub mod laws
