@@ -18,7 +18,8 @@ use Rattle.linear.specs.laws.Insert.{insert-old, insert-reduced, insert-length-
 use Rattle.bases.specs.Basis.{rowsOf, Valid, Holds, rows-length}
 use Rattle.linear.specs.laws.Word.{Below, at-most, insert-below, insert-place}
 use Rattle.bases.specs.declared.Basis.{Basis}
-use Rattle.bases.proofs.Sifting.{sift, sift-place}
+use Rattle.placing.specs.Placing.{Placed}
+use Rattle.placing.specs.laws.Sifting.{sift-place}
 
 pub holds-empty : Holds [] (record { rows = replicate 64 0; len = 0 })
 holds-empty =
@@ -59,16 +60,15 @@ module _ (b : Basis) (G : Valid b) (v : ℕ) where
         let k : length (insert word (rowsOf b) v) ≤ 64 = at-most 64 (insert word (rowsOf b) v) grown-reduced grown-below in
         omega (arith, a, k, rows-length b G)
 
-    pub holds-new : (out : List ℕ) → length out ≡ 64 → take (b .len + 1) out ≡ sift r r (rowsOf b) → drop (b .len + 1) out ≡ drop (b .len + 1) (b .rows)
-        → Holds (insert word (rowsOf b) v) (record { rows = out; len = b .len + 1 })
-    holds-new out w t d =
+    pub holds-new : (out : List ℕ) → Placed (b .rows) (b .len) r out → Holds (insert word (rowsOf b) v) (record { rows = out; len = b .len + 1 })
+    holds-new out P =
         record {
           valid =
               record {
-                whole = w;
+                whole = P .same ∙ G .whole;
                 room = omega (arith, has-room);
                 rest =
-                    d ∙ sym (drop-drop 1 (b .len) (b .rows)) ∙ ap (λ (l : List ℕ). drop 1 l) (G .rest) ∙ one-less (64 - b .len)
+                    P .rest ∙ sym (drop-drop 1 (b .len) (b .rows)) ∙ ap (λ (l : List ℕ). drop 1 l) (G .rest) ∙ one-less (64 - b .len)
                     ∙ ap (λ (k : ℕ). replicate k 0) (let q : 64 - b .len - 1 ≡ 64 - (b .len + 1) = omega arith in q);
                 words = subst (Below 64) (sym is) grown-below;
                 reduced = subst (Reduced word) (sym is) grown-reduced;
@@ -78,7 +78,7 @@ module _ (b : Basis) (G : Valid b) (v : ℕ) where
       where
         is : take (b .len + 1) out ≡ insert word (rowsOf b) v
         is =
-            t ∙ sift-place r (rowsOf b) (G .reduced) ∙ ap (λ (x : ℕ). place word x (rowsOf b)) e
+            P .rows ∙ sift-place r (rowsOf b) (G .reduced) ∙ ap (λ (x : ℕ). place word x (rowsOf b)) e
             ∙ sym (insert-place (rowsOf b) v new)
 
 -- ---- a list of vectors

@@ -1,3 +1,2 @@
 -- What the proofs on bases share.
-mod Sifting
 mod Growing

@@ -3,6 +3,7 @@
 -- Holds B b == b is valid and its rows are B
 -- held B == the record with the rows B
 -- rows-length: a valid record has as many rows as its count says.
+-- based-dim: a record that holds the basis of some vectors counts their dimension.
 -- contains-iff: the test `inside` on the rows of a valid record is true exactly if the vector is in their span.
 -- holds-held, held-holds: a record that holds B is held B, and held B holds B if B is reduced and its rows are below 2 ^ 64. So there is one
 -- record for each basis.
@@ -15,7 +16,7 @@ use Prim.Native.Nat.{ℕ, _+_, _-_, _≤_}
 use native.Mathlib.Omega.{arith}
 use lib.ListN.{length, take, drop, replicate, length-append, length-replicate, take-append-drop}
 use lib.Seq.{drop-append-seam, length-take-le, take-append-seam}
-use Rattle.linear.specs.Basis.{Reduced}
+use Rattle.linear.specs.Basis.{Reduced, basisOf, dim}
 use Rattle.linear.specs.Entry.{inside}
 use Rattle.linear.specs.Span.{Span}
 use Rattle.linear.specs.Word.{word}
@@ -42,6 +43,9 @@ held B = record { rows = B ++ replicate (64 - length B) 0; len = length B }
 
 pub rows-length : (b : Basis) → Valid b → length (rowsOf b) ≡ b .len
 rows-length b G = length-take-le (b .len) (b .rows) (omega (arith, G .whole, G .room))
+
+pub based-dim : (xs : List ℕ) (b : Basis) → Holds (basisOf word xs) b → b .len ≡ dim word xs
+based-dim xs b B = unfold dim in sym (rows-length b (B .valid)) ∙ ap length (B .is)
 
 pub contains-iff : (b : Basis) → Valid b → (v : ℕ) → (inside word (rowsOf b) v ≡ true) ↔ Span word (rowsOf b) v
 contains-iff b G v = (inside-yes word (rowsOf b) v, yes-inside word (rowsOf b) (G .reduced) v)

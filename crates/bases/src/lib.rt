@@ -41,8 +41,7 @@ impl Basis {
         self.reduce(v) == 0
     }
 
-    // The reduced basis of the space that the basis and `v` span. What is left of `v` takes its place among the rows by its lead and is
-    // cleared in those above. The rows below move down by one: leads fall, so from the first of them on every row is below.
+    // The reduced basis of the space that the basis and `v` span. What is left of `v` takes its place among the rows.
     pub fn insert(self, v: u64) -> Basis
         requires { ⌜ Valid self ⌝ }
         ensures { λ r. ⌜ Holds (insert word (rowsOf self) v) r ⌝ }
@@ -53,20 +52,7 @@ impl Basis {
         if r == 0 {
             return self;
         }
-        let t = forms::lead(r);
-        let mut carry = r;
-        let mut i = 0;
-        while i < n {
-            let b = rows[i];
-            if forms::lead(b) < t {
-                rows[i] = carry;
-                carry = b;
-            } else {
-                rows[i] = forms::clear(r, b);
-            }
-            i += 1;
-        }
-        rows[n] = carry;
+        placing::place(&mut rows, n, r);
         Basis {
             rows: rows,
             len: n + 1,

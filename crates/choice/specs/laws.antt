@@ -1,4 +1,3 @@
 -- The laws behind the first formula.
 pub mod Choosing
-pub mod Missing
 pub mod Writing

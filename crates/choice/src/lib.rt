@@ -5,11 +5,7 @@ ghost use Prim.Native.Nat.{_+_, _<_, _≤_};
 ghost use lib.ListN.{length};
 ghost use lib.Seq.{paste};
 ghost use Rattle.linear.specs.Word.{word};
-ghost use Rattle.linear.specs.Select.{anyOf};
-ghost use mathlib.Core.Bool.{not, _&&_};
-ghost use Rattle.linear.specs.Entry.{inside};
 ghost use Rattle.linear.specs.laws.Extension.{extension};
-ghost use Rattle.bases.specs.Basis.{rowsOf, Valid};
 ghost use Rattle.rows.specs.Rows.{rowOf};
 ghost use Rattle.choice.specs.Choice.{Whole, Chose, recordOf};
 ghost use Rattle.choice.specs.laws.Choosing.{Added};
@@ -20,32 +16,6 @@ pub struct Choice {
     pub numbers: [u64; 64],
     pub forms: [u64; 64],
     pub len: usize,
-}
-
-// Whether some target is not in the span of `b`.
-pub fn misses(b: Basis, targets: &[u64]) -> bool
-    requires { ⌜ Valid b ⌝ }
-    ensures { λ r. ⌜ r ≡ anyOf (λ t. not (inside word (rowsOf b) t)) (now (targets .entry)) ⌝ }
-{
-    let mut i = 0;
-    while i < targets.len() {
-        if !b.contains(targets[i]) {
-            return true;
-        }
-        i += 1;
-    }
-    false
-}
-
-// Whether `g` is in the span of the rows `w` and not in that of `b`.
-pub fn is_wanted(w: &[u64], b: Basis, g: u64) -> bool
-    requires { ⌜ Valid b ⌝ }
-    ensures { λ r. ⌜ r ≡ (inside word (now (w .entry)) g && not (inside word (rowsOf b) g)) ⌝ }
-{
-    if forms::reduce_rows(w, g) != 0 {
-        return false;
-    }
-    !b.contains(g)
 }
 
 // One generator more.
@@ -80,7 +50,7 @@ pub fn first_formula(gens: &[u64], w: &[u64]) -> Choice
     let mut i = 0;
     while i < n {
         let g = gens[i];
-        if is_wanted(w, b, g) {
+        if spans::is_wanted(w, b, g) {
             c = add(c, i, g);
             b = b.insert(g);
             i += 1;

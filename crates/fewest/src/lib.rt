@@ -56,7 +56,7 @@ pub fn rank_of(gens: &[u64], targets: &[u64], out: &mut [u64]) -> Ranked
     ensures { λ r. ⌜ (ranking (now (gens .entry)) (now (targets .entry)) (now (out .entry)) ≡ seenRanked r (now (out .exit))) × (now (out .exit) ≡ lentRanking (ranking (now (gens .entry)) (now (targets .entry)) (now (out .entry))) (now (out .entry))) ⌝ }
 {
     let all = bases::basis_of(gens);
-    if choice::misses(all, targets) {
+    if spans::misses(all, targets) {
         return Ranked::Beyond;
     }
     let ell = bases::basis_of(targets).len;

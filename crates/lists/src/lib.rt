@@ -1,7 +1,8 @@
-// Lists of forms handed in: whether a form stands twice, and which refusal a problem's lists have.
+// Lists handed in: whether a form stands twice, which refusal a problem's lists have, and whether a number is outside.
 ghost use mathlib.Core.Path.{_≡_};
+ghost use mathlib.Core.Bool.{not};
 ghost use lib.ListN.{drop};
-ghost use lib.Dec.{eqb};
+ghost use lib.Dec.{eqb, ltb};
 ghost use Rattle.linear.specs.Select.{anyOf};
 ghost use Rattle.lists.specs.Lists.{repeats, listRefusal, mapRefusal};
 
@@ -72,4 +73,18 @@ pub fn map_refusal(w: u64, gs: &[u64], ts: &[u64], others: &[u64]) -> u64
         return 5;
     }
     if words::any_wide(others, w) { 6 } else { 0 }
+}
+
+// Whether some number is not below n.
+pub fn any_outside(sel: &[u64], n: usize) -> bool
+    ensures { λ r. ⌜ r ≡ anyOf (λ e. not (ltb e n)) (now (sel .entry)) ⌝ }
+{
+    let mut i = 0;
+    while i < sel.len() {
+        if sel[i] >= n as u64 {
+            return true;
+        }
+        i += 1;
+    }
+    false
 }

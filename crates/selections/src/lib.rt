@@ -1,10 +1,8 @@
 // Questions on a selection of generators: is a form a sum of them, and is one of them redundant.
 ghost use mathlib.Core.Path.{_≡_};
-ghost use mathlib.Core.Bool.{false, not};
+ghost use mathlib.Core.Bool.{false};
 ghost use lib.ListN.{length};
-ghost use lib.Dec.{ltb};
 ghost use Rattle.linear.specs.Basis.{basisOf};
-ghost use Rattle.linear.specs.Select.{anyOf};
 ghost use Rattle.linear.specs.Entry.{chosen};
 ghost use Rattle.linear.specs.Word.{word};
 ghost use Rattle.bases.specs.Basis.{Holds};
@@ -20,25 +18,11 @@ pub enum Said {
     No,
 }
 
-// Whether some number is not below n.
-fn any_outside(sel: &[u64], n: usize) -> bool
-    ensures { λ r. ⌜ r ≡ anyOf (λ e. not (ltb e n)) (now (sel .entry)) ⌝ }
-{
-    let mut i = 0;
-    while i < sel.len() {
-        if sel[i] >= n as u64 {
-            return true;
-        }
-        i += 1;
-    }
-    false
-}
-
 // Whether a selection out of n generators has a number outside, or one twice.
 fn misfits(sel: &[u64], n: usize) -> bool
     ensures { λ r. ⌜ r ≡ misfit n (now (sel .entry)) ⌝ }
 {
-    if any_outside(sel, n) {
+    if lists::any_outside(sel, n) {
         return true;
     }
     lists::repeats(sel)
@@ -88,13 +72,13 @@ fn say_redundant(gens: &[u64], targets: &[u64], sel: &[u64], j: u64) -> Said
     if misfits(sel, n) {
         return Said::Refused(11);
     }
-    if choice::misses(span_without(gens, sel, n as u64), targets) {
+    if spans::misses(span_without(gens, sel, n as u64), targets) {
         return Said::Refused(11);
     }
     if !lists::stands_from(j, sel, 0) {
         return Said::Refused(11);
     }
-    if choice::misses(span_without(gens, sel, j), targets) {
+    if spans::misses(span_without(gens, sel, j), targets) {
         Said::No
     } else {
         Said::Yes

@@ -1,5 +1,4 @@
 -- The laws of the definitions beside this folder.
 pub mod Entry
-pub mod Same
 pub mod Listing
 pub mod Replies

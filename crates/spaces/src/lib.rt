@@ -6,9 +6,6 @@ use walk::Tally;
 ghost use mathlib.Core.Path.{_≡_};
 ghost use Prim.Native.Nat.{_≤_};
 ghost use lib.ListN.{length};
-ghost use Rattle.linear.specs.Word.{word};
-ghost use Rattle.linear.specs.Entry.{sameBasis};
-ghost use Rattle.bases.specs.Basis.{rowsOf, Valid};
 ghost use Rattle.spaces.specs.Spaces.{formulaeOf, seenFormulae, lentFormulae};
 ghost use Rattle.spaces.specs.laws.Entry.{Rows};
 ghost use Rattle.spaces.specs.laws.Listing.{Accepted, Told};
@@ -21,38 +18,18 @@ pub enum Listed {
     More(usize),
 }
 
-// Whether the basis has exactly these rows.
-fn has_rows(b: Basis, rows: &[u64]) -> bool
-    requires { ⌜ Valid b ⌝ }
-    ensures { λ r. ⌜ r ≡ sameBasis word (rowsOf b) (now (rows .entry)) ⌝ }
-{
-    let own = b.rows;
-    let n = b.len;
-    if n != rows.len() {
-        return false;
-    }
-    let mut i = 0;
-    while i < n {
-        if own[i] != rows[i] {
-            return false;
-        }
-        i += 1;
-    }
-    true
-}
-
 // Whether the rows are the reduced basis of a solution space.
 fn is_entry(gens: &[u64], targets: &[u64], rows: &[u64]) -> bool
     ensures { λ r. ⌜ Rows (now (gens .entry)) (now (targets .entry)) (now (rows .entry)) r ⌝ }
 {
     let b = bases::basis_of(rows);
-    if !has_rows(b, rows) {
+    if !spans::has_rows(b, rows) {
         return false;
     }
-    if !spread::completes(gens, rows, Basis::empty(), 0) {
+    if !spans::completes(gens, rows, Basis::empty(), 0) {
         return false;
     }
-    !choice::misses(b, targets)
+    !spans::misses(b, targets)
 }
 
 // The formulae of a solution space. It stops after the first that does not fit.

@@ -5,37 +5,11 @@ use walk::Tally;
 ghost use mathlib.Core.Path.{_≡_};
 ghost use Prim.Native.Nat.{_-_};
 ghost use lib.ListN.{length};
-ghost use Rattle.linear.specs.Word.{word};
-ghost use Rattle.linear.specs.Spread.{completes};
-ghost use Rattle.bases.specs.Basis.{rowsOf, Valid};
+ghost use Rattle.bases.specs.Basis.{rowsOf};
 ghost use Rattle.choice.specs.Choice.{numbersOf, recordOf};
 ghost use Rattle.walk.specs.Records.{note, run};
 ghost use Rattle.walk.specs.Walk.{stateOf};
 ghost use Rattle.spread.specs.Spread.{formulaeFrom, Keeping, Node};
-
-// Whether `b` and the generators inside the space `w` from number `start` on span as many dimensions as `w` has rows.
-pub fn completes(gens: &[u64], w: &[u64], b: Basis, start: usize) -> bool
-    requires { ⌜ Valid b ⌝ }
-    ensures { λ r. ⌜ r ≡ completes word (now (gens .entry)) (now (w .entry)) (rowsOf b) start ⌝ }
-{
-    let k = w.len();
-    let n = gens.len();
-    let mut d = b;
-    let mut i = start;
-    while i < n {
-        if d.len >= k {
-            return true;
-        }
-        let g = gens[i];
-        if forms::reduce_rows(w, g) == 0 {
-            d = d.insert(g);
-            i += 1;
-        } else {
-            i += 1;
-        }
-    }
-    d.len >= k
-}
 
 // Counts the formula whose products `c` holds, unless the limit is reached, and writes its record where it fits.
 fn keep(c: Choice, targets: &[u64], t: Tally, limit: u64, out: &mut [u64]) -> Tally
@@ -90,7 +64,7 @@ pub fn spread(
             return u;
         }
         let g = gens[j];
-        if choice::is_wanted(w, b, g) {
+        if spans::is_wanted(w, b, g) {
             u = spread(
                 gens,
                 w,
@@ -103,7 +77,7 @@ pub fn spread(
                 limit,
                 out,
             );
-            if !completes(gens, w, b, j + 1) {
+            if !spans::completes(gens, w, b, j + 1) {
                 return u;
             }
             j += 1;

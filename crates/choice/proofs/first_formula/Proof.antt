@@ -11,7 +11,7 @@ use Rattle.choice.proofs.first_formula.Lts as lts
 use Rattle.bases.proofs.Basis.empty.Reads as empty-reads
 use Rattle.bases.proofs.Basis.insert.Reads as insert-reads
 use Rattle.choice.proofs.add.Reads as add-reads
-use Rattle.choice.proofs.is_wanted.Reads as is-wanted-reads
+use Rattle.spans.proofs.is_wanted.Reads as is-wanted-reads
 
 abbrev Inv-loop : tie.InvT-loop
 Inv-loop gens w n b₀ c₀ i₀ b c i = Choosing gens w b c i

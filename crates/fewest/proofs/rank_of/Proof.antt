@@ -5,13 +5,14 @@ use mathlib.Core.Path.{refl, sym, ap, _∙_}
 use Prim.Native.Nat.{_-_}
 use Rattle.kinds.specs.Refusal.{Answer}
 use Rattle.fewest.specs.Fewest.{Ranking, lentRanking}
-use Rattle.fewest.specs.laws.Least.{says-beyond, says-above, missed-is, based-dim, found-none, found-here, finishing, part-is}
+use Rattle.bases.specs.Basis.{based-dim}
+use Rattle.fewest.specs.laws.Least.{says-beyond, says-above, missed-is, found-none, found-here, finishing, part-is}
 use Rattle.fewest.proofs.rank_of.Statement.{statement}
 use Rattle.fewest.proofs.rank_of.Tie as tie
 use Rattle.fewest.proofs.rank_of.Reads as reads
 use Rattle.fewest.proofs.rank_of.Lts as lts
 use Rattle.bases.proofs.basis_of.Reads as basis-of-reads
-use Rattle.choice.proofs.misses.Reads as misses-reads
+use Rattle.spans.proofs.misses.Reads as misses-reads
 use Rattle.fewest.proofs.finish.Reads as finish-reads
 use Rattle.fewest.proofs.least_entry.Reads as least-entry-reads
 

@@ -249,9 +249,6 @@ module _ (gens targets : List ℕ) where
   pub found-here : (ell : ℕ) (r : Answered) (k : ℕ) (buffer : List ℕ) → Found ell r buffer → r ≡ answered.Is k → Here ell k buffer
   found-here ell r k buffer F e = subst (λ (x : Answered). Found ell x buffer) e F
 
-pub based-dim : (xs : List ℕ) (b : Basis) → Holds (basisOf word xs) b → b .len ≡ dim word xs
-based-dim xs b B = unfold dim in sym (rows-length b (B .valid)) ∙ ap length (B .is)
-
 -- the part of a slice from d to d + k
 pub part-is : (d k : ℕ) (buffer : List ℕ) → take (d + k - d) (drop d buffer) ≡ take k (drop d buffer)
 part-is d k buffer = ap (λ (n : ℕ). take n (drop d buffer)) (let z : d + k - d ≡ k = omega arith in z)

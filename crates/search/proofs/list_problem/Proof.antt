@@ -1,7 +1,7 @@
 -- `search::list_problem` meets its contract. Assumes nothing.
 use borrow.Author.Needs.{needs}
 use native.Mathlib.Omega.{arith}
-use Rattle.fewest.specs.laws.Least.{based-dim}
+use Rattle.bases.specs.Basis.{based-dim}
 use Rattle.search.specs.laws.Replies.{given-far, given-near}
 use Rattle.search.proofs.list_problem.Statement.{statement}
 use Rattle.search.proofs.list_problem.Tie as tie

@@ -6,7 +6,7 @@ use Rattle.selections.proofs.misfits.Tie as tie
 use Rattle.selections.proofs.misfits.Reads as reads
 use Rattle.selections.proofs.misfits.Lts as lts
 use Rattle.lists.proofs.repeats.Reads as repeats-reads
-use Rattle.selections.proofs.any_outside.Reads as any-outside-reads
+use Rattle.lists.proofs.any_outside.Reads as any-outside-reads
 
 any-outside-requires : tie.Need-any-outside-requires
 any-outside-requires c κs = search needs

@@ -7,7 +7,7 @@ use Rattle.selections.proofs.say_redundant.Statement.{statement}
 use Rattle.selections.proofs.say_redundant.Tie as tie
 use Rattle.selections.proofs.say_redundant.Reads as reads
 use Rattle.selections.proofs.say_redundant.Lts as lts
-use Rattle.choice.proofs.misses.Reads as misses-reads
+use Rattle.spans.proofs.misses.Reads as misses-reads
 use Rattle.lists.proofs.stands_from.Reads as stands-from-reads
 use Rattle.selections.proofs.misfits.Reads as misfits-reads
 use Rattle.selections.proofs.span_without.Reads as span-without-reads

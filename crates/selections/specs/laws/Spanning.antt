@@ -1,5 +1,4 @@
 -- The span of selected generators, one number after the other, and the tests on the numbers.
---   Checking n sel i       == no number before place i is outside
 --   Spanning gens sel skip b i == b is the basis of the selected generators before place i, skip left out
 -- Assumes nothing.
 use mathlib.Core.Path.{_≡_, refl, sym, ap, _∙_}
@@ -11,7 +10,7 @@ use native.Mathlib.Omega.{arith}
 use lib.ListN.{length, getD, drop, drop-of-length-le}
 use lib.Seq.{drop-cons}
 use lib.Dec.{eqb, ltb}
-use borrow.Author.Tests.{eq-eqb, ne-eqb, lt-ltb, le-ltb}
+use borrow.Author.Tests.{eq-eqb, ne-eqb}
 use Rattle.linear.specs.Basis.{insert, inserts, basisOf}
 use Rattle.linear.specs.Select.{anyOf, only}
 use Rattle.linear.specs.Entry.{generator, chosen}
@@ -26,29 +25,8 @@ use Rattle.selections.specs.Theorems.{fits}
 next : (l : List ℕ) (i : ℕ) → i < length l → drop i l ≡ getD l i 0 ∷ drop (i + 1) l
 next l i h = drop-cons l i 0 h ∙ ap (λ (k : ℕ). getD l i 0 ∷ drop k l) (let e : suc i ≡ i + 1 = omega arith in e)
 
--- ---- numbers outside
+-- ---- numbers outside, or twice
 module _ (n : ℕ) (sel : List ℕ) where
-  pub record Checking (i : ℕ) : Type 0 where
-    pub within : i ≤ length sel
-    pub is : anyOf (λ e. not (ltb e n)) sel ≡ anyOf (λ e. not (ltb e n)) (drop i sel)
-
-  pub checking-start : Checking 0
-  checking-start = record { within = omega arith; is = refl }
-
-  look : (i : ℕ) → Checking i → i < length sel → anyOf (λ e. not (ltb e n)) sel ≡ (not (ltb (getD sel i 0) n) || anyOf (λ e. not (ltb e n)) (drop (i + 1) sel))
-  unfolding anyOf
-  look i C h = C .is ∙ ap (anyOf (λ e. not (ltb e n))) (next sel i h)
-
-  pub checking-found : (i : ℕ) → Checking i → i < length sel → n ≤ getD sel i 0 → true ≡ anyOf (λ e. not (ltb e n)) sel
-  checking-found i C h o = sym (look i C h ∙ ap (λ (b : Bool). not b || anyOf (λ e. not (ltb e n)) (drop (i + 1) sel)) (le-ltb (getD sel i 0) n o))
-
-  pub checking-past : (i : ℕ) → Checking i → i < length sel → getD sel i 0 < n → Checking (i + 1)
-  checking-past i C h o = record { within = omega arith; is = look i C h ∙ ap (λ (b : Bool). not b || anyOf (λ e. not (ltb e n)) (drop (i + 1) sel)) (lt-ltb (getD sel i 0) n o) }
-
-  pub checking-end : (i : ℕ) → Checking i → length sel ≤ i → false ≡ anyOf (λ e. not (ltb e n)) sel
-  unfolding anyOf
-  checking-end i C h = sym (C .is ∙ ap (anyOf (λ e. not (ltb e n))) (drop-of-length-le sel h))
-
   pub misfit-outside : (b : Bool) → b ≡ anyOf (λ e. not (ltb e n)) sel → b ≡ true → true ≡ misfit n sel
   unfolding misfit
   misfit-outside b e t = ap (λ (x : Bool). x || repeats sel) (sym t ∙ e)

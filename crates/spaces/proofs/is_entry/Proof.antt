@@ -7,9 +7,9 @@ use Rattle.spaces.proofs.is_entry.Reads as reads
 use Rattle.spaces.proofs.is_entry.Lts as lts
 use Rattle.bases.proofs.Basis.empty.Reads as empty-reads
 use Rattle.bases.proofs.basis_of.Reads as basis-of-reads
-use Rattle.choice.proofs.misses.Reads as misses-reads
-use Rattle.spaces.proofs.has_rows.Reads as has-rows-reads
-use Rattle.spread.proofs.completes.Reads as completes-reads
+use Rattle.spans.proofs.misses.Reads as misses-reads
+use Rattle.spans.proofs.has_rows.Reads as has-rows-reads
+use Rattle.spans.proofs.completes.Reads as completes-reads
 
 basis-of-requires : tie.Need-basis-of-requires
 basis-of-requires c κs = search needs

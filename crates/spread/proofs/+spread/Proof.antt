@@ -17,8 +17,8 @@ use Rattle.spread.proofs.spread.Kinds as spread-kinds
 use Rattle.spread.proofs.+spread.Lts-spread as spread-lts
 use Rattle.bases.proofs.Basis.insert.Reads as insert-reads
 use Rattle.choice.proofs.add.Reads as add-reads
-use Rattle.choice.proofs.is_wanted.Reads as is-wanted-reads
-use Rattle.spread.proofs.completes.Reads as completes-reads
+use Rattle.spans.proofs.is_wanted.Reads as is-wanted-reads
+use Rattle.spans.proofs.completes.Reads as completes-reads
 use Rattle.spread.proofs.keep.Reads as keep-reads
 use Rattle.spread.proofs.+spread.{statement}
 use Rattle.spread.proofs.+spread.Tie.{close}

@@ -1,11 +1,11 @@
--- `choice::is_wanted` meets its contract. Assumes nothing.
+-- `spans::is_wanted` meets its contract. Assumes nothing.
 use borrow.Author.Needs.{needs}
 use Rattle.bases.specs.Basis.{rowsOf}
-use Rattle.choice.specs.laws.Missing.{left-out, left-in}
-use Rattle.choice.proofs.is_wanted.Statement.{statement}
-use Rattle.choice.proofs.is_wanted.Tie as tie
-use Rattle.choice.proofs.is_wanted.Reads as reads
-use Rattle.choice.proofs.is_wanted.Lts as lts
+use Rattle.spans.specs.laws.Missing.{left-out, left-in}
+use Rattle.spans.proofs.is_wanted.Statement.{statement}
+use Rattle.spans.proofs.is_wanted.Tie as tie
+use Rattle.spans.proofs.is_wanted.Reads as reads
+use Rattle.spans.proofs.is_wanted.Lts as lts
 use Rattle.bases.proofs.Basis.contains.Reads as contains-reads
 use Rattle.forms.proofs.reduce_rows.Reads as reduce-rows-reads
 

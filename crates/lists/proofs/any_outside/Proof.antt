@@ -1,12 +1,12 @@
--- `selections::any_outside` meets its contract. Assumes nothing.
+-- `lists::any_outside` meets its contract. Assumes nothing.
 use native.Mathlib.Omega.{arith}
 use Prim.Native.Nat.{_-_}
 use lib.ListN.{length}
-use Rattle.selections.specs.laws.Spanning.{Checking, checking-start, checking-found, checking-past, checking-end}
-use Rattle.selections.proofs.any_outside.Statement.{statement}
-use Rattle.selections.proofs.any_outside.Tie as tie
-use Rattle.selections.proofs.any_outside.Reads as reads
-use Rattle.selections.proofs.any_outside.Lts as lts
+use Rattle.lists.specs.laws.Outside.{Checking, checking-start, checking-found, checking-past, checking-end}
+use Rattle.lists.proofs.any_outside.Statement.{statement}
+use Rattle.lists.proofs.any_outside.Tie as tie
+use Rattle.lists.proofs.any_outside.Reads as reads
+use Rattle.lists.proofs.any_outside.Lts as lts
 
 abbrev Inv-loop : tie.InvT-loop
 Inv-loop sel n i₀ i = Checking n sel i

@@ -1,15 +1,15 @@
--- `spaces::has_rows` meets its contract. Assumes nothing.
+-- `spans::has_rows` meets its contract. Assumes nothing.
 use native.Mathlib.Omega.{arith}
 use mathlib.Core.Path.{sym, _∙_}
 use Prim.Native.Nat.{_-_}
 use lib.ListN.{length, take}
 use lib.Seq.{getD-take}
 use Rattle.bases.specs.Basis.{rowsOf, rows-length}
-use Rattle.spaces.specs.laws.Same.{Alike, alike-other, alike-start, alike-no, alike-next, alike-end}
-use Rattle.spaces.proofs.has_rows.Statement.{statement}
-use Rattle.spaces.proofs.has_rows.Tie as tie
-use Rattle.spaces.proofs.has_rows.Reads as reads
-use Rattle.spaces.proofs.has_rows.Lts as lts
+use Rattle.spans.specs.laws.Same.{Alike, alike-other, alike-start, alike-no, alike-next, alike-end}
+use Rattle.spans.proofs.has_rows.Statement.{statement}
+use Rattle.spans.proofs.has_rows.Tie as tie
+use Rattle.spans.proofs.has_rows.Reads as reads
+use Rattle.spans.proofs.has_rows.Lts as lts
 
 abbrev Inv-loop : tie.InvT-loop
 Inv-loop rows own n i₀ i = Alike (take n own) rows i

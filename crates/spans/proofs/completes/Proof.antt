@@ -1,15 +1,15 @@
--- `spread::completes` meets its contract. Assumes nothing.
+-- `spans::completes` meets its contract. Assumes nothing.
 use native.Mathlib.Omega.{arith}
 use mathlib.Core.Path.{refl}
 use Prim.Native.Nat.{_-_}
 use lib.ListN.{length}
 use borrow.Author.Needs.{needs}
 use Rattle.bases.specs.Basis.{rowsOf}
-use Rattle.spread.specs.laws.Completing.{Completing, completing-full, completing-in, completing-out, completing-end}
-use Rattle.spread.proofs.completes.Statement.{statement}
-use Rattle.spread.proofs.completes.Tie as tie
-use Rattle.spread.proofs.completes.Reads as reads
-use Rattle.spread.proofs.completes.Lts as lts
+use Rattle.spans.specs.laws.Completing.{Completing, completing-full, completing-in, completing-out, completing-end}
+use Rattle.spans.proofs.completes.Statement.{statement}
+use Rattle.spans.proofs.completes.Tie as tie
+use Rattle.spans.proofs.completes.Reads as reads
+use Rattle.spans.proofs.completes.Lts as lts
 use Rattle.bases.proofs.Basis.insert.Reads as insert-reads
 use Rattle.forms.proofs.reduce_rows.Reads as reduce-rows-reads
 

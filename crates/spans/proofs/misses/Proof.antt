@@ -1,15 +1,15 @@
--- `choice::misses` meets its contract. Assumes nothing.
+-- `spans::misses` meets its contract. Assumes nothing.
 use native.Mathlib.Omega.{arith}
 use mathlib.Core.Path.{sym, ap, _∙_}
 use mathlib.Core.Bool.{not}
 use Prim.Native.Nat.{_-_}
 use lib.ListN.{length}
 use Rattle.bases.specs.Basis.{rowsOf}
-use Rattle.choice.specs.laws.Missing.{Missing, missing-start, missing-found, missing-past, missing-end}
-use Rattle.choice.proofs.misses.Statement.{statement}
-use Rattle.choice.proofs.misses.Tie as tie
-use Rattle.choice.proofs.misses.Reads as reads
-use Rattle.choice.proofs.misses.Lts as lts
+use Rattle.spans.specs.laws.Missing.{Missing, missing-start, missing-found, missing-past, missing-end}
+use Rattle.spans.proofs.misses.Statement.{statement}
+use Rattle.spans.proofs.misses.Tie as tie
+use Rattle.spans.proofs.misses.Reads as reads
+use Rattle.spans.proofs.misses.Lts as lts
 use Rattle.bases.proofs.Basis.contains.Reads as contains-reads
 
 abbrev Inv-loop : tie.InvT-loop

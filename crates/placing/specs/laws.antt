@@ -1,0 +1,2 @@
+-- The laws behind the placing of a row.
+pub mod Sifting

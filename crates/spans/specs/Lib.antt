@@ -1,0 +1,2 @@
+-- Tests on the spans of bases.
+pub mod laws
