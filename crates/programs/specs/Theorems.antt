@@ -16,7 +16,7 @@ use Rattle.linear.specs.Word.{word}
 use Rattle.problems.specs.Problem.{Problem, posed}
 use Rattle.problem_files.specs.ProblemFile.{ProblemFile, problemFile}
 use Rattle.problem_files.specs.declared.Purpose.the-variants as purpose
-use Rattle.search.specs.Catalogue.{Catalogued, catalogue}
+use Rattle.search.specs.Catalogue.{Catalogued}
 use Rattle.search.specs.Rank.{rank}
 use Rattle.search.specs.Theorems.{CatalogueMeans, catalogue-means, RankMeans, rank-means}
 use Rattle.fewest.specs.Fewest.{Ranking}
