@@ -17,8 +17,8 @@ use Rattle.problems.specs.Problem.{Problem, posed}
 use Rattle.problem_files.specs.ProblemFile.{ProblemFile, problemFile}
 use Rattle.problem_files.specs.declared.Purpose.the-variants as purpose
 use Rattle.search.specs.Catalogue.{Catalogued}
-use Rattle.search.specs.Rank.{rank}
-use Rattle.search.specs.Theorems.{CatalogueMeans, catalogue-means, RankMeans, rank-means}
+use Rattle.ranks.specs.Rank.{rank}
+use Rattle.demand.specs.Theorems.{CatalogueMeans, catalogue-means, RankMeans, rank-means}
 use Rattle.fewest.specs.Fewest.{Ranking}
 use Rattle.reports.specs.Reports.{catalogueText}
 use Rattle.answers.specs.Answers.{listingRoom, printed, catalogueAnswer, catalogueReply, rankAnswer, rankReply}
@@ -51,7 +51,7 @@ catalogue-answered s P e =
       x = m .0;
       posed-as = m .1;
       said = c .0;
-      means = m .2;
+      means = m .3;
       prints =
           ap (λ (o : Answer ProblemFile). printed (follow o λ Q. accepted (replyTo purpose.Catalogue Q))) e
           ∙ ap (catalogueAnswer (P .kind) (P .p) (P .q) (P .r) (P .k)) (c .1);

@@ -30,7 +30,7 @@ use Rattle.problem_files.specs.laws.Accepted.{problem-went}
 use Rattle.problem_files.specs.declared.Purpose.{Purpose}
 use Rattle.fewest.specs.Fewest.{Ranking, is, above, beyond as never, written, ranking}
 use Rattle.search.specs.Catalogue.{Catalogued, listing, catalogue}
-use Rattle.search.specs.Rank.{rank}
+use Rattle.ranks.specs.Rank.{rank}
 use Rattle.answers.specs.Answers.{listingRoom}
 
 abbrev Posed : Purpose → ProblemFile → Type 0
