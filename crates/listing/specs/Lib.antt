@@ -1,3 +1,4 @@
 -- The entries for k, counted and written as records.
 pub mod Listing
+pub mod Walked
 pub mod laws

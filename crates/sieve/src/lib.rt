@@ -10,7 +10,7 @@ ghost use Rattle.linear.specs.Word.{word};
 ghost use Rattle.bases.specs.Basis.{Holds};
 ghost use Rattle.residues.specs.Residues.{withResidue};
 ghost use Rattle.residues.specs.Filter.{pairs};
-ghost use Rattle.sieve.specs.Sieve.{Worth, Judged, Sieved};
+ghost use Rattle.sieve.specs.Sieve.{Worth, Judged, Sieved, NextMarked};
 ghost use Rattle.sieve.specs.Kept.{Sieving, Kept};
 ghost use Rattle.sieve.specs.laws.Settle.{Settling};
 
@@ -126,4 +126,19 @@ pub fn sieve(
     let n = s.len;
     filter(gens, h, start, k, missing, &basis[..n], firsts, rows, marks);
     settle(gens, h, start, s, k, missing, marks);
+}
+
+// The first marked number from `from` on, or `n` if none below it is.
+pub fn next_marked(marks: &[u8], from: usize, n: usize) -> usize
+    requires { ⌜ (from ≤ n) × (n ≤ length (now marks)) ⌝ }
+    ensures { λ r. ⌜ NextMarked (now (marks .entry)) from n r ⌝ }
+{
+    let mut j = from;
+    while j < n {
+        if marks[j] != 0 {
+            return j;
+        }
+        j += 1;
+    }
+    n
 }

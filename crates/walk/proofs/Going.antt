@@ -1,13 +1,14 @@
 -- The walk's loop over the numbers of a node.
 -- Going == the records so far are written, and those to come, written, give the final state.
 -- going-off, going-down: one number more, not marked or gone into. going-full, going-end: the limit is reached; all numbers are done.
+-- going-next: all numbers up to the next marked one.
 -- node-down: what the child's node is.
 -- Assumes nothing.
 use mathlib.Core.Path.{_≡_, refl, sym, ap, ap₂, _∙_, subst}
 use mathlib.Core.Logic.{_≢_, _⊎_, inl, inr}
 use mathlib.Core.Bool.{Bool, true, false}
 use mathlib.Core.List.{List, _++_, map}
-use Prim.Native.Nat.{ℕ, _+_, _-_, _<_, _≤_}
+use Prim.Native.Nat.{ℕ, zero, suc, _+_, _-_, _<_, _≤_}
 use native.Mathlib.Omega.{arith}
 use lib.ListN.{length, getD, take}
 use Rattle.linear.specs.Basis.{clear, reduce, insert}
@@ -18,7 +19,7 @@ use Rattle.bases.specs.Basis.{rowsOf, Valid, Holds}
 use Rattle.bases.specs.declared.Basis.{Basis}
 use Rattle.residues.specs.Residues.{residues, known, Mapped}
 use Rattle.residues.specs.Barren.{Barren}
-use Rattle.sieve.specs.Sieve.{Judged}
+use Rattle.sieve.specs.Sieve.{Judged, Sieved, NextMarked}
 use Rattle.residues.specs.laws.Known.{known-ne}
 use Rattle.residues.specs.laws.Child.{residue-at, residues-length, child-residues}
 use Rattle.walk.specs.declared.Chain.{Chain}
@@ -120,3 +121,21 @@ module _ (gens : List ℕ) (k : ℕ) (b : Basis) (c : Chain) (missing limit : �
       go (inl a) u q = going-skip g a
       go (inr a) true q = going-skip g (sym q)
       go (inr a) false q = going-drop g (sym q) a
+
+-- ---- up to the next marked number
+module _ (gens : List ℕ) (k : ℕ) (b : Basis) (c : Chain) (missing limit : ℕ) (final : State) (size : ℕ) (h : List ℕ) (l : h ≡ residues gens (rowsOf b)) (G : Valid b) (T : Tidy c missing) (ne : missing ≢ 0)
+    (t : Tally) (out mine : List ℕ) (lo : ℕ) (marks : List ℕ) (S : Sieved gens h lo (length gens) k missing marks) where
+  going-past : (d j : ℕ) → lo ≤ j → j + d ≤ length gens → ((i : ℕ) → j ≤ i → i < j + d → getD marks i 0 ≡ 0)
+      → Going gens k (rowsOf b) (chainOf c) missing limit final size j t out mine → Going gens k (rowsOf b) (chainOf c) missing limit final size (j + d) t out mine
+  going-past zero j a m f I = subst (λ (i : ℕ). Going gens k (rowsOf b) (chainOf c) missing limit final size i t out mine) (let e : j ≡ j + 0 = omega arith in e) I
+  going-past (suc d) j a m f I =
+      subst (λ (i : ℕ). Going gens k (rowsOf b) (chainOf c) missing limit final size i t out mine) (let e : j + 1 + d ≡ j + suc d = omega arith in e)
+      (going-past d (j + 1) (omega arith) (omega arith) (λ i p q. f i (omega arith) (omega arith))
+      (going-off gens k b c missing limit final size h l G T ne j t out mine I (omega arith) (getD marks j 0) (S .judged j a (omega arith)) (f j (omega arith) (omega arith))))
+
+  pub going-next : (j r : ℕ) → lo ≤ j → NextMarked marks j (length gens) r
+      → Going gens k (rowsOf b) (chainOf c) missing limit final size j t out mine → Going gens k (rowsOf b) (chainOf c) missing limit final size r t out mine
+  going-next j r a N I =
+      let e : j + (r - j) ≡ r = omega (arith, N .low) in
+      subst (λ (i : ℕ). Going gens k (rowsOf b) (chainOf c) missing limit final size i t out mine) e
+      (going-past (r - j) j a (omega (arith, N .high)) (λ i p q. N .none i p (omega arith)) I)

@@ -92,34 +92,33 @@ pub fn walk(
     let n = gens.len();
     let mut marks = [0u8; 4096];
     sieve::sieve(gens, h, start, k, missing, firsts, stretches, &mut marks);
+    let mut j = sieve::next_marked(&marks, start, n);
+    if j == n {
+        return t;
+    }
     let mut mine = [0u64; 4096];
     let mut u = t;
-    let mut j = start;
     while j < n {
         if u.found == limit {
             return u;
         }
-        if marks[j] == 0 {
-            j += 1;
-        } else {
-            let x = h[j];
-            residues::child(h, x, &mut mine);
-            u = walk(
-                gens,
-                &mine[..n],
-                j + 1,
-                missing - 1,
-                k,
-                b.insert(x),
-                push(c, j),
-                u,
-                limit,
-                firsts,
-                stretches,
-                out,
-            );
-            j += 1;
-        }
+        let x = h[j];
+        residues::child(h, x, &mut mine);
+        u = walk(
+            gens,
+            &mine[..n],
+            j + 1,
+            missing - 1,
+            k,
+            b.insert(x),
+            push(c, j),
+            u,
+            limit,
+            firsts,
+            stretches,
+            out,
+        );
+        j = sieve::next_marked(&marks, j + 1, n);
     }
     u
 }

@@ -24,6 +24,7 @@ use Rattle.walk.specs.Records.{State, run}
 use Rattle.walk.specs.Walk.{search, stateOf}
 use Rattle.walk.specs.laws.Search.{search-is}
 use Rattle.listing.specs.declared.Listing.{Listing}
+use Rattle.listing.specs.Walked.{start}
 use Rattle.listing.specs.Listing.{records, recordLength, flat, fitting, Asked, Listed}
 use Rattle.listing.specs.laws.Run.{fitting-le, fitting-none, afterAll, run-limit}
 
@@ -59,10 +60,6 @@ listed-below gens targets k l limit buffer e h =
       shown = sym (fitting-none (recordLength targets k) (length buffer));
       buffer = ap (λ (x : ℕ). drop x buffer) (let q : 0 ≡ 0 * recordLength targets k = omega arith in q);
     }
-
--- the state before the first record
-abbrev pub start : List ℕ → State
-start buffer = record { found = 0; shown = 0; at = 0; buf = buffer }
 
 pub listed-run : (gens targets : List ℕ) (k limit : ℕ) (buffer : List ℕ) → dim word targets ≤ k → (l : ℕ) → l ≡ dim word targets → (t : Tally) (last : List ℕ)
     → stateOf t last ≡ run limit (start buffer) (search gens k (basisOf word targets) [] (length gens) 0 (k - dim word targets))
