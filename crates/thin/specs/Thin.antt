@@ -2,13 +2,14 @@
 --   boundOf ranks v                 == the bound on the rank of the generators with residue v
 --   Light bound x y w p left        == the pair of y, of weight w, and x + y does not reach left: either y is too light, or the pair is
 --   Unreached .. heavy weights      == no value of the list `heavy`, with its weight beside it, does
---   Small p need top ranks          == no product of these is large; no rank is above top
+--   Small p top ranks               == p and top are small; no rank is above top
 --   Heavies .. heavy weights n j    == each number from j on that is not known and heavy has its value and weight among the first n of the lists
 --   Ruled .. lo marks               == an unmarked number from lo on is known or ruled out
 --   Seen h lo hi marks              == an unmarked number from lo on and below hi is known
 --   Marking h start ranks marks     == what `thin` and `cut` ask
 --   Weighing .. n j marks           == the numbers from j on are ruled, and the heavy ones of them listed
--- Laws: laws/Thin. Assumes nothing.
+--   Weighed .. n j old marks        == the same, and the marks below j are the old ones
+-- Laws: laws/Thin, laws/Weigh, laws/Cut. Assumes nothing.
 use mathlib.Core.Path.{_≡_}
 use mathlib.Core.Logic.{_≢_, _⊎_}
 use mathlib.Core.Bool.{true, false}
