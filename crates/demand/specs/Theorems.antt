@@ -4,13 +4,13 @@
 -- The definitions: catalogue (Catalogue), rank (Rank), posed (problems), entries and Solution (linear, Entry), Rank and Computes (linear, Rank). Assumes nothing.
 use mathlib.Core.Path.{_≡_, refl, sym, ap, _∙_, subst}
 use mathlib.Core.Logic.{_⊎_, inl, inr, _↔_}
-use mathlib.Core.Bool.{Bool, true, false, not}
+use mathlib.Core.Bool.{not}
 use mathlib.Core.List.{List, [], _∷_, _++_, map, List·Memᴰ, List·Memᴰ·head}
 use Prim.Native.Nat.{ℕ, _+_, _-_, _*_, _^_, _<_, _≤_}
 use native.Mathlib.Omega.{arith}
 use lib.ListN.{length, take, drop}
 use lib.Dec.{ltb, eqb}
-use borrow.Author.Tests.{eqb-true, ltb-false}
+use borrow.Author.Tests.{eqb-true, ltb-false, not-false}
 use Rattle.kinds.specs.Refusal.{accepted, refuse}
 use Rattle.kinds.specs.RefusalLaws.{accepted-inj, follow-inv, refuse-inv}
 use Rattle.words.specs.Buffers.{filled}
@@ -171,8 +171,4 @@ unfolding rank
 rank-means number p q r k gs ts old a e =
     let i = follow-inv (posed number p q r gs ts []) (λ x. refuse 8 (not (eqb k 0)) (ranking (x .generators) (x .targets) old)) a e in
     let j = refuse-inv 8 (not (eqb k 0)) (ranking (i .0 .generators) (i .0 .targets) old) a (i .2) in
-    (i .0, i .1, eqb-true k 0 (is-true (eqb k 0) (j .0)), ranking-means (i .0 .generators) (i .0 .targets) old a (j .1))
-  where
-    is-true : (t : Bool) → not t ≡ false → t ≡ true
-    is-true true e = refl
-    is-true false e = sym e
+    (i .0, i .1, eqb-true k 0 (not-false (eqb k 0) (j .0)), ranking-means (i .0 .generators) (i .0 .targets) old a (j .1))

@@ -2,9 +2,10 @@
 --   need-inv     there was a value, and what f says of it is the answer
 --   refuse-inv   the test did not hold, and the rest is the answer
 --   follow-inv   the first answer was accepted, and what f says of its value is the answer
+--   neither      of two tests joined in one refusal that did not apply, neither holds
 -- Assumes nothing.
 use mathlib.Core.Path.{_≡_, refl}
-use mathlib.Core.Bool.{Bool, true, false}
+use mathlib.Core.Bool.{Bool, true, false, _||_, true≢false}
 use mathlib.Core.Option.{Option, none, some}
 use Prim.Native.Nat.{ℕ}
 use native.Mathlib.Omega.{arith}
@@ -24,3 +25,7 @@ refuse-inv e false o x q = (refl, q)
 pub follow-inv : {A B : Type 0} (o : Answer A) (f : A → Answer B) (x : B) → follow o f ≡ accepted x → (a : A) × (o ≡ accepted a) × (f a ≡ accepted x)
 follow-inv (refused e) f x q = absurd (let z : _≡_ {A = ℕ} 0 1 = cc in omega arith)
 follow-inv (accepted a) f x q = (a, refl, q)
+
+pub neither : (a b : Bool) → a || b ≡ false → (a ≡ false) × (b ≡ false)
+neither true b e = absurd (true≢false e)
+neither false b e = (refl, e)

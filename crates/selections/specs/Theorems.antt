@@ -5,14 +5,14 @@
 -- Assumes nothing.
 use mathlib.Core.Path.{_≡_, refl, sym, ap, _∙_, subst}
 use mathlib.Core.Logic.{_≢_, _↔_}
-use mathlib.Core.Bool.{Bool, true, false, not, _||_, true≢false, false≢true}
+use mathlib.Core.Bool.{Bool, true, false, not}
 use mathlib.Core.List.{List, [], _∷_, List·Memᴰ}
 use Prim.Native.Nat.{ℕ, _<_}
 use lib.ListN.{length}
 use lib.Dec.{eqb, ltb}
-use borrow.Author.Tests.{eqb-true, ltb-true}
+use borrow.Author.Tests.{eqb-true, ltb-true, not-true, not-false}
 use Rattle.kinds.specs.Refusal.{accepted, refuse}
-use Rattle.kinds.specs.RefusalLaws.{accepted-inj, follow-inv, refuse-inv}
+use Rattle.kinds.specs.RefusalLaws.{accepted-inj, follow-inv, refuse-inv, neither}
 use Rattle.problems.specs.Problem.{Problem, posed}
 use Rattle.lists.specs.Lists.{repeats}
 use Rattle.linear.specs.Span.{Span}
@@ -37,26 +37,18 @@ in-span xs v = (
   λ s. yes-inside word (basisOf word xs) (basisOf-reduced word xs) v (basisOf-span word xs v .1 s),
 )
 
-false-not : (b : Bool) → not b ≡ false → b ≡ true
-false-not true e = refl
-false-not false e = absurd (true≢false e)
-
 pub not-missed : (gens targets sel : List ℕ) → (missedBy gens targets sel ≡ false) ↔ Computes word targets (chosen word gens sel)
 unfolding missedBy
 not-missed gens targets sel = (
-  λ e t m. in-span (chosen word gens sel) t .0 (false-not (inside word (basisOf word (chosen word gens sel)) t) (anyOf-no (λ t. not (inside word (basisOf word (chosen word gens sel)) t)) targets e t m)),
+  λ e t m. in-span (chosen word gens sel) t .0 (not-false (inside word (basisOf word (chosen word gens sel)) t) (anyOf-no (λ t. not (inside word (basisOf word (chosen word gens sel)) t)) targets e t m)),
   λ h. no-anyOf (λ t. not (inside word (basisOf word (chosen word gens sel)) t)) targets (λ t m. ap not (in-span (chosen word gens sel) t .1 (h t m))),
 )
-
-or-false : (a b : Bool) → a || b ≡ false → (a ≡ false) × (b ≡ false)
-or-false true b e = absurd (true≢false e)
-or-false false b e = (refl, e)
 
 pub fits : (n : ℕ) (sel : List ℕ) → misfit n sel ≡ false → Fits n sel
 unfolding misfit
 fits n sel e =
-    let o = or-false (anyOf (λ e. not (ltb e n)) sel) (repeats sel) e in
-    record { numbers = λ x m. ltb-true x n (false-not (ltb x n) (anyOf-no (λ e. not (ltb e n)) sel (o .0) x m)); once = o .1 }
+    let o = neither (anyOf (λ e. not (ltb e n)) sel) (repeats sel) e in
+    record { numbers = λ x m. ltb-true x n (not-false (ltb x n) (anyOf-no (λ e. not (ltb e n)) sel (o .0) x m)); once = o .1 }
 
 -- ---- the two answers
 pub record SumMeans (x : Problem) (sel : List ℕ) (form : ℕ) (b : Bool) : Type 0 where
@@ -81,10 +73,6 @@ pub record RedundantMeans (x : Problem) (sel : List ℕ) (j : ℕ) (b : Bool) : 
 member : (j : ℕ) (sel : List ℕ) → anyOf (eqb j) sel ≡ true → List·Memᴰ j sel
 member j sel e = let r = anyOf-yes (eqb j) sel e in subst (λ (y : ℕ). List·Memᴰ y sel) (sym (eqb-true j (r .0) (r .2))) (r .1)
 
-not-true : (b : Bool) → not b ≡ true → b ≡ false
-not-true true e = absurd (false≢true e)
-not-true false e = refl
-
 pub redundant-means : (number p q r : ℕ) (gs ts sel : List ℕ) (j : ℕ) (b : Bool) → isRedundant number p q r gs ts sel j ≡ accepted b
     → (x : Problem) × (posed number p q r gs ts [] ≡ accepted x) × RedundantMeans x sel j b
 unfolding isRedundant redundantAnswer
@@ -102,7 +90,7 @@ redundant-means number p q r gs ts sel j b e =
       record {
         fits = fits (length G) sel (a .0);
         spans = not-missed G T sel .0 (c .0);
-        selected = member j sel (false-not (anyOf (eqb j) sel) (d .0));
+        selected = member j sel (not-false (anyOf (eqb j) sel) (d .0));
         exactly = (λ t. not-missed G T (without j sel) .0 (not-true (missedBy G T (without j sel)) (q ∙ t)), λ h. sym q ∙ ap not (not-missed G T (without j sel) .1 h));
       },
     )

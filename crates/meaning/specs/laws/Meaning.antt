@@ -2,7 +2,7 @@
 -- they agree at every input; and the first row whose form is not the target's is found. Assumes nothing.
 use mathlib.Core.Path.{_≡_, refl, sym, ap, ap₂, _∙_, subst}
 use mathlib.Core.Logic.{_≢_, _↔_}
-use mathlib.Core.Bool.{Bool, true, false, not, _&&_, _||_, cond, true≢false}
+use mathlib.Core.Bool.{Bool, true, false, not, _&&_, _||_, cond}
 use mathlib.Core.List.{List, [], _∷_}
 use mathlib.Core.Option.{Option, none, some}
 use Prim.Native.Nat.{ℕ, zero, suc, _+_, _*_, _^_, _<_, _≤_}
@@ -13,7 +13,7 @@ use lib.ListN.{length, getD}
 use lib.Dec.{eqb, ltb}
 use lib.Bits.{xor-lt}
 use lib.Pow.{pow-pos}
-use borrow.Author.Tests.{eq-eqb, ne-eqb, eqb-true}
+use borrow.Author.Tests.{eq-eqb, ne-eqb, eqb-true, not-false}
 use Rattle.linear.specs.Bit.{bit}
 use Rattle.linear.specs.Word.{scaleW}
 use Rattle.linear.specs.laws.Bit.{xorB}
@@ -21,7 +21,7 @@ use Rattle.kinds.specs.Kinds.{kindNumbered}
 use Rattle.kinds.specs.Sizes.{sizes}
 use Rattle.kinds.specs.SizeLaws.{sizes-bounds}
 use Rattle.kinds.specs.Refusal.{accepted, need}
-use Rattle.kinds.specs.RefusalLaws.{accepted-inj, need-inv, refuse-inv}
+use Rattle.kinds.specs.RefusalLaws.{accepted-inj, need-inv, refuse-inv, neither}
 use Rattle.words.specs.Masks.{wide, zeroIn}
 use Rattle.kinds.specs.declared.Kind.{Kind}
 use Rattle.kinds.specs.declared.Kind.the-variants as kind
@@ -214,19 +214,11 @@ known-inv (some kind.Circ) kd e = (e, λ z. absurd (let z : _≡_ {A = ℕ} 0 1 
 known-inv (some kind.Mat) kd e = (e, λ z. absurd (let z : _≡_ {A = ℕ} 0 1 = cc in omega arith))
 known-inv (some kind.List) kd e = absurd (let z : _≡_ {A = ℕ} 0 1 = cc in omega arith)
 
-or-false : (a b : Bool) → a || b ≡ false → (a ≡ false) × (b ≡ false)
-or-false true b e = absurd (true≢false e)
-or-false false b e = (refl, e)
-
-not-false : (a : Bool) → not a ≡ false → a ≡ true
-not-false true e = refl
-not-false false e = absurd (true≢false e)
-
 pub lengths-inv : (k u : ℕ) (xs ys rows : List ℕ) → lengths k u xs ys rows ≡ false → (length xs ≡ k) × (length ys ≡ k) × (length rows ≡ u)
 unfolding lengths
 lengths-inv k u xs ys rows e =
-    let a = or-false (not (eqb (length xs) k)) (not (eqb (length ys) k) || not (eqb (length rows) u)) e in
-    let b = or-false (not (eqb (length ys) k)) (not (eqb (length rows) u)) (a .1) in
+    let a = neither (not (eqb (length xs) k)) (not (eqb (length ys) k) || not (eqb (length rows) u)) e in
+    let b = neither (not (eqb (length ys) k)) (not (eqb (length rows) u)) (a .1) in
     (eqb-true (length xs) k (not-false (eqb (length xs) k) (a .0)), eqb-true (length ys) k (not-false (eqb (length ys) k) (b .0)), eqb-true (length rows) u (not-false (eqb (length rows) u) (b .1)))
 
 judged-inv : (kd : Kind) (p q r n m u k : ℕ) (xs ys rows : List ℕ) (x : Option ℕ × ℕ) → judged kd p q r n m u k xs ys rows ≡ accepted x

@@ -5,7 +5,7 @@
 --   posed-kind       an accepted problem has a kind and sizes
 -- Assumes nothing.
 use mathlib.Core.Path.{_≡_, refl, sym, ap, _∙_}
-use mathlib.Core.Bool.{Bool, true, false, not, _||_, true≢false}
+use mathlib.Core.Bool.{false, not, _||_}
 use mathlib.Core.List.{List}
 use mathlib.Core.Option.{Option, some}
 use Prim.Native.Nat.{ℕ, _*_, _≤_}
@@ -16,17 +16,13 @@ use borrow.Author.Tests.{ltb-false, eqb-true, not-false}
 use Rattle.kinds.specs.Kinds.{kindNumbered}
 use Rattle.kinds.specs.Sizes.{sizes}
 use Rattle.kinds.specs.Refusal.{Answer, accepted, need, refuse}
-use Rattle.kinds.specs.RefusalLaws.{accepted-inj, need-inv, refuse-inv}
+use Rattle.kinds.specs.RefusalLaws.{accepted-inj, need-inv, refuse-inv, neither}
 use Rattle.kinds.specs.declared.Kind.{Kind}
 use Rattle.words.specs.Masks.{wide, zeroIn}
 use Rattle.lists.specs.Lists.{repeats, unlike}
 use Rattle.maps.specs.Generators.{generatorForms, generatorCount, countOf}
 use Rattle.problems.specs.Problem.{Problem, problem, targetForms, listed, mapped, sorted, posed}
 use Rattle.problems.specs.laws.Refusals.{counted}
-
-neither : (a b : Bool) → a || b ≡ false → (a ≡ false) × (b ≡ false)
-neither true b e = absurd (true≢false e)
-neither false b e = (refl, e)
 
 like : (c u : ℕ) (gs ts : List ℕ) → unlike c u gs ts ≡ false → (length gs ≡ c) × (length ts ≡ u)
 like c u gs ts e =
