@@ -12,8 +12,8 @@ use Rattle.bases.specs.Basis.{rowsOf, Holds}
 use Rattle.bases.specs.declared.Basis.{Basis}
 use Rattle.residues.specs.Residues.{residues, Mapped}
 use Rattle.residues.specs.laws.Held.{holds-dim}
-use Rattle.walk.specs.declared.Tally.{Tally}
-use Rattle.walk.specs.Records.{run}
+use Rattle.records.specs.declared.Tally.{Tally}
+use Rattle.records.specs.Records.{run}
 use Rattle.walk.specs.Walk.{search, Node}
 use Rattle.listing.specs.Listing.{Asked, Listed}
 use Rattle.listing.specs.Walked.{start, Rooted, Tallied}

@@ -9,9 +9,10 @@ use Prim.Native.Nat.{ℕ, _+_, _-_, _≤_}
 use lib.ListN.{length}
 use Rattle.bases.specs.Basis.{rowsOf, Valid}
 use Rattle.bases.specs.declared.Basis.{Basis}
-use Rattle.walk.specs.declared.Tally.{Tally}
-use Rattle.walk.specs.Records.{State, run}
-use Rattle.walk.specs.Walk.{search, stateOf}
+use Rattle.records.specs.declared.Tally.{Tally}
+use Rattle.records.specs.Records.{State, run}
+use Rattle.records.specs.Keep.{stateOf}
+use Rattle.walk.specs.Walk.{search}
 
 abbrev pub start : List ℕ → State
 start buffer = record { found = 0; shown = 0; at = 0; buf = buffer }

@@ -1,7 +1,7 @@
 // The entries for k, counted and written as records.
 use bases::Basis;
-use walk::Chain;
-use walk::Tally;
+use records::Chain;
+use records::Tally;
 ghost use Rattle.listing.specs.Listing.{Asked, Listed};
 ghost use Rattle.listing.specs.Walked.{Rooted, Tallied};
 

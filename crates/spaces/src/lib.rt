@@ -2,7 +2,7 @@
 use bases::Basis;
 use choice::Choice;
 use problems::Posed;
-use walk::Tally;
+use records::Tally;
 ghost use mathlib.Core.Path.{_≡_};
 ghost use Prim.Native.Nat.{_≤_};
 ghost use lib.ListN.{length};

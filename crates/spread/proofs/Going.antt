@@ -22,10 +22,10 @@ use Rattle.choice.specs.declared.Choice.{Choice}
 use Rattle.choice.specs.Choice.{numbersOf, recordOf, formulaRecord, chose-record}
 use Rattle.choice.specs.laws.Choosing.{Added}
 use Rattle.choice.specs.laws.Writing.{numbers-length}
-use Rattle.walk.specs.declared.Tally.{Tally}
-use Rattle.walk.specs.Records.{State, note, run, Sane}
-use Rattle.walk.specs.Walk.{stateOf}
-use Rattle.walk.specs.laws.Records.{run-append, run-full, run-sane}
+use Rattle.records.specs.declared.Tally.{Tally}
+use Rattle.records.specs.Records.{State, note, run, Sane}
+use Rattle.records.specs.Keep.{stateOf}
+use Rattle.records.specs.laws.Records.{run-append, run-full, run-sane}
 use Rattle.spread.specs.Spread.{formulaeFrom, Node}
 
 pub not-yes : (b : Bool) → not b ≡ true → b ≡ false

@@ -11,10 +11,10 @@ use Rattle.rows.specs.Rows.{rowOf}
 use Rattle.choice.specs.declared.Choice.{Choice}
 use Rattle.choice.specs.Choice.{numbersOf, formsOf, Whole, recordOf}
 use Rattle.choice.specs.laws.Writing.{numbers-length}
-use Rattle.walk.specs.declared.Tally.{Tally}
-use Rattle.walk.specs.Records.{note}
-use Rattle.walk.specs.Walk.{stateOf}
-use Rattle.walk.specs.laws.Records.{note-full, note-fits, note-short}
+use Rattle.records.specs.declared.Tally.{Tally}
+use Rattle.records.specs.Records.{note}
+use Rattle.records.specs.Keep.{stateOf}
+use Rattle.records.specs.laws.Records.{note-full, note-fits, note-short}
 
 pub record-length : (c : Choice) (targets : List ℕ) → Whole c → length (recordOf c targets) ≡ c .len + length targets
 record-length c targets W =

@@ -12,9 +12,9 @@ use Rattle.bases.specs.Basis.{rowsOf, Valid}
 use Rattle.bases.specs.declared.Basis.{Basis}
 use Rattle.choice.specs.declared.Choice.{Choice}
 use Rattle.choice.specs.Choice.{numbersOf, Whole, Chose, formulaRecord}
-use Rattle.walk.specs.declared.Tally.{Tally}
-use Rattle.walk.specs.Records.{Sane}
-use Rattle.walk.specs.Walk.{stateOf}
+use Rattle.records.specs.declared.Tally.{Tally}
+use Rattle.records.specs.Records.{Sane}
+use Rattle.records.specs.Keep.{stateOf}
 
 abbrev pub formulaeFrom : (gens w targets C p : List ℕ) → ℕ → ℕ → ℕ → List (List ℕ)
 formulaeFrom gens w targets C p n i m = spread word gens w (formulaRecord gens targets) C p n i m

@@ -1,14 +1,14 @@
 // The formulae of a space, each once and in order. Each call of the recursion yields one, so there is little work between two.
 use bases::Basis;
 use choice::Choice;
-use walk::Tally;
+use records::Tally;
 ghost use mathlib.Core.Path.{_≡_};
 ghost use Prim.Native.Nat.{_-_};
 ghost use lib.ListN.{length};
 ghost use Rattle.bases.specs.Basis.{rowsOf};
 ghost use Rattle.choice.specs.Choice.{numbersOf, recordOf};
-ghost use Rattle.walk.specs.Records.{note, run};
-ghost use Rattle.walk.specs.Walk.{stateOf};
+ghost use Rattle.records.specs.Records.{note, run};
+ghost use Rattle.records.specs.Keep.{stateOf};
 ghost use Rattle.spread.specs.Spread.{formulaeFrom, Keeping, Node};
 
 // Counts the formula whose products `c` holds, unless the limit is reached, and writes its record where it fits.

@@ -22,11 +22,12 @@ use Rattle.residues.specs.Barren.{Barren}
 use Rattle.sieve.specs.Sieve.{Judged, Sieved, NextMarked}
 use Rattle.residues.specs.laws.Known.{known-ne}
 use Rattle.residues.specs.laws.Child.{residue-at, residues-length, child-residues}
-use Rattle.walk.specs.declared.Chain.{Chain}
-use Rattle.walk.specs.declared.Tally.{Tally}
-use Rattle.walk.specs.Records.{State, run, Sane}
-use Rattle.walk.specs.Walk.{search, chainOf, stateOf, Tidy, Pushed, Node}
-use Rattle.walk.specs.laws.Records.{run-append, run-full, run-sane}
+use Rattle.records.specs.declared.Chain.{Chain}
+use Rattle.records.specs.declared.Tally.{Tally}
+use Rattle.records.specs.Records.{State, run, Sane}
+use Rattle.records.specs.Keep.{chainOf, stateOf, Tidy, Pushed}
+use Rattle.walk.specs.Walk.{search, Node}
+use Rattle.records.specs.laws.Records.{run-append, run-full, run-sane}
 use Rattle.walk.specs.laws.Search.{turn-end, turn-skip, turn-down, turn-drop}
 
 pub record Going (gens : List ℕ) (k : ℕ) (C p : List ℕ) (missing limit : ℕ) (final : State) (size j : ℕ) (t : Tally) (out mine : List ℕ) : Type 0 where

@@ -1,3 +1,2 @@
 -- What the proofs of the walk share.
-mod Keeping
 mod Going

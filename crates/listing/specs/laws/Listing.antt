@@ -19,9 +19,10 @@ use Rattle.linear.specs.laws.Select.{first-mem}
 use Rattle.linear.specs.laws.Entry.{sameBasis-yes, sameBasis-no, entries-sound}
 use Rattle.linear.specs.laws.Rank.{entries-below}
 use Rattle.linear.specs.laws.Count.{entries-count}
-use Rattle.walk.specs.declared.Tally.{Tally}
-use Rattle.walk.specs.Records.{State, run}
-use Rattle.walk.specs.Walk.{search, stateOf}
+use Rattle.records.specs.declared.Tally.{Tally}
+use Rattle.records.specs.Records.{State, run}
+use Rattle.records.specs.Keep.{stateOf}
+use Rattle.walk.specs.Walk.{search}
 use Rattle.walk.specs.laws.Search.{search-is}
 use Rattle.listing.specs.declared.Listing.{Listing}
 use Rattle.listing.specs.Walked.{start}

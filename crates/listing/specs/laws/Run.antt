@@ -14,8 +14,8 @@ use native.Mathlib.Nat.{div-eq-of-lt, div-eq-sub-div, suc-mul}
 use lib.ListN.{length, take, drop, length-take, take-append-drop}
 use lib.Seq.{paste, length-paste, take-paste, drop-paste, take-length, drop-drop, take-nil}
 use Rattle.linear.specs.laws.Span.{mem-cons}
-use Rattle.walk.specs.Records.{State, note, run}
-use Rattle.walk.specs.laws.Records.{note-fits, note-short, run-full}
+use Rattle.records.specs.Records.{State, note, run}
+use Rattle.records.specs.laws.Records.{note-fits, note-short, run-full}
 use Rattle.listing.specs.Listing.{flat, fitting}
 
 pub fitting-le : (n c w : ℕ) → fitting n c w ≤ c

@@ -28,9 +28,9 @@ use Rattle.bases.specs.Basis.{rowsOf, Holds}
 use Rattle.rows.specs.Rows.{rowOf}
 use Rattle.choice.specs.declared.Choice.{Choice}
 use Rattle.choice.specs.Choice.{Whole, formulaRecord}
-use Rattle.walk.specs.declared.Tally.{Tally}
-use Rattle.walk.specs.Records.{State, run}
-use Rattle.walk.specs.Walk.{stateOf}
+use Rattle.records.specs.declared.Tally.{Tally}
+use Rattle.records.specs.Records.{State, run}
+use Rattle.records.specs.Keep.{stateOf}
 use Rattle.listing.specs.Listing.{flat, fitting}
 use Rattle.listing.specs.laws.Run.{afterAll, run-limit}
 use Rattle.spread.specs.Spread.{formulaeFrom, Node}

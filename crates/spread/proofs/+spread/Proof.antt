@@ -6,8 +6,8 @@ use Prim.Native.Nat.{ℕ, _-_, _<_}
 use lib.ListN.{length}
 use Rattle.bases.specs.Basis.{rowsOf}
 use Rattle.choice.specs.Choice.{numbersOf}
-use Rattle.walk.specs.Records.{run}
-use Rattle.walk.specs.Walk.{stateOf}
+use Rattle.records.specs.Records.{run}
+use Rattle.records.specs.Keep.{stateOf}
 use Rattle.spread.specs.Spread.{formulaeFrom}
 use Rattle.spread.proofs.Going.{Going, not-yes, going-leaf, going-full, going-stop, going-end, going-skip, node-down, going-down}
 use borrow.Fn.Kinds.{In}

@@ -12,8 +12,9 @@ use borrow.Fn.PlainCycle.{Measures, is, falls, and}
 use Rattle.bases.specs.Basis.{rowsOf}
 use Rattle.residues.specs.Residues.{known}
 use Rattle.residues.specs.laws.Child.{residues-length}
-use Rattle.walk.specs.Records.{run}
-use Rattle.walk.specs.Walk.{search, chainOf, stateOf}
+use Rattle.records.specs.Records.{run}
+use Rattle.records.specs.Keep.{chainOf, stateOf}
+use Rattle.walk.specs.Walk.{search}
 use Rattle.walk.specs.laws.Search.{leaf-yes, leaf-no}
 use Rattle.walk.proofs.Going.{Going, going-next, going-full, going-end, node-down, going-down}
 use Rattle.walk.proofs.walk.Reads as walk
@@ -24,8 +25,8 @@ use Rattle.residues.proofs.child.Reads as child-reads
 use Rattle.sieve.proofs.next_marked.Reads as next-marked-reads
 use Rattle.sieve.proofs.sieve.Reads as sieve-reads
 use Rattle.residues.proofs.spanned.Reads as spanned-reads
-use Rattle.walk.proofs.keep.Reads as keep-reads
-use Rattle.walk.proofs.push.Reads as push-reads
+use Rattle.records.proofs.keep.Reads as keep-reads
+use Rattle.records.proofs.push.Reads as push-reads
 use Rattle.walk.proofs.+walk.{statement}
 use Rattle.walk.proofs.+walk.Tie.{close}
 

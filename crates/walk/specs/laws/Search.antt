@@ -27,7 +27,7 @@ use Rattle.residues.specs.Residues.{residues, known, withResidue}
 use Rattle.residues.specs.laws.Known.{known-yes, known-no}
 use Rattle.residues.specs.laws.Child.{with-zero}
 use Rattle.residues.specs.Barren.{Barren}
-use Rattle.walk.specs.Records.{State, note, run}
+use Rattle.records.specs.Records.{State, note, run}
 use Rattle.walk.specs.Walk.{search}
 
 pub search-is : (gens targets : List ℕ) (k : ℕ) → dim word targets ≤ k

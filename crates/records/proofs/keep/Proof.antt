@@ -1,14 +1,14 @@
--- `walk::keep` meets its contract: the entry is counted up to the limit, and written where it fits. Assumes nothing.
+-- `records::keep` meets its contract: the entry is counted up to the limit, and written where it fits. Assumes nothing.
 use native.Mathlib.Omega.{arith}
 use mathlib.Core.Path.{_≡_, sym}
 use Prim.Native.Nat.{_+_, _-_, _≤_}
 use lib.ListN.{length}
 use Rattle.bases.specs.Basis.{rowsOf, rows-length}
-use Rattle.walk.specs.Walk.{chainOf}
-use Rattle.walk.proofs.Keeping.{chain-length, keep-full, keep-fits, keep-short}
+use Rattle.records.specs.Keep.{chainOf}
+use Rattle.records.proofs.Keeping.{chain-length, keep-full, keep-fits, keep-short}
 use borrow.Author.Needs.{needs}
-use Rattle.walk.proofs.keep.Statement.{statement}
-use Rattle.walk.proofs.keep.Tie as tie
+use Rattle.records.proofs.keep.Statement.{statement}
+use Rattle.records.proofs.keep.Tie as tie
 
 returns : tie.Need-returns
 returns c = keep-full (c .before .before .before .args .limit) (c .before .before .before .args .t) (c .before .before .before .args .out .now) (chainOf (c .before .before .before .args .c)) (rowsOf (c .before .before .before .args .b)) (c .if1 .taken)

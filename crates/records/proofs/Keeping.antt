@@ -9,11 +9,11 @@ use native.Mathlib.Omega.{arith}
 use native.Mathlib.Numerals.{add-one}
 use lib.ListN.{length, take, drop, set, length-append, length-set}
 use lib.Seq.{paste, take-paste, drop-paste, take-length, drop-drop, take-suc-set, length-take-le}
-use Rattle.walk.specs.declared.Chain.{Chain}
-use Rattle.walk.specs.declared.Tally.{Tally}
-use Rattle.walk.specs.Records.{note}
-use Rattle.walk.specs.Walk.{chainOf, stateOf, Tidy, Pushed}
-use Rattle.walk.specs.laws.Records.{note-full, note-fits, note-short}
+use Rattle.records.specs.declared.Chain.{Chain}
+use Rattle.records.specs.declared.Tally.{Tally}
+use Rattle.records.specs.Records.{note}
+use Rattle.records.specs.Keep.{chainOf, stateOf, Tidy, Pushed}
+use Rattle.records.specs.laws.Records.{note-full, note-fits, note-short}
 
 pub pushed : (c : Chain) (j m : ℕ) → Tidy c m → 0 < m → Pushed c j (record { numbers = set (c .numbers) (c .len) j; len = c .len + 1 })
 pushed c j m T h =

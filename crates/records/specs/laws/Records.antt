@@ -13,7 +13,7 @@ use lib.ListN.{length}
 use lib.Seq.{paste, length-paste}
 use lib.Dec.{eqb, leb}
 use borrow.Author.Tests.{eq-eqb, ne-eqb, le-leb, lt-leb, leb-true, eqb-false}
-use Rattle.walk.specs.Records.{State, note, run, Sane}
+use Rattle.records.specs.Records.{State, note, run, Sane}
 
 pub run-append : (limit : ℕ) (st : State) (xs ys : List (List ℕ)) → run limit st (xs ++ ys) ≡ run limit (run limit st xs) ys
 unfolding run

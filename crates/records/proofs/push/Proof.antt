@@ -1,9 +1,9 @@
--- `walk::push` meets its contract: the number stands after the others. Assumes nothing.
+-- `records::push` meets its contract: the number stands after the others. Assumes nothing.
 use native.Mathlib.Omega.{arith}
-use Rattle.walk.proofs.Keeping.{pushed}
+use Rattle.records.proofs.Keeping.{pushed}
 use borrow.Author.Needs.{needs}
-use Rattle.walk.proofs.push.Statement.{statement}
-use Rattle.walk.proofs.push.Tie as tie
+use Rattle.records.proofs.push.Statement.{statement}
+use Rattle.records.proofs.push.Tie as tie
 
 mul-numbers : tie.Need-mul-numbers
 mul-numbers c = search needs

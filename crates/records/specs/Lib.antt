@@ -1,0 +1,4 @@
+-- The records of the entries.
+pub mod Records
+pub mod Keep
+pub mod laws
