@@ -10,7 +10,7 @@ use Rattle.problems.specs.Problem.{posed}
 use Rattle.pieces.specs.RefusedText.{refusedText}
 use Rattle.formula_lines.specs.FormulaLines.{formulaeText}
 use Rattle.spaces.specs.Spaces.{Formulae, formulaeOf}
-use Rattle.answers.specs.Answers.{listingRoom, printed}
+use Rattle.pages.specs.Pages.{listingRoom, printed}
 
 abbrev pub formulaeAnswer : (e k t : ℕ) → Answer Formulae → List ℕ
 formulaeAnswer e k t (refused n) = refusedText n

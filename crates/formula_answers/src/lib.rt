@@ -5,8 +5,8 @@ ghost use lib.ListN.{length, take};
 ghost use Rattle.problems.specs.Problem.{posed};
 ghost use Rattle.formula_answers.specs.FormulaAnswers.{entryFormulae};
 ghost use Rattle.formula_answers.specs.laws.Formulae.{Counts};
-use answers::Targets;
 use spaces::Listed;
+use targets::Targets;
 
 // What is printed of an entry with these rows, for a problem with t targets, from the start of a page; its length.
 fn put_entry(
@@ -28,7 +28,7 @@ fn put_entry(
     let said = spaces::formulae(number, p, q, r, gs, ts, rows, &mut listing);
     let k = rows.len();
     match said {
-        Listed::Refused(e) => answers::refused_page(e, page),
+        Listed::Refused(e) => pages::refused_page(e, page),
         Listed::All(n) => formula_lines::formulae_text(entry, &listing, k, t, n, true, page),
         Listed::More(n) => formula_lines::formulae_text(entry, &listing, k, t, n, false, page),
     }
@@ -49,8 +49,8 @@ pub fn entry_formulae(
     requires { ⌜ length (now page) ≡ 278528 ⌝ }
     ensures { λ e. ⌜ (take e (now (page .exit)) ≡ entryFormulae entry number p q r (now (gs .entry)) (now (ts .entry)) (now (rows .entry))) × (e ≤ 278528) ⌝ }
 {
-    match answers::targets_of(number, p, q, r, gs, ts, rows) {
-        Targets::Refused(e) => answers::refused_page(e, page),
+    match targets::targets_of(number, p, q, r, gs, ts, rows) {
+        Targets::Refused(e) => pages::refused_page(e, page),
         Targets::Are(t, ell) => put_entry(entry, number, p, q, r, t, gs, ts, rows, page),
     }
 }

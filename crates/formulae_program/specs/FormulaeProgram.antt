@@ -18,7 +18,7 @@ use Rattle.problem_files.specs.ProblemFile.{ProblemFile}
 use Rattle.problem_files.specs.declared.Purpose.the-variants as purpose
 use Rattle.search.specs.Catalogue.{Catalogued, catalogue}
 use Rattle.reports.specs.Reports.{countsText, formulaeNames}
-use Rattle.answers.specs.Answers.{listingRoom, printed}
+use Rattle.pages.specs.Pages.{listingRoom, printed}
 use Rattle.programs.specs.Programs.{inputOf}
 use Rattle.formula_answers.specs.FormulaAnswers.{entryFormulae}
 

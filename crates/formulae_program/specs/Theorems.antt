@@ -22,7 +22,7 @@ use Rattle.formula_lines.specs.FormulaLines.{formulaeText}
 use Rattle.formula_answers.specs.FormulaAnswers.{formulaeAnswer, entryFormulae}
 use Rattle.programs.specs.Programs.{inputOf}
 use Rattle.programs.specs.laws.Answered.{file-posed, catalogue-accepted}
-use Rattle.answers.specs.Answers.{listingRoom, printed}
+use Rattle.pages.specs.Pages.{listingRoom, printed}
 use Rattle.formulae_program.specs.FormulaeProgram.{Listed, listed, listedInput, rowsAt, firstPart, entryPart, entriesPart, formulaeProgram}
 use Rattle.formulae_program.specs.Plans.{planText, planTexts, Follows, Printing, Starts}
 use Rattle.formulae_program.specs.laws.Shown.{entry-accepted}

@@ -2,7 +2,7 @@
 ghost use mathlib.Core.Path.{_≡_};
 ghost use Prim.Native.Nat.{_-_, _<_, _≤_};
 ghost use lib.ListN.{length, take};
-ghost use Rattle.answers.specs.Answers.{listingRoom};
+ghost use Rattle.pages.specs.Pages.{listingRoom};
 ghost use Rattle.problem_files.specs.ProblemFile.{problemOf};
 ghost use Rattle.formulae_program.specs.FormulaeProgram.{headText, listed, listedInput};
 ghost use Rattle.formulae_program.specs.Plans.{planText, Ready, Starts};
@@ -32,7 +32,7 @@ fn plan_refused(n: u64, page: &mut [u8]) -> Plan
     requires { ⌜ length (now page) ≡ 278528 ⌝ }
     ensures { λ x. ⌜ Empty n x (now (page .exit)) ⌝ }
 {
-    let e = answers::refused_page(n, page);
+    let e = pages::refused_page(n, page);
     Plan {
         number: 0,
         p: 0,

@@ -13,7 +13,9 @@ use Rattle.kinds.specs.Refusal.{Answer, accepted, refuse, follow}
 use Rattle.problem_files.specs.ProblemFile.{ProblemFile, problemFile}
 use Rattle.problem_files.specs.declared.Purpose.{Purpose}
 use Rattle.problem_files.specs.declared.Purpose.the-variants as purpose
-use Rattle.answers.specs.Answers.{printed, catalogueReply, rankReply}
+use Rattle.pages.specs.Pages.{printed}
+use Rattle.catalogue_answers.specs.CatalogueAnswers.{catalogueReply}
+use Rattle.rank_answers.specs.RankAnswers.{rankReply}
 
 unfoldable pub inputOf : Purpose → List ℕ → Answer ProblemFile
 inputOf a s = refuse 1 (ltb 65536 (length s)) (problemFile a s 4096 4096)

@@ -2,7 +2,7 @@
 --   CatalogueAnswered, catalogue-answered   the Catalogue's text, of an answer that lists every entry, none twice
 --   RankAnswered, rank-answered             Rank's text, of an answer that is the least number of products
 -- So a program refuses exactly the inputs that are refused when read (`inputOf`). The definitions: inputOf, catalogueProgram, rankProgram (Programs), catalogueText (reports),
--- rankAnswer (answers), CatalogueMeans and RankMeans (search). Assumes nothing.
+-- rankAnswer (rank_answers), CatalogueMeans and RankMeans (demand). Assumes nothing.
 use Prim.Native.Nat.{ℕ}
 use mathlib.Core.Path.{_≡_, ap, _∙_}
 use mathlib.Core.List.{List, []}
@@ -21,7 +21,9 @@ use Rattle.ranks.specs.Rank.{rank}
 use Rattle.demand.specs.Theorems.{CatalogueMeans, catalogue-means, RankMeans, rank-means}
 use Rattle.fewest.specs.Fewest.{Ranking}
 use Rattle.reports.specs.Reports.{catalogueText}
-use Rattle.answers.specs.Answers.{listingRoom, printed, catalogueAnswer, catalogueReply, rankAnswer, rankReply}
+use Rattle.pages.specs.Pages.{listingRoom, printed}
+use Rattle.catalogue_answers.specs.CatalogueAnswers.{catalogueAnswer, catalogueReply}
+use Rattle.rank_answers.specs.RankAnswers.{rankAnswer, rankReply}
 use Rattle.programs.specs.Programs.{inputOf, replyTo, problemProgram, catalogueProgram, rankProgram}
 use Rattle.programs.specs.laws.Answered.{file-posed, catalogue-accepted, rank-accepted}
 

@@ -32,7 +32,8 @@ use Rattle.pieces.specs.Fields.{sizesText}
 use Rattle.inner.specs.Inner.{spacedText, innerText}
 use Rattle.reports.specs.Reports.{listsText, entryText, recordLines, countsText, catalogueText, rankHead, rankText}
 use Rattle.problem_files.specs.ProblemFile.{mapLines, settled, judged, formsOf, problemFile}
-use Rattle.answers.specs.Answers.{catalogueReply, rankReply}
+use Rattle.catalogue_answers.specs.CatalogueAnswers.{catalogueReply}
+use Rattle.rank_answers.specs.RankAnswers.{rankReply}
 use Rattle.programs.specs.Programs.{inputOf, problemProgram, catalogueProgram, rankProgram}
 
 pub worked-catalogue : catalogueProgram (107 ∷ 105 ∷ 110 ∷ 100 ∷ 44 ∷ 112 ∷ 44 ∷ 113 ∷ 44 ∷ 114 ∷ 44 ∷ 107 ∷ 10 ∷ 112 ∷ 111 ∷ 108 ∷ 121 ∷ 44 ∷ 50 ∷ 44 ∷ 51 ∷ 44 ∷ 48 ∷ 44 ∷ 53 ∷ 10 ∷ [])

@@ -36,8 +36,8 @@ fn reply(
     ensures { λ e. ⌜ (take e (now (page .exit)) ≡ replyTo purpose (problemOf kind p q r k (now (gs .entry)) (now (ts .entry)))) × (e ≤ 196608) ⌝ }
 {
     match purpose {
-        Purpose::Catalogue => answers::catalogue_reply(kind, p, q, r, k, gs, ts, page),
-        Purpose::Rank => answers::rank_reply(kind, p, q, r, k, gs, ts, page),
+        Purpose::Catalogue => catalogue_answers::catalogue_reply(kind, p, q, r, k, gs, ts, page),
+        Purpose::Rank => rank_answers::rank_reply(kind, p, q, r, k, gs, ts, page),
     }
 }
 
@@ -49,7 +49,7 @@ fn problem_program(purpose: Purpose, file: &[u8], page: &mut [u8]) -> usize
     let mut gs = [0u64; 4096];
     let mut ts = [0u64; 4096];
     match read_input(file, purpose, &mut gs, &mut ts) {
-        ProblemRead::Refused(e) => answers::refused_page(e, page),
+        ProblemRead::Refused(e) => pages::refused_page(e, page),
         ProblemRead::Problem(kind, p, q, r, k) => {
             let c = problem_files::handed(kind, q) as usize;
             let d = problem_files::handed(kind, r) as usize;

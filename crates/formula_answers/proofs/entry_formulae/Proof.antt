@@ -6,8 +6,8 @@ use Rattle.formula_answers.proofs.entry_formulae.Statement.{statement}
 use Rattle.formula_answers.proofs.entry_formulae.Tie as tie
 use Rattle.formula_answers.proofs.entry_formulae.Reads as reads
 use Rattle.formula_answers.proofs.entry_formulae.Lts as lts
-use Rattle.answers.proofs.refused_page.Reads as refused-page-reads
-use Rattle.answers.proofs.targets_of.Reads as targets-of-reads
+use Rattle.pages.proofs.refused_page.Reads as refused-page-reads
+use Rattle.targets.proofs.targets_of.Reads as targets-of-reads
 use Rattle.formula_answers.proofs.put_entry.Reads as put-entry-reads
 
 targets-of-requires : tie.Need-targets-of-requires

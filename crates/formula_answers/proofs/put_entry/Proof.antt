@@ -7,7 +7,7 @@ use Rattle.formula_answers.proofs.put_entry.Statement.{statement}
 use Rattle.formula_answers.proofs.put_entry.Tie as tie
 use Rattle.formula_answers.proofs.put_entry.Reads as reads
 use Rattle.formula_answers.proofs.put_entry.Lts as lts
-use Rattle.answers.proofs.refused_page.Reads as refused-page-reads
+use Rattle.pages.proofs.refused_page.Reads as refused-page-reads
 use Rattle.formula_lines.proofs.formulae_text.Reads as formulae-text-reads
 use Rattle.spaces.proofs.formulae.Reads as formulae-reads
 

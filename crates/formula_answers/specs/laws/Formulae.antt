@@ -21,6 +21,7 @@ use Rattle.linear.specs.Formulae.{formulae}
 use Rattle.linear.specs.Word.{word}
 use Rattle.linear.specs.laws.Dimension.{dim-length}
 use Rattle.listing.specs.Listing.{fitting}
+use Rattle.listing.specs.laws.Run.{fitting-in}
 use Rattle.problems.specs.Problem.{Problem, posed}
 use Rattle.problems.specs.Theorems.{posed-few}
 use Rattle.spaces.specs.Spaces.{Formulae, isEntry, recordSize, listing, formulaeOf, seenFormulae}
@@ -31,11 +32,10 @@ use Rattle.pieces.specs.laws.Pieces.{whole}
 use Rattle.pieces.specs.RefusedText.{refusedText}
 use Rattle.reports.specs.laws.Lines.{Records}
 use Rattle.formula_lines.specs.FormulaLines.{formulaeText}
-use Rattle.answers.specs.Answers.{listingRoom, printed}
-use Rattle.answers.specs.Targets.{Measured, Measures}
-use Rattle.answers.specs.declared.Targets.{Targets}
-use Rattle.answers.specs.declared.Targets.the-variants as targets
-use Rattle.answers.specs.laws.Catalogue.{fits-in}
+use Rattle.pages.specs.Pages.{listingRoom, printed}
+use Rattle.targets.specs.Targets.{Measured, Measures}
+use Rattle.targets.specs.declared.Targets.{Targets}
+use Rattle.targets.specs.declared.Targets.the-variants as targets
 use Rattle.formula_answers.specs.FormulaAnswers.{formulaeAnswer, entryFormulae}
 
 pub record Counts (asked : Answer Problem) (t : ℕ) : Type 0 where
@@ -66,7 +66,7 @@ fitted number p q r gs ts rows x n w after a e =
     let c : ℕ = length (formulae word (x .generators) rows) in
     let size : ℕ = recordSize (x .targets) rows in
     let m : fitting size c 4096 ≡ n = ap (λ (f : Formulae). f .listed) l in
-    let h : n * size ≤ 4096 = subst (λ (z : ℕ). z * size ≤ 4096) m (fits-in size c 4096) in
+    let h : n * size ≤ 4096 = subst (λ (z : ℕ). z * size ≤ 4096) m (fitting-in size c 4096) in
     let F = posed-few p q r gs ts rows x number a in
     let s : 1 ≤ size = (let f = F .some-target in omega arith) in
     let b : n * 1 ≤ n * size = mul-le-mul (le-refl n) s in

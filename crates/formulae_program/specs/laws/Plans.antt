@@ -27,8 +27,8 @@ use Rattle.pieces.specs.Piece.{Piece}
 use Rattle.pieces.specs.laws.Pieces.{Put, piece, piece-then, whole}
 use Rattle.pieces.specs.RefusedText.{refusedText}
 use Rattle.reports.specs.Reports.{countsText, formulaeNames}
-use Rattle.answers.specs.Answers.{listingRoom}
-use Rattle.answers.specs.laws.Catalogue.{Fitted, fitted}
+use Rattle.pages.specs.Pages.{listingRoom}
+use Rattle.catalogue_answers.specs.laws.Catalogue.{Fitted, fitted}
 use Rattle.programs.specs.laws.Input.{Input}
 use Rattle.formulae_program.specs.FormulaeProgram.{Listed, listed, listedInput, headText}
 use Rattle.formula_answers.specs.FormulaAnswers.{entryFormulae}

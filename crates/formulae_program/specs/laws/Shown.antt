@@ -32,6 +32,7 @@ use Rattle.linear.specs.laws.Select.{only-mem}
 use Rattle.linear.specs.laws.Order.{mem-map}
 use Rattle.listing.specs.Listing.{records, recordLength, flat, fitting}
 use Rattle.listing.specs.laws.Listing.{record-length}
+use Rattle.listing.specs.laws.Run.{fitting-le}
 use Rattle.maps.specs.Generators.{listOf, generatorForm, generatorForms, generator-below, countOf, generatorCount}
 use Rattle.lists.specs.Lists.{repeats, unlike}
 use Rattle.problems.specs.Problem.{Problem, problem, targetForms, listed, mapped, sorted, posed}
@@ -41,7 +42,6 @@ use Rattle.search.specs.Catalogue as search
 use Rattle.spaces.specs.Spaces.{Formulae, isEntry, formulaeOf}
 use Rattle.spaces.specs.Spaces as spaces
 use Rattle.spaces.specs.laws.Entry.{is-entry}
-use Rattle.answers.specs.laws.Catalogue.{few-shown}
 
 -- ---- the rows in a listing of records es ++ f es
 module _ (f : List ℕ → List ℕ) (d k : ℕ) where
@@ -100,7 +100,7 @@ listing-entry x k old i h =
     let found : ℕ = length (entries word gens targets k) in
     let shown : ℕ = fitting (recordLength targets k) found (length old) in
     let r = at-record (space word gens targets) (k - dim word targets) k (entries word gens targets k) (drop (shown * recordLength targets k) old) shown i (sized gens targets k) h
-    (few-shown (recordLength targets k) found (length old)) in
+    (fitting-le (recordLength targets k) found (length old)) in
     (space word gens targets (r .0), entry-solves word gens targets k (r .0) (r .1), r .2)
 
 -- ---- widths

@@ -1,5 +1,5 @@
 -- Records of one length, written up to a limit: the state after all of them.
---   fitting-le                              no more fit than there are
+--   fitting-le, fitting-in                  no more fit than there are, and than the buffer takes
 --   fitting-none, fitting-more, fitting-no  none; one more that fits; no room
 --   afterAll n s rs c == the state after the records rs of n words, of which c fit
 --   run-law, run-take, run-limit            a run that stays below the limit; only the first count; from the start of the buffer
@@ -10,7 +10,7 @@ use mathlib.Core.List.{List, [], _∷_, _++_, append-nil, append-assoc, List·Me
 use Prim.Native.Nat.{ℕ, zero, suc, _+_, _-_, _*_, _/_, _<_, _≤_, min}
 use native.Mathlib.Omega.{arith}
 use native.Mathlib.Decide.{decLe, ℕ-discrete}
-use native.Mathlib.Nat.{div-eq-of-lt, div-eq-sub-div, suc-mul}
+use native.Mathlib.Nat.{div-eq-of-lt, div-eq-sub-div, div-mul-le-self, le-refl, mul-le-mul, suc-mul}
 use lib.ListN.{length, take, drop, length-take, take-append-drop}
 use lib.Seq.{paste, length-paste, take-paste, drop-paste, take-length, drop-drop, take-nil}
 use Rattle.linear.specs.laws.Span.{mem-cons}
@@ -25,6 +25,17 @@ fitting-le (suc n) c w = at (w / suc n)
   where
     at : (q : ℕ) → min c q ≤ c
     at q = omega arith
+
+pub fitting-in : (n c w : ℕ) → fitting n c w * n ≤ w
+unfolding fitting
+fitting-in zero c w = omega arith
+fitting-in (suc n) c w =
+    let a : min c (w / suc n) * suc n ≤ w / suc n * suc n = mul-le-mul (low c (w / suc n)) (le-refl (suc n)) in
+    let b : w / suc n * suc n ≤ w = div-mul-le-self w (suc n) in
+    omega arith
+  where
+    low : (x y : ℕ) → min x y ≤ y
+    low x y = omega arith
 
 pub fitting-none : (n w : ℕ) → fitting n 0 w ≡ 0
 unfolding fitting

@@ -8,8 +8,8 @@ use Rattle.programs.proofs.reply.Statement.{statement}
 use Rattle.programs.proofs.reply.Tie as tie
 use Rattle.programs.proofs.reply.Reads as reads
 use Rattle.programs.proofs.reply.Lts as lts
-use Rattle.answers.proofs.catalogue_reply.Reads as catalogue-reply-reads
-use Rattle.answers.proofs.rank_reply.Reads as rank-reply-reads
+use Rattle.catalogue_answers.proofs.catalogue_reply.Reads as catalogue-reply-reads
+use Rattle.rank_answers.proofs.rank_reply.Reads as rank-reply-reads
 
 enum-told : tie.Need-enum-told
 enum-told c = search needs

@@ -31,7 +31,7 @@ use Rattle.problem_files.specs.declared.Purpose.{Purpose}
 use Rattle.fewest.specs.Fewest.{Ranking, is, above, beyond as never, written, ranking}
 use Rattle.search.specs.Catalogue.{Catalogued, listing, catalogue}
 use Rattle.ranks.specs.Rank.{rank}
-use Rattle.answers.specs.Answers.{listingRoom}
+use Rattle.pages.specs.Pages.{listingRoom}
 
 abbrev Posed : Purpose → ProblemFile → Type 0
 Posed a F = (x : Problem) × (posed (numberOf (F .kind)) (F .p) (F .q) (F .r) (F .generators) (F .targets) [] ≡ accepted x) × (beyond a (F .k) (x .targets) ≡ false)

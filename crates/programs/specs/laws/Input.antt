@@ -21,7 +21,7 @@ use Rattle.problem_files.specs.laws.Accepted.{room}
 use Rattle.problem_files.specs.declared.Purpose.{Purpose}
 use Rattle.problem_files.specs.declared.ProblemRead.{ProblemRead}
 use Rattle.problem_files.specs.declared.ProblemRead.the-variants as read
-use Rattle.answers.specs.Answers.{printed}
+use Rattle.pages.specs.Pages.{printed}
 use Rattle.programs.specs.Programs.{inputOf, replyTo, problemProgram}
 use Rattle.programs.specs.laws.Handed.{handed-lengths}
 

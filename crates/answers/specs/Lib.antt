@@ -1,4 +1,0 @@
--- The texts that answer a problem.
-pub mod Answers
-pub mod Targets
-pub mod laws

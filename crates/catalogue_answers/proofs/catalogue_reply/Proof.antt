@@ -1,0 +1,65 @@
+-- `catalogue_answers::catalogue_reply` meets its contract. Assumes nothing.
+use native.Mathlib.Omega.{arith}
+use Rattle.catalogue_answers.specs.laws.Catalogue.{reply-refused, reply-records, reply-entries}
+use borrow.Author.Needs.{needs}
+use Rattle.catalogue_answers.proofs.catalogue_reply.Statement.{statement}
+use Rattle.catalogue_answers.proofs.catalogue_reply.Tie as tie
+use Rattle.catalogue_answers.proofs.catalogue_reply.Reads as reads
+use Rattle.catalogue_answers.proofs.catalogue_reply.Lts as lts
+use Rattle.pages.proofs.refused_page.Reads as refused-page-reads
+use Rattle.kinds.proofs.number_of.Reads as number-of-reads
+use Rattle.reports.proofs.catalogue_text.Reads as catalogue-text-reads
+use Rattle.search.proofs.catalogue.Reads as catalogue-reads
+
+number-of-requires : tie.Need-number-of-requires
+number-of-requires c κs = search needs
+
+slice-aggregate-catalogue : tie.Need-slice-aggregate-catalogue
+slice-aggregate-catalogue c = search needs
+
+catalogue-requires : tie.Need-catalogue-requires
+catalogue-requires c κs = search needs
+
+enum-known-said : tie.Need-enum-known-said
+enum-known-said c = search needs
+
+refused-page-requires : tie.Need-refused-page-requires
+refused-page-requires c κs = let l = c .before .before .before .before .before .before .before .before .before .before .before .pre in omega arith
+
+enum-known-said-2 : tie.Need-enum-known-said-2
+enum-known-said-2 c = search needs
+
+slice-aggregate-catalogue-text : tie.Need-slice-aggregate-catalogue-text
+slice-aggregate-catalogue-text c = search needs
+
+catalogue-text-requires : tie.Need-catalogue-text-requires
+catalogue-text-requires c κs = reply-records (c .before .before .before .before .before .before .before .before .before .before .before .before .args .kind) (c .before .before .before .before .before .before .before .before .before .before .before .before .args .p) (c .before .before .before .before .before .before .before .before .before .before .before .before .args .q) (c .before .before .before .before .before .before .before .before .before .before .before .before .args .r) (c .before .before .before .before .before .before .before .before .before .before .before .before .args .k) (c .before .before .before .before .before .before .before .before .before .before .before .before .args .gs .now) (c .before .before .before .before .before .before .before .before .before .before .before .before .args .ts .now) _ (c .before .before .before .before .before .before .catalogue .result) _ (record { named = c .before .before .before .before .before .before .before .before .number-of .ensures; answer = c .before .before .before .before .before .before .catalogue .ensures .0; size = c .before .before .before .before .before .before .catalogue .kept .1 .1 .1 .1 .1 .1 .1 .0 }) (c .before .before .before .said2 .given .0 .0) (c .before .before .before .said2 .given .0 .1 .0) (c .before .before .before .said2 .given .0 .1 .1 .0) (c .before .before .before .said2 .given .1)
+
+same-length : tie.Need-same-length
+same-length c = c .before .before .refused-page .kept .1 .0
+
+returns : tie.Need-returns
+returns c = reply-refused (c .before .before .before .before .before .before .before .before .before .before .before .before .before .before .args .kind) (c .before .before .before .before .before .before .before .before .before .before .before .before .before .before .args .p) (c .before .before .before .before .before .before .before .before .before .before .before .before .before .before .args .q) (c .before .before .before .before .before .before .before .before .before .before .before .before .before .before .args .r) (c .before .before .before .before .before .before .before .before .before .before .before .before .before .before .args .k) (c .before .before .before .before .before .before .before .before .before .before .before .before .before .before .args .gs .now) (c .before .before .before .before .before .before .before .before .before .before .before .before .before .before .args .ts .now) _ (c .before .before .before .before .before .before .before .before .catalogue .result) _ (record { named = c .before .before .before .before .before .before .before .before .before .before .number-of .ensures; answer = c .before .before .before .before .before .before .before .before .catalogue .ensures .0; size = c .before .before .before .before .before .before .before .before .catalogue .kept .1 .1 .1 .1 .1 .1 .1 .0 }) (c .before .before .before .before .before .said .given .0 .0) _ _ (c .before .before .before .before .before .said .given .1) (c .before .before .refused-page .ensures)
+
+same-length-2 : tie.Need-same-length-2
+same-length-2 c = c .before .before .catalogue-text .kept .1 .1 .1 .1 .1 .1 .1 .1 .1 .0
+
+returns-2 : tie.Need-returns-2
+returns-2 c = reply-entries (c .before .before .before .before .before .before .before .before .before .before .before .before .before .before .before .args .kind) (c .before .before .before .before .before .before .before .before .before .before .before .before .before .before .before .args .p) (c .before .before .before .before .before .before .before .before .before .before .before .before .before .before .before .args .q) (c .before .before .before .before .before .before .before .before .before .before .before .before .before .before .before .args .r) (c .before .before .before .before .before .before .before .before .before .before .before .before .before .before .before .args .k) (c .before .before .before .before .before .before .before .before .before .before .before .before .before .before .before .args .gs .now) (c .before .before .before .before .before .before .before .before .before .before .before .before .before .before .before .args .ts .now) _ (c .before .before .before .before .before .before .before .before .before .catalogue .result) _ (record { named = c .before .before .before .before .before .before .before .before .before .before .before .number-of .ensures; answer = c .before .before .before .before .before .before .before .before .before .catalogue .ensures .0; size = c .before .before .before .before .before .before .before .before .before .catalogue .kept .1 .1 .1 .1 .1 .1 .1 .0 }) (c .before .before .before .before .before .before .said2 .given .0 .0) (c .before .before .before .before .before .before .said2 .given .0 .1 .0) (c .before .before .before .before .before .before .said2 .given .0 .1 .1 .0) (c .before .before .before .before .before .before .said2 .given .1) (c .before .before .before .before .before .before .before .before .before .before .before .before .before .before .before .args .page .now) _ _ (c .before .before .before .before .before .before .before .before .before .before .before .before .before .before .before .pre) (c .before .before .catalogue-text .ensures)
+
+pub catalogue-reply-spec : {M : Type 1} → statement M
+catalogue-reply-spec =
+    tie.close
+    (tie.spec
+    number-of-requires
+    slice-aggregate-catalogue
+    catalogue-requires
+    enum-known-said
+    refused-page-requires
+    enum-known-said-2
+    slice-aggregate-catalogue-text
+    catalogue-text-requires
+    same-length
+    returns
+    same-length-2
+    returns-2)

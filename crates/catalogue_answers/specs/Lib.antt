@@ -1,0 +1,3 @@
+-- A problem's Catalogue as text.
+pub mod CatalogueAnswers
+pub mod laws

@@ -1,0 +1,3 @@
+-- A page of text.
+pub mod Pages
+pub mod laws

@@ -1,0 +1,2 @@
+-- The laws behind a page.
+pub mod Page

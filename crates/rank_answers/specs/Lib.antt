@@ -1,0 +1,3 @@
+-- A problem's Rank as text.
+pub mod RankAnswers
+pub mod laws

@@ -1,0 +1,3 @@
+-- The targets of a problem, counted.
+pub mod Targets
+pub mod laws

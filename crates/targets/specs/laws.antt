@@ -1,0 +1,2 @@
+-- The laws behind the count.
+pub mod Counted
