@@ -18,15 +18,22 @@ fn write_entries(plan: Plan, gs: &[u64], ts: &[u64], listing: &[u64], page: &mut
     }
 }
 
-fn main() {
-    let mut input = [0u8; 65537];
-    let n = io::read_full(STDIN_FILENO, &mut input);
+// Writes the reply's head, then what is printed of each entry, by way of the page.
+fn write_formulae(input: &[u8], page: &mut [u8])
+    requires { ⌜ length (now page) ≡ 278528 ⌝ }
+{
     let mut gs = [0u64; 4096];
     let mut ts = [0u64; 4096];
     let mut listing = [0u64; 4096];
-    let mut page = [0u8; 278528];
-    let plan = formulae_program::start(&input[..n], &mut gs, &mut ts, &mut listing, &mut page);
+    let plan = formulae_program::start(input, &mut gs, &mut ts, &mut listing, page);
     let m = plan.head;
     io::write_all(STDOUT_FILENO, &page[..m]);
-    write_entries(plan, &gs, &ts, &listing, &mut page);
+    write_entries(plan, &gs, &ts, &listing, page);
+}
+
+fn main() {
+    let mut input = [0u8; 65537];
+    let n = io::read_full(STDIN_FILENO, &mut input);
+    let mut page = [0u8; 278528];
+    write_formulae(&input[..n], &mut page);
 }

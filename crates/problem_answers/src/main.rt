@@ -5,13 +5,18 @@ ghost use Rattle.formulae_program.specs.Plans.{Ready};
 use formulae_program::Plan;
 use libc::STDOUT_FILENO;
 
-// What the Catalogue program prints, then what the Rank program does.
-fn run_problem(input: &[u8]) {
+// What the Catalogue program prints.
+fn run_catalogue(input: &[u8]) {
     let mut page = [0u8; 196608];
     let m = programs::catalogue_program(input, &mut page);
     io::write_all(STDOUT_FILENO, &page[..m]);
-    let n = programs::rank_program(input, &mut page);
-    io::write_all(STDOUT_FILENO, &page[..n]);
+}
+
+// What the Rank program prints.
+fn run_rank(input: &[u8]) {
+    let mut page = [0u8; 196608];
+    let m = programs::rank_program(input, &mut page);
+    io::write_all(STDOUT_FILENO, &page[..m]);
 }
 
 // What the Formulae program prints of each entry.
@@ -26,16 +31,25 @@ fn run_entries(plan: Plan, gs: &[u64], ts: &[u64], listing: &[u64], page: &mut [
     }
 }
 
-// What the Formulae program prints.
-fn run_formulae(input: &[u8]) {
+// What the Formulae program prints, by way of the page.
+fn run_formulae(input: &[u8], page: &mut [u8])
+    requires { ⌜ length (now page) ≡ 278528 ⌝ }
+{
     let mut gs = [0u64; 4096];
     let mut ts = [0u64; 4096];
     let mut listing = [0u64; 4096];
-    let mut page = [0u8; 278528];
-    let plan = formulae_program::start(input, &mut gs, &mut ts, &mut listing, &mut page);
+    let plan = formulae_program::start(input, &mut gs, &mut ts, &mut listing, page);
     let m = plan.head;
     io::write_all(STDOUT_FILENO, &page[..m]);
-    run_entries(plan, &gs, &ts, &listing, &mut page);
+    run_entries(plan, &gs, &ts, &listing, page);
+}
+
+// What the three programs print.
+fn run_programs(input: &[u8]) {
+    run_catalogue(input);
+    run_rank(input);
+    let mut page = [0u8; 278528];
+    run_formulae(input, &mut page);
 }
 
 // One file.
@@ -50,8 +64,7 @@ fn run(name: &[u8]) {
     libc::close(fd);
     io::write_all(STDOUT_FILENO, name);
     io::write_all(STDOUT_FILENO, b"\n");
-    run_problem(&input[..n]);
-    run_formulae(&input[..n]);
+    run_programs(&input[..n]);
 }
 
 // The file that argument i names.

@@ -1,69 +1,64 @@
 -- `check_files::run`: what is printed is within its buffer. Assumes nothing.
-use mathlib.Core.Path.{sym}
-use native.Mathlib.Omega.{arith}
+use mathlib.Core.Path.{_≡_, refl, sym, subst, _∙_}
+use Prim.Native.Nat.{ℕ, _≤_}
+use lib.ListN.{length, replicate, length-replicate}
 use lib.Seq.{length-take-le}
-use borrow.Author.Needs.{needs}
 use Rattle.check_files.proofs.run.Statement.{statement}
 use Rattle.check_files.proofs.run.Tie as tie
-use Rattle.check_files.proofs.run.Reads as reads
-use Rattle.check_files.proofs.run.Lts as lts
-use Rattle.io.proofs.read_full.Reads as read-full-reads
-use Rattle.io.proofs.write_all.Reads as write-all-reads
-use Rattle.libc.proofs.close.Reads as close-reads
-use Rattle.os.proofs.fail.Reads as fail-reads
-use Rattle.os.proofs.open_read.Reads as open-read-reads
-use Rattle.service.proofs.check_program.Reads as check-program-reads
+
+fits : {m n : ℕ} → m ≡ length (replicate {A = ℕ} 256 0) → n ≤ 256 → n ≤ m
+fits {m} {n} k h = subst (λ (e : ℕ). n ≤ e) (sym (k ∙ length-replicate {A = ℕ} 256 0)) h
 
 open-read-requires : tie.Need-open-read-requires
-open-read-requires c κs = search needs
+open-read-requires c κs = tt
 
 fail-requires : tie.Need-fail-requires
-fail-requires c κs = search needs
+fail-requires c κs = tt
 
 returns : tie.Need-returns
-returns c = search needs
+returns c = tt
 
 slice-aggregate-read-full : tie.Need-slice-aggregate-read-full
-slice-aggregate-read-full c = search needs
+slice-aggregate-read-full c = sym (length-replicate {A = ℕ} 65537 0)
 
 read-full-requires : tie.Need-read-full-requires
-read-full-requires c κs = search needs
+read-full-requires c κs = tt
 
 close-requires : tie.Need-close-requires
-close-requires c κs = search needs
+close-requires c κs = tt
 
 array-share-prefix-input : tie.Need-array-share-prefix-input
-array-share-prefix-input c = search needs
+array-share-prefix-input c = c .before .before .read-full .ensures .0
 
 slice-aggregate-check-program : tie.Need-slice-aggregate-check-program
-slice-aggregate-check-program c = search needs
+slice-aggregate-check-program c = c .before .before .before .read-full .ensures .1
 
 slice-aggregate-check-program-2 : tie.Need-slice-aggregate-check-program-2
-slice-aggregate-check-program-2 c = search needs
+slice-aggregate-check-program-2 c = sym (length-replicate {A = ℕ} 256 0)
 
 check-program-requires : tie.Need-check-program-requires
-check-program-requires c κs = search needs
+check-program-requires c κs = length-replicate {A = ℕ} 256 0
 
 write-all-requires : tie.Need-write-all-requires
-write-all-requires c κs = search needs
+write-all-requires c κs = tt
 
 slice-aggregate-write-all : tie.Need-slice-aggregate-write-all
-slice-aggregate-write-all c = search needs
+slice-aggregate-write-all c = refl
 
 write-all-requires-2 : tie.Need-write-all-requires-2
-write-all-requires-2 c κs = search needs
+write-all-requires-2 c κs = tt
 
 array-share-prefix-out : tie.Need-array-share-prefix-out
-array-share-prefix-out c = search needs
+array-share-prefix-out c = let p = c .before .before .before .before .check-program in fits (p .kept .1 .0) (p .ensures .1)
 
 slice-aggregate-write-all-2 : tie.Need-slice-aggregate-write-all-2
-slice-aggregate-write-all-2 c = let k = c .before .before .before .before .before .check-program .kept .1 .0 in let b = c .before .before .before .before .before .check-program .ensures .1 in sym (length-take-le (c .before .before .before .before .before .check-program .result) (c .before .before .before .before .before .check-program .last .1 .0) (omega arith))
+slice-aggregate-write-all-2 c = let p = c .before .before .before .before .before .check-program in sym (length-take-le (p .result) (p .last .1 .0) (fits (p .kept .1 .0) (p .ensures .1)))
 
 write-all-requires-3 : tie.Need-write-all-requires-3
-write-all-requires-3 c κs = search needs
+write-all-requires-3 c κs = tt
 
 returns-2 : tie.Need-returns-2
-returns-2 c = search needs
+returns-2 c = tt
 
 pub run-spec : {M : Type 1} → statement M
 run-spec =

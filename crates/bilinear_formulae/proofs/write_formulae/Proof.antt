@@ -1,0 +1,67 @@
+-- `bilinear_formulae::write_formulae`: what is written is within its page. Assumes nothing.
+use mathlib.Core.Path.{_≡_, refl, sym, subst, _∙_}
+use Prim.Native.Nat.{ℕ, _≤_}
+use lib.ListN.{length-replicate}
+use lib.Seq.{length-take-le}
+use Rattle.bilinear_formulae.proofs.write_formulae.Statement.{statement}
+use Rattle.bilinear_formulae.proofs.write_formulae.Tie as tie
+
+fits : {k m n : ℕ} → m ≡ k → n ≤ k → n ≤ m
+fits {n = n} e h = subst (λ (k : ℕ). n ≤ k) (sym e) h
+
+slice-aggregate-start : tie.Need-slice-aggregate-start
+slice-aggregate-start c = sym (length-replicate {A = ℕ} 4096 0)
+
+slice-aggregate-start-2 : tie.Need-slice-aggregate-start-2
+slice-aggregate-start-2 c = sym (length-replicate {A = ℕ} 4096 0)
+
+slice-aggregate-start-3 : tie.Need-slice-aggregate-start-3
+slice-aggregate-start-3 c = sym (length-replicate {A = ℕ} 4096 0)
+
+start-requires : tie.Need-start-requires
+start-requires c κs = let words = length-replicate {A = ℕ} 4096 0 in (words, words, refl, c .before .before .before .before .before .before .pre)
+
+slice-reshare-prefix-write-all : tie.Need-slice-reshare-prefix-write-all
+slice-reshare-prefix-write-all c = let p = c .before .before .before .before .before .start in fits (p .kept .1 .1 .1 .1 .0 ∙ c .before .before .before .before .before .before .before .before .before .before .before .before .pre) (p .ensures .room)
+
+slice-aggregate-write-all : tie.Need-slice-aggregate-write-all
+slice-aggregate-write-all c = let p = c .before .before .before .before .before .before .start in sym (length-take-le (p .result .head) (p .last .1 .1 .1 .1 .0) (fits (p .kept .1 .1 .1 .1 .0 ∙ c .before .before .before .before .before .before .before .before .before .before .before .before .before .pre) (p .ensures .room)))
+
+write-all-requires : tie.Need-write-all-requires
+write-all-requires c κs = tt
+
+slice-aggregate-write-entries : tie.Need-slice-aggregate-write-entries
+slice-aggregate-write-entries c = sym (c .before .before .before .before .before .before .before .before .start .kept .1 .0)
+
+slice-aggregate-write-entries-2 : tie.Need-slice-aggregate-write-entries-2
+slice-aggregate-write-entries-2 c = sym (c .before .before .before .before .before .before .before .before .before .start .kept .1 .1 .0)
+
+slice-aggregate-write-entries-3 : tie.Need-slice-aggregate-write-entries-3
+slice-aggregate-write-entries-3 c = sym (c .before .before .before .before .before .before .before .before .before .before .start .kept .1 .1 .1 .0)
+
+write-entries-requires : tie.Need-write-entries-requires
+write-entries-requires c κs = let p = c .before .before .before .before .before .before .before .before .before .before .before .start in (p .ensures .ready, p .kept .1 .1 .1 .1 .0 ∙ c .before .before .before .before .before .before .before .before .before .before .before .before .before .before .before .before .before .before .pre)
+
+same-length : tie.Need-same-length
+same-length c = c .before .before .write-entries .kept .1 .1 .1 .1 .0 ∙ c .before .before .before .before .before .before .before .before .before .before .before .before .before .before .start .kept .1 .1 .1 .1 .0
+
+returns : tie.Need-returns
+returns c = tt
+
+pub write-formulae-spec : {M : Type 1} → statement M
+write-formulae-spec =
+    tie.close
+    (tie.spec
+    slice-aggregate-start
+    slice-aggregate-start-2
+    slice-aggregate-start-3
+    start-requires
+    slice-reshare-prefix-write-all
+    slice-aggregate-write-all
+    write-all-requires
+    slice-aggregate-write-entries
+    slice-aggregate-write-entries-2
+    slice-aggregate-write-entries-3
+    write-entries-requires
+    same-length
+    returns)
