@@ -1,13 +1,13 @@
--- `sieve::pairs` meets its contract: a shift is a power of two. Assumes nothing.
+-- `filter::pairs` meets its contract: a shift is a power of two. Assumes nothing.
 use mathlib.Core.Path.{sym, subst}
 use Prim.Native.Nat.{ℕ, _-_, _≤_}
 use borrow.Author.Needs.{needs}
 use native.Mathlib.Omega.{arith}
 use lib.Pow.{pow-pos}
 use Rattle.linear.specs.laws.Shift.{one-shift}
-use Rattle.sieve.specs.laws.Settle.{pairs-low, pairs-shift}
-use Rattle.sieve.proofs.pairs.Statement.{statement}
-use Rattle.sieve.proofs.pairs.Tie as tie
+use Rattle.filter.specs.laws.Kept.{pairs-low, pairs-shift}
+use Rattle.filter.proofs.pairs.Statement.{statement}
+use Rattle.filter.proofs.pairs.Tie as tie
 
 sub-result : tie.Need-sub-result
 sub-result c = search needs

@@ -1,9 +1,9 @@
--- `sieve::next_marked` meets its contract: no number so far is marked. Assumes nothing.
+-- `marks::next_marked` meets its contract: no number so far is marked. Assumes nothing.
 use Prim.Native.Nat.{_-_}
 use native.Mathlib.Omega.{arith}
-use Rattle.sieve.specs.laws.Marks.{Searching, next-start, next-more, next-found, next-none}
-use Rattle.sieve.proofs.next_marked.Statement.{statement}
-use Rattle.sieve.proofs.next_marked.Tie as tie
+use Rattle.marks.specs.laws.Marks.{Searching, next-start, next-more, next-found, next-none}
+use Rattle.marks.proofs.next_marked.Statement.{statement}
+use Rattle.marks.proofs.next_marked.Tie as tie
 
 abbrev Inv-loop : tie.InvT-loop
 Inv-loop marks from n j₀ j = Searching marks from n j

@@ -1,7 +1,7 @@
 -- What a filter asks, and gives.
 --   Sieving gens h start missing ..      == as many residues as generators, the number to start from, the dimensions missing, and the lengths of the lent arrays
 --   Kept gens h start k missing marks    == an unmarked number from start on is known, or its child barren
--- Laws: laws/Settle. Assumes nothing.
+-- Laws: laws/Kept. Assumes nothing.
 use mathlib.Core.Path.{_≡_}
 use mathlib.Core.Logic.{_≢_, _⊎_}
 use mathlib.Core.Bool.{true}

@@ -1,10 +1,10 @@
--- `sieve::filter` meets its contract: the table's ranks are bounds, and what they rule out is barren. Assumes nothing.
+-- `filter::filter` meets its contract: the table's ranks are bounds, and what they rule out is barren. Assumes nothing.
 use mathlib.Core.Path.{_≡_, refl, sym, _∙_}
 use Prim.Native.Nat.{ℕ}
 use lib.ListN.{length, replicate, length-replicate}
-use Rattle.sieve.specs.laws.Settle.{pairs-one, marking-of, small-of, kept-by}
-use Rattle.sieve.proofs.filter.Statement.{statement}
-use Rattle.sieve.proofs.filter.Tie as tie
+use Rattle.filter.specs.laws.Kept.{pairs-one, marking-of, small-of, kept-by}
+use Rattle.filter.proofs.filter.Statement.{statement}
+use Rattle.filter.proofs.filter.Tie as tie
 
 -- all of the table, before it is filled
 ranks-all : length (replicate {A = ℕ} 65536 0) ≡ 65536
