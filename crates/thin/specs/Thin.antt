@@ -18,7 +18,7 @@ use Prim.Native.Nat.{ℕ, _+_, _*_, _<_, _≤_}
 use lib.Bits.{bitXor}
 use lib.ListN.{length, getD}
 use Rattle.residues.specs.Residues.{known}
-use Rattle.buckets.specs.Bucket.{bucketOf}
+use Rattle.hash.specs.Bucket.{bucketOf}
 use Rattle.residues.specs.Filter.{Dropped}
 
 abbrev pub boundOf : List ℕ → ℕ → ℕ

@@ -16,7 +16,7 @@ fn reaches(x: u64, y: u64, w: u8, p: usize, left: usize, ranks: &[u8]) -> bool
         return false;
     }
     let z = x ^ y;
-    if p * (w as usize + ranks[buckets::bucket(z)] as usize) < left {
+    if p * (w as usize + ranks[hash::bucket(z)] as usize) < left {
         return false;
     }
     z != 0
@@ -72,7 +72,7 @@ fn weigh(
         return n;
     }
     let x = h[j];
-    let r = ranks[buckets::bucket(x)];
+    let r = ranks[hash::bucket(x)];
     marks[j] = judge(x, r, need, p, ranks, &heavy[..n], &weights[..n]);
     if 2 * p * (r as usize) + top < need {
         return n;
@@ -125,7 +125,7 @@ fn still(x: u64, m: u8, need: usize, ranks: &[u8]) -> u8
     if m == 0 {
         return 0;
     }
-    if (ranks[buckets::bucket(x)] as usize) < need {
+    if (ranks[hash::bucket(x)] as usize) < need {
         return 0;
     }
     m

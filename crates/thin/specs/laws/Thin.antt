@@ -7,7 +7,7 @@ use mathlib.Core.Path.{_≡_, sym, subst}
 use mathlib.Core.List.{List}
 use lib.Bits.{bitXor}
 use lib.ListN.{length, getD}
-use Rattle.buckets.specs.Bucket.{bucketOf}
+use Rattle.hash.specs.Bucket.{bucketOf}
 use Rattle.thin.specs.Thin.{boundOf, Light, Unreached}
 use Prim.Native.Nat.{ℕ, _+_, _-_, _*_, _<_, _≤_}
 use native.Mathlib.Nat.{le-trans, mul-le-mul-right}

@@ -19,7 +19,7 @@ use Rattle.linear.specs.Word.{word, isZero}
 use Rattle.linear.specs.laws.Entry.{sameVec-yes}
 use Rattle.residues.specs.Residues.{known}
 use Rattle.residues.specs.laws.Known.{known-ne, known-found}
-use Rattle.buckets.specs.Bucket.{bucketOf}
+use Rattle.hash.specs.Bucket.{bucketOf}
 use Rattle.residues.specs.Filter.{Dropped}
 use Rattle.thin.specs.Thin.{boundOf, Light, Unreached, Small, Ruled, Seen, Marking, Weighing, Weighed}
 

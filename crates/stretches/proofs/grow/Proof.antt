@@ -1,9 +1,9 @@
--- `buckets::grow` meets its contract: what is left of d is the row that is missing. Assumes nothing.
+-- `stretches::grow` meets its contract: what is left of d is the row that is missing. Assumes nothing.
 use borrow.Author.Needs.{needs}
 use native.Mathlib.Omega.{arith}
-use Rattle.buckets.specs.laws.Grow.{part-left, grown-full, grown-old, grown-over, grown-new}
-use Rattle.buckets.proofs.grow.Statement.{statement}
-use Rattle.buckets.proofs.grow.Tie as tie
+use Rattle.stretches.specs.laws.Grow.{part-left, grown-full, grown-old, grown-over, grown-new}
+use Rattle.stretches.proofs.grow.Statement.{statement}
+use Rattle.stretches.proofs.grow.Tie as tie
 
 returns : tie.Need-returns
 returns c = let a = c .before .before .before .args in grown-full (a .s .now) (a .rows .now) (a .d) (a .m) (a .f) (c .before .before .before .pre) (c .if1 .taken)

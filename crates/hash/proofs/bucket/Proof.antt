@@ -1,10 +1,10 @@
--- `buckets::bucket` meets its contract: it is the definition's formula, and no step of it wraps. Assumes nothing.
+-- `hash::bucket` meets its contract: it is the definition's formula, and no step of it wraps. Assumes nothing.
 use mathlib.Core.Path.{refl}
 use borrow.Author.Needs.{needs}
 use native.Mathlib.Omega.{arith}
-use Rattle.buckets.specs.Bucket.{bucketOf}
-use Rattle.buckets.proofs.bucket.Statement.{statement}
-use Rattle.buckets.proofs.bucket.Tie as tie
+use Rattle.hash.specs.Bucket.{bucketOf}
+use Rattle.hash.proofs.bucket.Statement.{statement}
+use Rattle.hash.proofs.bucket.Tie as tie
 
 mul-lo : tie.Need-mul-lo
 mul-lo c = search needs

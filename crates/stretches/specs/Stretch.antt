@@ -1,5 +1,4 @@
--- Buckets of residues, and the rows that bound their ranks.
---   bucketOf v       == the bucket of the residue v, a number below 65,536; nothing else about it matters
+-- The rows that bound the rank of a bucket: a stretch of eight for each number.
 --   stretch m f rows == the first m of the eight rows that stand for the number f
 --   Growing, Grown   == what `grow` asks, and gives: d is in the span of S and the stretch, what was in it still is, and no other stretch has changed; or the rank is
 --                       above all that a stretch holds
@@ -7,13 +6,10 @@
 use mathlib.Core.Path.{_≡_}
 use mathlib.Core.Logic.{_≢_}
 use mathlib.Core.List.{List, _++_}
-use Prim.Native.Nat.{ℕ, _+_, _*_, _/_, _%_, _<_, _≤_}
+use Prim.Native.Nat.{ℕ, _*_, _<_, _≤_}
 use lib.ListN.{length, take, drop}
 use Rattle.linear.specs.Span.{Span}
 use Rattle.linear.specs.Word.{word}
-
-unfoldable pub bucketOf : ℕ → ℕ
-bucketOf v = (v % 262144 * 2654435769 + v / 262144 % 262144 * 2246822519) / 134217728 % 65536
 
 abbrev pub stretch : ℕ → ℕ → List ℕ → List ℕ
 stretch m f rows = take m (drop (f * 8) rows)

@@ -21,7 +21,7 @@ use Rattle.linear.specs.Word.{word}
 use Rattle.linear.specs.laws.Space.{add-assoc, add-nul}
 use Rattle.linear.specs.laws.Span.{cast, span-add, span-mem, span-mono}
 use Rattle.linear.specs.laws.Reduce.{reduce-rest}
-use Rattle.buckets.specs.Bucket.{stretch, Growing, Grown}
+use Rattle.stretches.specs.Stretch.{stretch, Growing, Grown}
 
 -- d is in the span of the rows, S and what is left of it
 rest-in : (S R : List ℕ) (d : ℕ) → (w : ℕ) × Span word (R ++ S) w × (d ≡ bitXor w (reduce word R (reduce word S d)))
