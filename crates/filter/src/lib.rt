@@ -42,7 +42,7 @@ pub fn filter(
     let top = buckets::fill(gens, h, start, s, &mut ranks, firsts, rows, marks);
     let need = needed(k, s.len());
     if missing == 1 {
-        thin::cut(h, start, need, &ranks, marks);
+        cut::cut(h, start, need, &ranks, marks);
     } else {
         let p = pairs(missing);
         thin::thin(h, start, need, p, top, &ranks, marks);

@@ -19,7 +19,9 @@ use Rattle.residues.specs.Barren.{Barren}
 use Rattle.residues.specs.Filter.{pairs, Dropped}
 use Rattle.residues.specs.laws.Drop.{dropped-barren}
 use Rattle.buckets.specs.Table.{Filled}
-use Rattle.thin.specs.Thin.{boundOf, Small, Ruled, Marking}
+use Rattle.reach.specs.Reach.{boundOf}
+use Rattle.cut.specs.Ruled.{Ruled, Marking}
+use Rattle.thin.specs.Thin.{Small}
 use Rattle.filter.specs.Kept.{Kept}
 
 -- ---- pairs

@@ -1,7 +1,7 @@
--- `thin::judge` meets its contract. Assumes nothing.
+-- `reach::judge` meets its contract. Assumes nothing.
 use borrow.Author.Needs.{needs}
-use Rattle.thin.proofs.judge.Statement.{statement}
-use Rattle.thin.proofs.judge.Tie as tie
+use Rattle.reach.proofs.judge.Statement.{statement}
+use Rattle.reach.proofs.judge.Tie as tie
 
 returns : tie.Need-returns
 returns c = search needs

@@ -1,12 +1,12 @@
--- `thin::still` meets its contract, test by test. Assumes nothing.
+-- `cut::still` meets its contract, test by test. Assumes nothing.
 use mathlib.Core.Path.{subst}
 use mathlib.Core.Logic.{inl, inr}
 use Prim.Native.Nat.{ℕ, _<_}
 use borrow.Author.Needs.{needs}
 use native.Mathlib.Omega.{arith}
 use lib.ListN.{getD}
-use Rattle.thin.proofs.still.Statement.{statement}
-use Rattle.thin.proofs.still.Tie as tie
+use Rattle.cut.proofs.still.Statement.{statement}
+use Rattle.cut.proofs.still.Tie as tie
 
 returns : tie.Need-returns
 returns c = λ e. inl (c .if1 .taken)

@@ -14,7 +14,8 @@ use lib.ListN.{length, getD, set, length-set}
 use lib.Seq.{getD-set-same, getD-set-other}
 use Rattle.residues.specs.Residues.{known}
 use Rattle.residues.specs.Filter.{Dropped}
-use Rattle.thin.specs.Thin.{boundOf, Ruled, Seen, Marking}
+use Rattle.reach.specs.Reach.{boundOf}
+use Rattle.cut.specs.Ruled.{Ruled, Seen, Marking}
 
 -- without pairs a rank below need is enough
 dropped-alone : (h ranks : List ℕ) (j need : ℕ) → boundOf ranks (getD h j 0) < need → Dropped h (boundOf ranks) j need 0

@@ -1,9 +1,9 @@
--- `thin::viable` meets its contract: the values from q on do not reach. Assumes nothing.
+-- `reach::viable` meets its contract: the values from q on do not reach. Assumes nothing.
 use mathlib.Core.Bool.{true≢false}
 use native.Mathlib.Omega.{arith}
-use Rattle.thin.specs.laws.Thin.{Passed, passed-start, passed-next, passed-end}
-use Rattle.thin.proofs.viable.Statement.{statement}
-use Rattle.thin.proofs.viable.Tie as tie
+use Rattle.reach.specs.laws.Reach.{Passed, passed-start, passed-next, passed-end}
+use Rattle.reach.proofs.viable.Statement.{statement}
+use Rattle.reach.proofs.viable.Tie as tie
 
 abbrev Inv-loop : tie.InvT-loop
 Inv-loop x p left ranks heavy weights q₀ q = Passed x p left ranks heavy weights q

@@ -8,7 +8,7 @@ use mathlib.Core.List.{List}
 use lib.Bits.{bitXor}
 use lib.ListN.{length, getD}
 use Rattle.hash.specs.Bucket.{bucketOf}
-use Rattle.thin.specs.Thin.{boundOf, Light, Unreached}
+use Rattle.reach.specs.Reach.{boundOf, Light, Unreached}
 use Prim.Native.Nat.{ℕ, _+_, _-_, _*_, _<_, _≤_}
 use native.Mathlib.Nat.{le-trans, mul-le-mul-right}
 use native.Mathlib.Omega.{arith}

@@ -1,11 +1,11 @@
--- `thin::cut` meets its contract: the numbers below j are ruled. Assumes nothing.
+-- `cut::cut` meets its contract: the numbers below j are ruled. Assumes nothing.
 use mathlib.Core.Path.{sym, _∙_}
 use native.Mathlib.Omega.{arith}
 use Prim.Native.Nat.{_-_}
 use lib.ListN.{length}
-use Rattle.thin.specs.laws.Cut.{Cutting, cutting-start, cutting-next, cutting-end}
-use Rattle.thin.proofs.cut.Statement.{statement}
-use Rattle.thin.proofs.cut.Tie as tie
+use Rattle.cut.specs.laws.Cut.{Cutting, cutting-start, cutting-next, cutting-end}
+use Rattle.cut.proofs.cut.Statement.{statement}
+use Rattle.cut.proofs.cut.Tie as tie
 
 abbrev Inv-loop : tie.InvT-loop
 Inv-loop h start need ranks marks₀ j₀ marks j = Cutting h start need ranks j marks

@@ -1,4 +1,4 @@
--- `thin::reaches` meets its contract, test by test. Assumes nothing.
+-- `reach::reaches` meets its contract, test by test. Assumes nothing.
 use Prim.Native.Nat.{_+_, _*_}
 use borrow.Author.Needs.{needs}
 use native.Mathlib.Omega.{arith}
@@ -6,9 +6,9 @@ use borrow.Author.Tests.{eqb-true, not-false}
 use lib.Bits.{bitXor}
 use lib.Dec.{eqb}
 use lib.ListN.{getD}
-use Rattle.thin.specs.laws.Thin.{product-low, light-slight}
-use Rattle.thin.proofs.reaches.Statement.{statement}
-use Rattle.thin.proofs.reaches.Tie as tie
+use Rattle.reach.specs.laws.Reach.{product-low, light-slight}
+use Rattle.reach.proofs.reaches.Statement.{statement}
+use Rattle.reach.proofs.reaches.Tie as tie
 
 mul-if1 : tie.Need-mul-if1
 mul-if1 c = search needs
