@@ -1,4 +1,3 @@
 -- Bounds on the ranks of the generators with one residue.
-pub mod Bucket
 pub mod Table
 pub mod laws

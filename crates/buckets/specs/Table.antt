@@ -14,8 +14,9 @@ use lib.ListN.{length, getD, set}
 use Rattle.linear.specs.Span.{Span}
 use Rattle.linear.specs.Word.{word}
 use Rattle.residues.specs.Residues.{known}
-use Rattle.buckets.specs.Bucket.{bucketOf, stretch}
 use Rattle.residues.specs.Filter.{Bounded}
+use Rattle.hash.specs.Bucket.{bucketOf}
+use Rattle.stretches.specs.Stretch.{stretch}
 
 abbrev pub bucketRows : List ℕ → ℕ → ℕ → List ℕ → List ℕ
 bucketRows gens zero f rows = []

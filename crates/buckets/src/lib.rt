@@ -1,44 +1,12 @@
 // Bounds on the ranks of the generators with one residue.
 // Residues are put into buckets, any number of residues into one: a bucket's rank is at least the rank of the generators with each of them.
 ghost use mathlib.Core.Path.{_≡_};
-ghost use Prim.Native.Nat.{_<_, _≤_};
+ghost use Prim.Native.Nat.{_≤_};
 ghost use lib.ListN.{length, replicate};
 ghost use Rattle.linear.specs.Basis.{basisOf};
 ghost use Rattle.linear.specs.Word.{word};
 ghost use Rattle.residues.specs.Residues.{withResidue};
-ghost use Rattle.buckets.specs.Bucket.{bucketOf, Grown, Growing};
 ghost use Rattle.buckets.specs.Table.{Sizes, Entering, Entered, Filled};
-
-// The bucket of a residue.
-pub fn bucket(v: u64) -> usize
-    ensures { λ r. ⌜ (r ≡ bucketOf v) × (r < 65536) ⌝ }
-{
-    let lo = v % 262144 * 2654435769;
-    let hi = v / 262144 % 262144 * 2246822519;
-    ((lo + hi) / 134217728 % 65536) as usize
-}
-
-// Makes room for `d` in the span of the rows `s` and of the first `m` rows of the stretch of the number `f`: by one row more, where it is not
-// in it. How many rows the stretch has then; 199 where more than the 8 would be needed.
-fn grow(s: &[u64], d: u64, m: usize, f: usize, rows: &mut [u64]) -> usize
-    requires { ⌜ Growing m f (now rows) ⌝ }
-    ensures { λ r. ⌜ Grown (now (s .entry)) d m f (now (rows .entry)) (now (rows .exit)) r ⌝ }
-{
-    if 8 < m {
-        return m;
-    }
-    let at = f * 8;
-    let v = forms::reduce_rows(s, d);
-    let w = forms::reduce_rows(&rows[at..at + m], v);
-    if w == 0 {
-        return m;
-    }
-    if m == 8 {
-        return 199;
-    }
-    rows[at + m] = w;
-    m + 1
-}
 
 // The mark of a number with the residue `x`, in whose bucket `y` came first.
 fn mark(x: u64, y: u64) -> u8
@@ -66,7 +34,7 @@ fn enter(
         marks[i] = 0;
         return 0;
     }
-    let b = bucket(x);
+    let b = hash::bucket(x);
     let r = ranks[b] as usize;
     if r == 0 {
         ranks[b] = 1;
@@ -76,7 +44,7 @@ fn enter(
     }
     let f = firsts[b] as usize;
     marks[i] = mark(x, h[f]);
-    let q = grow(s, gens[i] ^ gens[f], r - 1, f, rows) + 1;
+    let q = stretches::grow(s, gens[i] ^ gens[f], r - 1, f, rows) + 1;
     ranks[b] = q as u8;
     q
 }

@@ -1,4 +1,3 @@
 -- Which numbers a walk goes on with.
 pub mod Sieve
-pub mod Kept
 pub mod laws

@@ -2,7 +2,6 @@
 --   Worth .. r            == the mark r is 0 only where the child of j is barren
 --   Judged .. r           == the mark r of j is 0 only where j is known or its child barren, and else j is not known
 --   Sieved .. lo hi marks == the numbers from lo on and below hi are so marked
---   NextMarked marks from n r == r is the first marked number from `from` on and below n, or n if there is none
 -- So a sieve never drops a number that is not known and leads to an entry. Laws: laws/Marks. Assumes nothing.
 use mathlib.Core.Path.{_≡_}
 use mathlib.Core.Logic.{_≢_, _⊎_}
@@ -23,9 +22,3 @@ pub record Judged (gens h : List ℕ) (j k missing r : ℕ) : Type 0 where
 pub record Sieved (gens h : List ℕ) (lo hi k missing : ℕ) (marks : List ℕ) : Type 0 where
   pub whole : length marks ≡ 4096
   pub judged : (j : ℕ) → lo ≤ j → j < hi → Judged gens h j k missing (getD marks j 0)
-
-pub record NextMarked (marks : List ℕ) (from n r : ℕ) : Type 0 where
-  pub low : from ≤ r
-  pub high : r ≤ n
-  pub none : (i : ℕ) → from ≤ i → i < r → getD marks i 0 ≡ 0
-  pub marked : r < n → getD marks r 0 ≢ 0

@@ -2,16 +2,14 @@
 // leads of the space's basis are cleared in it.
 use bases::Basis;
 ghost use mathlib.Core.Path.{_≡_};
-ghost use mathlib.Core.Logic.{_≢_};
-ghost use Prim.Native.Nat.{_-_, _<_, _≤_};
+ghost use Prim.Native.Nat.{_<_};
 ghost use lib.ListN.{length};
 ghost use Rattle.linear.specs.Basis.{basisOf};
 ghost use Rattle.linear.specs.Word.{word};
 ghost use Rattle.bases.specs.Basis.{Holds};
 ghost use Rattle.residues.specs.Residues.{withResidue};
-ghost use Rattle.residues.specs.Filter.{pairs};
-ghost use Rattle.sieve.specs.Sieve.{Worth, Judged, Sieved, NextMarked};
-ghost use Rattle.sieve.specs.Kept.{Sieving, Kept};
+ghost use Rattle.filter.specs.Kept.{Sieving};
+ghost use Rattle.sieve.specs.Sieve.{Worth, Judged, Sieved};
 ghost use Rattle.sieve.specs.laws.Settle.{Settling};
 
 // The mark of the number `j`, which is not known: 0 where its child leads to no entry. With one dimension missing the generators in the child
@@ -65,47 +63,6 @@ fn settle(
     }
 }
 
-// How many pairs {y, y + x} of values there are besides 0 and x.
-fn pairs(missing: usize) -> usize
-    requires { ⌜ (missing ≢ 0) × (missing ≤ 8) ⌝ }
-    ensures { λ r. ⌜ (r ≡ pairs missing) × (r ≤ 127) ⌝ }
-{
-    (1usize << (missing - 1)) - 1
-}
-
-// How many dimensions are needed besides n; none where n is more than k.
-fn needed(k: usize, n: usize) -> usize
-    ensures { λ r. ⌜ r ≡ k - n ⌝ }
-{
-    if n < k { k - n } else { 0 }
-}
-
-// Marks the numbers from `start` on whose children the ranks don't rule out. `s` has the rows of the generators of residue 0.
-fn filter(
-    gens: &[u64],
-    h: &[u64],
-    start: usize,
-    k: usize,
-    missing: usize,
-    s: &[u64],
-    firsts: &mut [u16],
-    rows: &mut [u64],
-    marks: &mut [u8],
-)
-    requires { ⌜ Sieving (now gens) (now h) start missing (now firsts) (now rows) (now marks) × (now s ≡ basisOf word (withResidue 0 (now gens) (now h))) ⌝ }
-    ensures { λ _. ⌜ Kept (now (gens .entry)) (now (h .entry)) start k missing (now (marks .exit)) ⌝ }
-{
-    let mut ranks = [0u8; 65536];
-    let top = buckets::fill(gens, h, start, s, &mut ranks, firsts, rows, marks);
-    let need = needed(k, s.len());
-    if missing == 1 {
-        thin::cut(h, start, need, &ranks, marks);
-    } else {
-        let p = pairs(missing);
-        thin::thin(h, start, need, p, top, &ranks, marks);
-    }
-}
-
 // Marks the numbers from `start` on whose children are to be visited, where `missing` more dimensions make `k`. The ranks rule most children out; what is
 // left is judged one by one. `firsts` and `rows` are lent, what they hold plays no part.
 pub fn sieve(
@@ -124,21 +81,6 @@ pub fn sieve(
     let s = residues::with_residue(gens, h, 0, Basis::empty());
     let basis = s.rows;
     let n = s.len;
-    filter(gens, h, start, k, missing, &basis[..n], firsts, rows, marks);
+    filter::filter(gens, h, start, k, missing, &basis[..n], firsts, rows, marks);
     settle(gens, h, start, s, k, missing, marks);
-}
-
-// The first marked number from `from` on, or `n` if none below it is.
-pub fn next_marked(marks: &[u8], from: usize, n: usize) -> usize
-    requires { ⌜ (from ≤ n) × (n ≤ length (now marks)) ⌝ }
-    ensures { λ r. ⌜ NextMarked (now (marks .entry)) from n r ⌝ }
-{
-    let mut j = from;
-    while j < n {
-        if marks[j] != 0 {
-            return j;
-        }
-        j += 1;
-    }
-    n
 }

@@ -1,56 +1,11 @@
 // The numbers that the ranks rule out: neither the rank of a number's residue nor that of a pair of values with a later number reaches its share.
 ghost use mathlib.Core.Path.{_≡_};
-ghost use mathlib.Core.Bool.{true, false};
-ghost use mathlib.Core.Logic.{_⊎_};
-ghost use Prim.Native.Nat.{_+_, _-_, _<_, _≤_};
-ghost use lib.ListN.{length, getD};
+ghost use mathlib.Core.Bool.{true};
+ghost use Prim.Native.Nat.{_+_};
+ghost use lib.ListN.{getD};
+ghost use Rattle.cut.specs.Ruled.{Ruled, Marking};
 ghost use Rattle.residues.specs.Residues.{known};
-ghost use Rattle.thin.specs.Thin.{boundOf, Light, Unreached, Small, Ruled, Marking, Weighing, Weighed};
-
-// Whether the value `y`, of rank `w`, reaches `left` with its pair, x + y.
-fn reaches(x: u64, y: u64, w: u8, p: usize, left: usize, ranks: &[u8]) -> bool
-    requires { ⌜ (p ≤ 127) × (length (now ranks) ≡ 65536) ⌝ }
-    ensures { λ r. ⌜ (r ≡ false → Light (boundOf (now (ranks .entry))) x y w p left) ⌝ }
-{
-    if 2 * p * (w as usize) < left {
-        return false;
-    }
-    let z = x ^ y;
-    if p * (w as usize + ranks[buckets::bucket(z)] as usize) < left {
-        return false;
-    }
-    z != 0
-}
-
-// Whether one of the values of `heavy`, each with its rank in `weights`, reaches `left`; the last first.
-fn viable(x: u64, p: usize, left: usize, ranks: &[u8], heavy: &[u64], weights: &[u8]) -> bool
-    requires { ⌜ (p ≤ 127) × (length (now ranks) ≡ 65536) × (length (now heavy) ≡ length (now weights)) ⌝ }
-    ensures { λ r. ⌜ (r ≡ false → Unreached x p left (now (ranks .entry)) (now (heavy .entry)) (now (weights .entry))) ⌝ }
-{
-    let mut q = heavy.len();
-    while 0 < q {
-        q -= 1;
-        if reaches(x, heavy[q], weights[q], p, left, ranks) {
-            return true;
-        }
-    }
-    false
-}
-
-// The mark of a number with the residue `x`, of rank `r`: 0 where neither it nor a pair with a heavy value reaches its share of `need`.
-fn judge(x: u64, r: u8, need: usize, p: usize, ranks: &[u8], heavy: &[u64], weights: &[u8]) -> u8
-    requires { ⌜ (p ≤ 127) × (length (now ranks) ≡ 65536) × (length (now heavy) ≡ length (now weights)) ⌝ }
-    ensures { λ m. ⌜ (m ≡ 0 → (r < need) × Unreached x p (need - r) (now (ranks .entry)) (now (heavy .entry)) (now (weights .entry))) ⌝ }
-{
-    let w = r as usize;
-    if need <= w {
-        return 1;
-    }
-    if viable(x, p, need - w, ranks, heavy, weights) {
-        return 1;
-    }
-    0
-}
+ghost use Rattle.thin.specs.Thin.{Small, Weighing, Weighed};
 
 // Judges the number `j`, if it is marked, by the `n` heavy values of later numbers, and lists its own value where it is heavy. How many there are then.
 fn weigh(
@@ -72,8 +27,8 @@ fn weigh(
         return n;
     }
     let x = h[j];
-    let r = ranks[buckets::bucket(x)];
-    marks[j] = judge(x, r, need, p, ranks, &heavy[..n], &weights[..n]);
+    let r = ranks[hash::bucket(x)];
+    marks[j] = reach::judge(x, r, need, p, ranks, &heavy[..n], &weights[..n]);
     if 2 * p * (r as usize) + top < need {
         return n;
     }
@@ -114,31 +69,5 @@ pub fn thin(
             n,
             marks,
         );
-    }
-}
-
-// The mark `m` of a number with the residue `x`, or 0 where its rank is below `need`.
-fn still(x: u64, m: u8, need: usize, ranks: &[u8]) -> u8
-    requires { ⌜ length (now ranks) ≡ 65536 ⌝ }
-    ensures { λ r. ⌜ (r ≡ 0 → (m ≡ 0) ⊎ (boundOf (now (ranks .entry)) x < need)) ⌝ }
-{
-    if m == 0 {
-        return 0;
-    }
-    if (ranks[buckets::bucket(x)] as usize) < need {
-        return 0;
-    }
-    m
-}
-
-// The same where there are no pairs, since one dimension is missing.
-pub fn cut(h: &[u64], start: usize, need: usize, ranks: &[u8], marks: &mut [u8])
-    requires { ⌜ Marking (now h) start (now ranks) (now marks) ⌝ }
-    ensures { λ _. ⌜ Ruled (now (h .entry)) need 0 (now (ranks .entry)) start (now (marks .exit)) ⌝ }
-{
-    let mut j = start;
-    while j < h.len() {
-        marks[j] = still(h[j], marks[j], need, ranks);
-        j += 1;
     }
 }

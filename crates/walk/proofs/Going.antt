@@ -19,7 +19,8 @@ use Rattle.bases.specs.Basis.{rowsOf, Valid, Holds}
 use Rattle.bases.specs.declared.Basis.{Basis}
 use Rattle.residues.specs.Residues.{residues, known, Mapped}
 use Rattle.residues.specs.Barren.{Barren}
-use Rattle.sieve.specs.Sieve.{Judged, Sieved, NextMarked}
+use Rattle.marks.specs.Marks.{NextMarked}
+use Rattle.sieve.specs.Sieve.{Judged, Sieved}
 use Rattle.residues.specs.laws.Known.{known-ne}
 use Rattle.residues.specs.laws.Child.{residue-at, residues-length, child-residues}
 use Rattle.records.specs.declared.Chain.{Chain}

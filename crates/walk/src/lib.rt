@@ -38,7 +38,7 @@ pub fn walk(
     let n = gens.len();
     let mut marks = [0u8; 4096];
     sieve::sieve(gens, h, start, k, missing, firsts, stretches, &mut marks);
-    let mut j = sieve::next_marked(&marks, start, n);
+    let mut j = marks::next_marked(&marks, start, n);
     if j == n {
         return t;
     }
@@ -64,7 +64,7 @@ pub fn walk(
             stretches,
             out,
         );
-        j = sieve::next_marked(&marks, j + 1, n);
+        j = marks::next_marked(&marks, j + 1, n);
     }
     u
 }

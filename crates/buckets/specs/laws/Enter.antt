@@ -17,7 +17,8 @@ use Rattle.linear.specs.Span.{Span}
 use Rattle.linear.specs.Word.{word}
 use Rattle.linear.specs.laws.Span.{cast, span-weak, span-head, span-cons, span-uncons, span-rest}
 use Rattle.residues.specs.laws.Known.{known-zero, known-found}
-use Rattle.buckets.specs.Bucket.{bucketOf, stretch, Growing, Grown}
+use Rattle.hash.specs.Bucket.{bucketOf}
+use Rattle.stretches.specs.Stretch.{stretch, Growing, Grown}
 use Rattle.buckets.specs.Table.{bucketRows, Sound, Cover, Entering, Entered}
 
 -- an index is the one that was set, or another

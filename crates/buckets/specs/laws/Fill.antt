@@ -24,7 +24,7 @@ use Rattle.linear.specs.laws.Insert.{inserts-reduced, inserts-span, basisOf-red
 use Rattle.linear.specs.laws.Span.{span-bind, span-mem}
 use Rattle.linear.specs.laws.Word.{Below, at-most, inserts-below, basisOf-below}
 use Rattle.residues.specs.Residues.{known, withResidue}
-use Rattle.buckets.specs.Bucket.{bucketOf}
+use Rattle.hash.specs.Bucket.{bucketOf}
 use Rattle.residues.specs.Filter.{Bounded}
 use Rattle.buckets.specs.Table.{bucketRows, Sound, Cover, Sizes, Entering, Entered, Filled}
 

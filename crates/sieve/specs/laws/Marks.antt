@@ -1,15 +1,13 @@
 -- The marks of a node, one number after the other.
 --   barren-last                  with one dimension missing: a child whose generators don't make k rows is barren
 --   worth-off                    the mark of such a child
---   next-start, next-more, next-none, next-found   the search for the next marked number: at its start, one number further, at the end, and where one is found
 --   judged-known, judged-worth   the mark of a known number, and of another
 -- Assumes nothing.
 use mathlib.Core.Path.{_≡_, refl, sym, ap, ap₂, _∙_, subst}
 use mathlib.Core.Logic.{_≢_, inl, inr}
 use mathlib.Core.Bool.{true, false}
 use mathlib.Core.List.{List, [], _∷_}
-use Prim.Native.Nat.{ℕ, _+_, _<_, _≤_}
-use native.Mathlib.Decide.{ℕ-discrete}
+use Prim.Native.Nat.{ℕ}
 use native.Mathlib.Omega.{arith}
 use lib.ListN.{length, getD}
 use Rattle.linear.specs.Basis.{reduce, insert, inserts, basisOf, Reduced, dim}
@@ -22,7 +20,7 @@ use Rattle.residues.specs.Residues.{residues, withResidue, known}
 use Rattle.residues.specs.laws.Child.{residue-at, child-dim}
 use Rattle.residues.specs.laws.Held.{holds-length}
 use Rattle.residues.specs.Barren.{Barren}
-use Rattle.sieve.specs.Sieve.{Worth, Judged, NextMarked}
+use Rattle.sieve.specs.Sieve.{Worth, Judged}
 
 pub barren-last : (gens h : List ℕ) (j k r : ℕ) → r ≡ length (inserts word (basisOf word (withResidue 0 gens h)) (withResidue (getD h j 0) gens h)) → (r ≡ k → ⊥)
     → Barren gens h j k 1
@@ -59,26 +57,3 @@ judged-known gens h j k missing e = record { off = λ z. inl e; on = λ n. absur
 
 pub judged-worth : (gens h : List ℕ) (j k missing r : ℕ) → false ≡ known h j → Worth gens h j k missing r → Judged gens h j k missing r
 judged-worth gens h j k missing r e W = record { off = λ z. inr (W .off z); on = λ n. e }
-
--- ---- the next marked number
-pub record Searching (marks : List ℕ) (from n j : ℕ) : Type 0 where
-  pub low : from ≤ j
-  pub high : j ≤ n
-  pub none : (i : ℕ) → from ≤ i → i < j → getD marks i 0 ≡ 0
-
-pub next-start : (marks : List ℕ) (from n : ℕ) → from ≤ n → Searching marks from n from
-next-start marks from n l = record { low = omega arith; high = l; none = λ i a b. absurd (omega arith) }
-
-module _ (marks : List ℕ) (from n j : ℕ) (S : Searching marks from n j) where
-  pub next-more : j < n → getD marks j 0 ≡ 0 → Searching marks from n (j + 1)
-  next-more l z = record { low = omega (arith, S .low); high = omega arith; none = λ i a b. go i a b (ℕ-discrete i j) }
-    where
-      go : (i : ℕ) → from ≤ i → i < j + 1 → Dec (i ≡ j) → getD marks i 0 ≡ 0
-      go i a b (yes e) = ap (λ (k : ℕ). getD marks k 0) e ∙ z
-      go i a b (no k) = S .none i a (omega arith)
-
-  pub next-found : getD marks j 0 ≢ 0 → NextMarked marks from n j
-  next-found ne = record { low = S .low; high = S .high; none = S .none; marked = λ l. ne }
-
-  pub next-none : n ≤ j → NextMarked marks from n n
-  next-none l = record { low = omega (arith, S .low, S .high); high = omega arith; none = λ i a b. S .none i a (omega arith); marked = λ k. absurd (omega arith) }

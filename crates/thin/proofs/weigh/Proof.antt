@@ -5,7 +5,7 @@ use borrow.Author.Needs.{needs}
 use native.Mathlib.Omega.{arith}
 use lib.ListN.{getD}
 use lib.Seq.{length-take-le}
-use Rattle.thin.specs.laws.Thin.{product-low}
+use Rattle.reach.specs.laws.Reach.{product-low}
 use Rattle.thin.specs.laws.Weigh.{weighed-known, weighed-slight, weighed-heavy}
 use Rattle.thin.proofs.weigh.Statement.{statement}
 use Rattle.thin.proofs.weigh.Tie as tie

@@ -19,9 +19,11 @@ use Rattle.linear.specs.Word.{word, isZero}
 use Rattle.linear.specs.laws.Entry.{sameVec-yes}
 use Rattle.residues.specs.Residues.{known}
 use Rattle.residues.specs.laws.Known.{known-ne, known-found}
-use Rattle.buckets.specs.Bucket.{bucketOf}
+use Rattle.hash.specs.Bucket.{bucketOf}
 use Rattle.residues.specs.Filter.{Dropped}
-use Rattle.thin.specs.Thin.{boundOf, Light, Unreached, Small, Ruled, Seen, Marking, Weighing, Weighed}
+use Rattle.reach.specs.Reach.{boundOf, Light, Unreached}
+use Rattle.cut.specs.Ruled.{Ruled, Seen, Marking}
+use Rattle.thin.specs.Thin.{Small, Weighing, Weighed}
 
 xor-zero : (x y : ℕ) → bitXor x y ≡ 0 → x ≡ y
 unfolding sameVec

@@ -22,7 +22,7 @@ use Rattle.walk.proofs.walk.Kinds as walk-kinds
 use Rattle.walk.proofs.+walk.Lts-walk as walk-lts
 use Rattle.bases.proofs.Basis.insert.Reads as insert-reads
 use Rattle.residues.proofs.child.Reads as child-reads
-use Rattle.sieve.proofs.next_marked.Reads as next-marked-reads
+use Rattle.marks.proofs.next_marked.Reads as next-marked-reads
 use Rattle.sieve.proofs.sieve.Reads as sieve-reads
 use Rattle.residues.proofs.spanned.Reads as spanned-reads
 use Rattle.records.proofs.keep.Reads as keep-reads

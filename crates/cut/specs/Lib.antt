@@ -1,0 +1,3 @@
+-- The numbers that the ranks rule out.
+pub mod Ruled
+pub mod laws

@@ -1,0 +1,3 @@
+-- Which children the ranks rule out.
+pub mod Kept
+pub mod laws

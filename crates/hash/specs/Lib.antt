@@ -1,0 +1,2 @@
+-- The bucket of a residue.
+pub mod Bucket

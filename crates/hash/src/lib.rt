@@ -1,0 +1,13 @@
+// Residues are put into buckets, any number of residues into one.
+ghost use mathlib.Core.Path.{_≡_};
+ghost use Prim.Native.Nat.{_<_};
+ghost use Rattle.hash.specs.Bucket.{bucketOf};
+
+// The bucket of a residue.
+pub fn bucket(v: u64) -> usize
+    ensures { λ r. ⌜ (r ≡ bucketOf v) × (r < 65536) ⌝ }
+{
+    let lo = v % 262144 * 2654435769;
+    let hi = v / 262144 % 262144 * 2246822519;
+    ((lo + hi) / 134217728 % 65536) as usize
+}

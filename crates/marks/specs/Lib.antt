@@ -1,0 +1,3 @@
+-- Marked numbers.
+pub mod Marks
+pub mod laws

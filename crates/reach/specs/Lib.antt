@@ -1,0 +1,3 @@
+-- Pairs of values that reach a share.
+pub mod Reach
+pub mod laws

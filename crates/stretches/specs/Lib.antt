@@ -1,0 +1,3 @@
+-- Rows that bound a rank.
+pub mod Stretch
+pub mod laws
