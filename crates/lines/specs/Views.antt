@@ -13,6 +13,8 @@ use Rattle.lines.specs.declared.Products.{Products}
 use Rattle.lines.specs.declared.Products.the-variants as products
 use Rattle.lines.specs.declared.Rows.{Rows}
 use Rattle.lines.specs.declared.Rows.the-variants as rows
+use Rattle.lines.specs.declared.LastRows.{LastRows}
+use Rattle.lines.specs.declared.LastRows.the-variants as last
 use Rattle.lines.specs.declared.BodyRead.{BodyRead}
 use Rattle.lines.specs.declared.BodyRead.the-variants as body
 
@@ -39,6 +41,10 @@ seenRows s d rows.No = none
 abbrev pub bytesRows : Rows → ℕ
 bytesRows (rows.Are u w) = u
 bytesRows rows.No = 0
+
+abbrev pub seenLast : List ℕ → LastRows → Option (List ℕ × Bool)
+seenLast d (last.Are w) = some (d, w)
+seenLast d last.No = none
 
 abbrev pub seenBody : List ℕ → List ℕ → List ℕ → BodyRead → Option (List ℕ × List ℕ × List ℕ × Bool × Bool)
 seenBody a b d (body.Are w z) = some (a, b, d, w, z)

@@ -4,9 +4,9 @@ ghost use Prim.Native.Nat.{_≤_};
 ghost use mathlib.Core.Bool.{_||_, false};
 ghost use lib.ListN.{length};
 ghost use Rattle.lines.specs.Formula.{productLine};
-ghost use Rattle.lines.specs.Views.{seenProduct, bytesProduct, seenProducts, bytesProducts, seenRows, bytesRows, seenBody};
+ghost use Rattle.lines.specs.Views.{seenProduct, bytesProduct, seenProducts, bytesProducts, seenRows, bytesRows, seenLast, seenBody};
 ghost use Rattle.lines.specs.laws.Loops.{productsFrom, rowsFrom};
-ghost use Rattle.lines.specs.laws.Body.{bodyRun};
+ghost use Rattle.lines.specs.laws.Body.{productsPart, rowsPart, bodyRun};
 use text::FieldRead;
 use text::Used;
 
@@ -57,6 +57,19 @@ fn read_products(s: &[u8], k: usize, n: usize, m: usize, a: &mut [u64], b: &mut 
     Products::Are(at, wide, zero)
 }
 
+// The line of the products' names and the k product lines, at the front of s.
+fn products_part(s: &[u8], k: usize, n: usize, m: usize, a: &mut [u64], b: &mut [u64]) -> Products
+    ensures { λ r. ⌜ (productsPart n m k (now (s .entry)) (now (a .entry)) (now (b .entry)) ≡ seenProducts (now (s .entry)) (now (a .exit)) (now (b .exit)) r) × (bytesProducts r ≤ length (now (s .entry))) ⌝ }
+{
+    let Used::Is(u) = text::name_line(s, b"a,b") else {
+        return Products::No;
+    };
+    let Products::Are(v, wide, zero) = read_products(&s[u..], k, n, m, a, b) else {
+        return Products::No;
+    };
+    Products::Are(u + v, wide, zero)
+}
+
 // Bytes used, whether a row is too wide.
 pub enum Rows {
     Are(usize, bool),
@@ -80,6 +93,29 @@ fn read_rows(s: &[u8], t: usize, k: usize, d: &mut [u64]) -> Rows
         i += 1;
     }
     Rows::Are(at, wide)
+}
+
+// Whether a row is too wide.
+pub enum LastRows {
+    Are(bool),
+    No,
+}
+
+// The line of the rows' name and t rows of k bits: all of s.
+fn rows_part(s: &[u8], t: usize, k: usize, d: &mut [u64]) -> LastRows
+    ensures { λ r. ⌜ rowsPart k t (now (s .entry)) (now (d .entry)) ≡ seenLast (now (d .exit)) r ⌝ }
+{
+    let Used::Is(u) = text::name_line(s, b"row") else {
+        return LastRows::No;
+    };
+    let Rows::Are(v, wide) = read_rows(&s[u..], t, k, d) else {
+        return LastRows::No;
+    };
+    let e = u + v;
+    if e < s.len() {
+        return LastRows::No;
+    }
+    LastRows::Are(wide)
 }
 
 fn either(a: bool, b: bool) -> bool
@@ -110,23 +146,11 @@ pub fn read_body(
 ) -> BodyRead
     ensures { λ r. ⌜ bodyRun n m k t (now (s .entry)) (now (a .entry)) (now (b .entry)) (now (d .entry)) ≡ seenBody (now (a .exit)) (now (b .exit)) (now (d .exit)) r ⌝ }
 {
-    let Used::Is(u) = text::name_line(s, b"a,b") else {
+    let Products::Are(u, w, zero) = products_part(s, k, n, m, a, b) else {
         return BodyRead::No;
     };
-    let Products::Are(v, w, z) = read_products(&s[u..], k, n, m, a, b) else {
+    let LastRows::Are(o) = rows_part(&s[u..], t, k, d) else {
         return BodyRead::No;
     };
-    let e = u + v;
-    let Used::Is(x) = text::name_line(&s[e..], b"row") else {
-        return BodyRead::No;
-    };
-    let f = e + x;
-    let Rows::Are(y, o) = read_rows(&s[f..], t, k, d) else {
-        return BodyRead::No;
-    };
-    let g = f + y;
-    if g < s.len() {
-        return BodyRead::No;
-    }
-    BodyRead::Are(either(w, o), z)
+    BodyRead::Are(either(w, o), zero)
 }
