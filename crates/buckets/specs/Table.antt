@@ -13,8 +13,8 @@ use Prim.Native.Nat.{ℕ, zero, suc, _+_, _<_, _≤_}
 use lib.ListN.{length, getD, set}
 use Rattle.linear.specs.Span.{Span}
 use Rattle.linear.specs.Word.{word}
-use Rattle.residues.specs.Residues.{known}
-use Rattle.residues.specs.Filter.{Bounded}
+use Rattle.children.specs.Residues.{known}
+use Rattle.children.specs.Filter.{Bounded}
 use Rattle.hash.specs.Bucket.{bucketOf}
 use Rattle.stretches.specs.Stretch.{stretch}
 

@@ -5,7 +5,7 @@ ghost use Prim.Native.Nat.{_≤_};
 ghost use lib.ListN.{length, replicate};
 ghost use Rattle.linear.specs.Basis.{basisOf};
 ghost use Rattle.linear.specs.Word.{word};
-ghost use Rattle.residues.specs.Residues.{withResidue};
+ghost use Rattle.children.specs.Residues.{withResidue};
 ghost use Rattle.buckets.specs.Table.{Sizes, Entering, Entered, Filled};
 
 // The mark of a number with the residue `x`, in whose bucket `y` came first.

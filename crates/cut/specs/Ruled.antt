@@ -10,8 +10,8 @@ use mathlib.Core.List.{List}
 use Prim.Native.Nat.{ℕ, _<_, _≤_}
 use lib.ListN.{length, getD}
 use Rattle.reach.specs.Reach.{boundOf}
-use Rattle.residues.specs.Residues.{known}
-use Rattle.residues.specs.Filter.{Dropped}
+use Rattle.children.specs.Residues.{known}
+use Rattle.children.specs.Filter.{Dropped}
 
 pub record Ruled (h : List ℕ) (need p : ℕ) (ranks : List ℕ) (lo : ℕ) (marks : List ℕ) : Type 0 where
   pub out : (i : ℕ) → lo ≤ i → i < length h → getD marks i 0 ≡ 0 → (true ≡ known h i) ⊎ Dropped h (boundOf ranks) i need p

@@ -8,8 +8,8 @@ use mathlib.Core.Bool.{true}
 use mathlib.Core.List.{List}
 use Prim.Native.Nat.{ℕ, _<_, _≤_}
 use lib.ListN.{length, getD}
-use Rattle.residues.specs.Residues.{known}
-use Rattle.residues.specs.Barren.{Barren}
+use Rattle.children.specs.Residues.{known}
+use Rattle.children.specs.Barren.{Barren}
 
 pub record Sieving (gens h : List ℕ) (start missing : ℕ) (firsts rows marks : List ℕ) : Type 0 where
   pub alike : length gens ≡ length h

@@ -4,8 +4,8 @@ ghost use mathlib.Core.Logic.{_≢_};
 ghost use Prim.Native.Nat.{_-_, _≤_};
 ghost use Rattle.linear.specs.Basis.{basisOf};
 ghost use Rattle.linear.specs.Word.{word};
-ghost use Rattle.residues.specs.Residues.{withResidue};
-ghost use Rattle.residues.specs.Filter.{pairs};
+ghost use Rattle.children.specs.Residues.{withResidue};
+ghost use Rattle.children.specs.Filter.{pairs};
 ghost use Rattle.filter.specs.Kept.{Sieving, Kept};
 
 // How many pairs {y, y + x} of values there are besides 0 and x.

@@ -8,10 +8,10 @@ use native.Mathlib.Omega.{arith}
 use lib.ListN.{length, take}
 use Rattle.linear.specs.Basis.{reduce, basisOf}
 use Rattle.linear.specs.Word.{word}
-use Rattle.bases.specs.Basis.{rowsOf, Holds}
+use Rattle.bases.specs.Basis.{rowsOf, Holds, based-dim}
 use Rattle.bases.specs.declared.Basis.{Basis}
-use Rattle.residues.specs.Residues.{residues, Mapped}
-use Rattle.residues.specs.laws.Held.{holds-dim}
+use Rattle.children.specs.Residues.{residues}
+use Rattle.residues.specs.Mapped.{Mapped}
 use Rattle.records.specs.declared.Tally.{Tally}
 use Rattle.records.specs.Records.{run}
 use Rattle.walk.specs.Walk.{search, Node}
@@ -20,7 +20,7 @@ use Rattle.listing.specs.Walked.{start, Rooted, Tallied}
 use Rattle.listing.specs.laws.Listing.{listed-run}
 
 pub rooted : (gens targets : List ℕ) (k : ℕ) (b : Basis) → Asked gens targets k → Holds (basisOf word targets) b → b .len ≤ k → Rooted gens b k
-rooted gens targets k b A B l = record { small = A .small; valid = B .valid; least = l; near = omega (arith, A .near, holds-dim targets b B) }
+rooted gens targets k b A B l = record { small = A .small; valid = B .valid; least = l; near = omega (arith, A .near, based-dim targets b B) }
 
 pub root-node : (gens : List ℕ) (k limit : ℕ) (buffer : List ℕ) (b : Basis) (h : List ℕ) → Rooted gens b k → Mapped (reduce word (rowsOf b)) gens h
     → Node gens (take (length gens) h) 0 (k - b .len) b (record { numbers = 0 ∷ 0 ∷ 0 ∷ 0 ∷ 0 ∷ 0 ∷ 0 ∷ 0 ∷ []; len = 0 }) (record { found = 0; shown = 0; at = 0 }) limit buffer
@@ -38,7 +38,7 @@ root-node gens k limit buffer b h R M =
 pub listed-end : (gens targets : List ℕ) (k limit : ℕ) (buffer : List ℕ) (b : Basis) → Holds (basisOf word targets) b → b .len ≤ k → (t : Tally) (last : List ℕ)
     → Tallied gens b k limit buffer last t → Listed gens targets k limit buffer last (record { ell = b .len; found = t .found; shown = t .shown })
 listed-end gens targets k limit buffer b B l t last q =
-    let e = holds-dim targets b B in
+    let e = based-dim targets b B in
     listed-run gens targets k limit buffer (omega (arith, e)) (b .len) e t last
     (q .state
     ∙ ap (λ (C : List ℕ). run limit (start buffer) (search gens k C [] (length gens - 0) 0 (k - b .len))) (B .is)

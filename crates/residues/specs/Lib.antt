@@ -1,5 +1,3 @@
 -- Residues of the generators.
-pub mod Residues
-pub mod Barren
-pub mod Filter
+pub mod Mapped
 pub mod laws

@@ -1,5 +1,2 @@
 -- The laws of the definitions beside this folder.
-pub mod Known
-pub mod Child
 pub mod Held
-pub mod Drop

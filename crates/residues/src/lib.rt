@@ -8,7 +8,8 @@ ghost use lib.Dec.{eqb};
 ghost use Rattle.linear.specs.Basis.{clear, reduce, inserts, dim};
 ghost use Rattle.linear.specs.Word.{word};
 ghost use Rattle.bases.specs.Basis.{rowsOf, Valid, Holds};
-ghost use Rattle.residues.specs.Residues.{known, withResidue, Mapped};
+ghost use Rattle.children.specs.Residues.{known, withResidue};
+ghost use Rattle.residues.specs.Mapped.{Mapped};
 
 // The residues of the generators for the basis `b`.
 pub fn residues(gens: &[u64], b: Basis, out: &mut [u64; 4096])

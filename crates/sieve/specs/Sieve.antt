@@ -9,8 +9,8 @@ use mathlib.Core.Bool.{true, false}
 use mathlib.Core.List.{List}
 use Prim.Native.Nat.{ℕ, _<_, _≤_}
 use lib.ListN.{length, getD}
-use Rattle.residues.specs.Residues.{known}
-use Rattle.residues.specs.Barren.{Barren}
+use Rattle.children.specs.Residues.{known}
+use Rattle.children.specs.Barren.{Barren}
 
 pub record Worth (gens h : List ℕ) (j k missing r : ℕ) : Type 0 where
   pub off : r ≡ 0 → Barren gens h j k missing

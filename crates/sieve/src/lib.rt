@@ -7,7 +7,7 @@ ghost use lib.ListN.{length};
 ghost use Rattle.linear.specs.Basis.{basisOf};
 ghost use Rattle.linear.specs.Word.{word};
 ghost use Rattle.bases.specs.Basis.{Holds};
-ghost use Rattle.residues.specs.Residues.{withResidue};
+ghost use Rattle.children.specs.Residues.{withResidue};
 ghost use Rattle.filter.specs.Kept.{Sieving};
 ghost use Rattle.sieve.specs.Sieve.{Worth, Judged, Sieved};
 ghost use Rattle.sieve.specs.laws.Settle.{Settling};

@@ -11,7 +11,7 @@ use Prim.Native.Nat.{ℕ, _+_, _*_, _<_, _≤_}
 use lib.ListN.{length, getD}
 use Rattle.cut.specs.Ruled.{Ruled}
 use Rattle.reach.specs.Reach.{boundOf}
-use Rattle.residues.specs.Residues.{known}
+use Rattle.children.specs.Residues.{known}
 
 pub record Small (p top : ℕ) (ranks : List ℕ) : Type 0 where
   pub pairs-few : p ≤ 127

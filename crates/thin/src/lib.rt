@@ -4,7 +4,7 @@ ghost use mathlib.Core.Bool.{true};
 ghost use Prim.Native.Nat.{_+_};
 ghost use lib.ListN.{getD};
 ghost use Rattle.cut.specs.Ruled.{Ruled, Marking};
-ghost use Rattle.residues.specs.Residues.{known};
+ghost use Rattle.children.specs.Residues.{known};
 ghost use Rattle.thin.specs.Thin.{Small, Weighing, Weighed};
 
 // Judges the number `j`, if it is marked, by the `n` heavy values of later numbers, and lists its own value where it is heavy. How many there are then.

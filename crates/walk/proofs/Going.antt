@@ -17,12 +17,13 @@ use Rattle.linear.specs.Word.{word}
 use Rattle.linear.specs.laws.Residue.{insert-residue}
 use Rattle.bases.specs.Basis.{rowsOf, Valid, Holds}
 use Rattle.bases.specs.declared.Basis.{Basis}
-use Rattle.residues.specs.Residues.{residues, known, Mapped}
-use Rattle.residues.specs.Barren.{Barren}
+use Rattle.children.specs.Residues.{residues, known}
+use Rattle.residues.specs.Mapped.{Mapped}
+use Rattle.children.specs.Barren.{Barren}
 use Rattle.marks.specs.Marks.{NextMarked}
 use Rattle.sieve.specs.Sieve.{Judged, Sieved}
-use Rattle.residues.specs.laws.Known.{known-ne}
-use Rattle.residues.specs.laws.Child.{residue-at, residues-length, child-residues}
+use Rattle.children.specs.laws.Known.{known-ne}
+use Rattle.children.specs.laws.Child.{residue-at, residues-length, child-residues}
 use Rattle.records.specs.declared.Chain.{Chain}
 use Rattle.records.specs.declared.Tally.{Tally}
 use Rattle.records.specs.Records.{State, run, Sane}

@@ -15,7 +15,7 @@ use Rattle.records.specs.Records.{Sane}
 use Rattle.records.specs.Keep.{stateOf, Tidy}
 use Rattle.records.specs.declared.Chain.{Chain}
 use Rattle.records.specs.declared.Tally.{Tally}
-use Rattle.residues.specs.Residues.{residues, known}
+use Rattle.children.specs.Residues.{residues, known}
 
 abbrev pub search : List ℕ → ℕ → List ℕ → List ℕ → ℕ → ℕ → ℕ → List (List ℕ)
 search gens k = walk word gens (λ C i. known (residues gens C) i) (spans word gens k) (λ p C. p ++ C)

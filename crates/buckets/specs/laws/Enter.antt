@@ -16,7 +16,7 @@ use lib.Seq.{getD-set-same, getD-set-other}
 use Rattle.linear.specs.Span.{Span}
 use Rattle.linear.specs.Word.{word}
 use Rattle.linear.specs.laws.Span.{cast, span-weak, span-head, span-cons, span-uncons, span-rest}
-use Rattle.residues.specs.laws.Known.{known-zero, known-found}
+use Rattle.children.specs.laws.Known.{known-zero, known-found}
 use Rattle.hash.specs.Bucket.{bucketOf}
 use Rattle.stretches.specs.Stretch.{stretch, Growing, Grown}
 use Rattle.buckets.specs.Table.{bucketRows, Sound, Cover, Entering, Entered}

@@ -23,9 +23,9 @@ use Rattle.linear.specs.laws.Dimension.{sub-length, inserts-le}
 use Rattle.linear.specs.laws.Insert.{inserts-reduced, inserts-span, basisOf-reduced}
 use Rattle.linear.specs.laws.Span.{span-bind, span-mem}
 use Rattle.linear.specs.laws.Word.{Below, at-most, inserts-below, basisOf-below}
-use Rattle.residues.specs.Residues.{known, withResidue}
+use Rattle.children.specs.Residues.{known, withResidue}
 use Rattle.hash.specs.Bucket.{bucketOf}
-use Rattle.residues.specs.Filter.{Bounded}
+use Rattle.children.specs.Filter.{Bounded}
 use Rattle.buckets.specs.Table.{bucketRows, Sound, Cover, Sizes, Entering, Entered, Filled}
 
 -- ---- rows bound a rank

@@ -12,8 +12,8 @@ use native.Mathlib.Nat.{zero-mul}
 use lib.Bits.{bitXor}
 use lib.ListN.{length, getD, set, length-set}
 use lib.Seq.{getD-set-same, getD-set-other}
-use Rattle.residues.specs.Residues.{known}
-use Rattle.residues.specs.Filter.{Dropped}
+use Rattle.children.specs.Residues.{known}
+use Rattle.children.specs.Filter.{Dropped}
 use Rattle.reach.specs.Reach.{boundOf}
 use Rattle.cut.specs.Ruled.{Ruled, Seen, Marking}
 

@@ -14,10 +14,10 @@ use lib.Pow.{pow-mono}
 use Rattle.linear.specs.Basis.{basisOf, dim}
 use Rattle.linear.specs.Word.{word}
 use Rattle.linear.specs.laws.Shift.{one-shift}
-use Rattle.residues.specs.Residues.{known, withResidue}
-use Rattle.residues.specs.Barren.{Barren}
-use Rattle.residues.specs.Filter.{pairs, Dropped}
-use Rattle.residues.specs.laws.Drop.{dropped-barren}
+use Rattle.children.specs.Residues.{known, withResidue}
+use Rattle.children.specs.Barren.{Barren}
+use Rattle.children.specs.Filter.{pairs, Dropped}
+use Rattle.children.specs.laws.Drop.{dropped-barren}
 use Rattle.buckets.specs.Table.{Filled}
 use Rattle.reach.specs.Reach.{boundOf}
 use Rattle.cut.specs.Ruled.{Ruled, Marking}

@@ -1,5 +1,5 @@
 -- `listing::list_entries` meets its contract: the walk from the targets' space writes the records of the entries. Assumes nothing.
-use Rattle.residues.specs.laws.Held.{holds-dim}
+use Rattle.bases.specs.Basis.{based-dim}
 use Rattle.listing.specs.laws.Listing.{listed-below}
 use Rattle.listing.proofs.Root.{rooted, listed-end}
 use Rattle.listing.proofs.list_entries.Statement.{statement}
@@ -12,7 +12,7 @@ returns : tie.Need-returns
 returns c =
     let a = c .before .before .before .before .before .args in
     let r = c .before .basis-of in
-    listed-below (a .gens .now) (a .targets .now) (a .k) (r .result .len) (a .limit) (a .out .now) (holds-dim (a .targets .now) (r .result) (r .ensures)) (c .if1 .taken)
+    listed-below (a .gens .now) (a .targets .now) (a .k) (r .result .len) (a .limit) (a .out .now) (based-dim (a .targets .now) (r .result) (r .ensures)) (c .if1 .taken)
 
 tally-requires : tie.Need-tally-requires
 tally-requires c κs = let a = c .before .before .before .before .before .before .args in rooted (a .gens .now) (a .targets .now) (a .k) (c .before .before .basis-of .result) (c .before .before .before .before .before .before .pre) (c .before .before .basis-of .ensures) (c .before .if1 .left)

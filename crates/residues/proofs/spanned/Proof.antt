@@ -2,8 +2,9 @@
 use mathlib.Core.Path.{ap}
 use Prim.Native.Nat.{ℕ}
 use lib.Dec.{eqb}
-use Rattle.residues.specs.Residues.{withResidue}
-use Rattle.residues.specs.laws.Held.{holds-dim, from-empty}
+use Rattle.bases.specs.Basis.{based-dim}
+use Rattle.children.specs.Residues.{withResidue}
+use Rattle.residues.specs.laws.Held.{from-empty}
 use Rattle.residues.proofs.spanned.Statement.{statement}
 use Rattle.residues.proofs.spanned.Tie as tie
 
@@ -17,7 +18,7 @@ returns : tie.Need-returns
 returns c =
     let xs = withResidue 0 (c .before .before .before .before .before .args .gens .now) (c .before .before .before .before .before .args .h .now) in
     let r = c .before .with-residue .result in
-    ap (λ (n : ℕ). eqb n (c .before .before .before .before .before .args .k)) (holds-dim xs r (from-empty xs (c .before .before .empty .result) r (c .before .before .empty .ensures) (c .before .with-residue .ensures)))
+    ap (λ (n : ℕ). eqb n (c .before .before .before .before .before .args .k)) (based-dim xs r (from-empty xs (c .before .before .empty .result) r (c .before .before .empty .ensures) (c .before .with-residue .ensures)))
 
 pub spanned-spec : {M : Type 1} → statement M
 spanned-spec = tie.close (tie.spec empty-requires with-residue-requires returns)

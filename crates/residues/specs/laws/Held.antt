@@ -1,22 +1,18 @@
 -- Records of bases that hold the rows of a list.
---   holds-length, holds-dim      how many rows a record has that holds a basis, and the basis of a list
---   from-empty                   a list put into the empty basis makes its basis
+--   holds-length   how many rows a record has that holds a basis
+--   from-empty     a list put into the empty basis makes its basis
 -- Assumes nothing.
 use mathlib.Core.Path.{_≡_, sym, ap, _∙_}
 use mathlib.Core.List.{List, []}
 use Prim.Native.Nat.{ℕ}
 use lib.ListN.{length}
-use Rattle.linear.specs.Basis.{inserts, basisOf, dim}
+use Rattle.linear.specs.Basis.{inserts, basisOf}
 use Rattle.linear.specs.Word.{word}
 use Rattle.bases.specs.Basis.{rowsOf, Holds, rows-length}
 use Rattle.bases.specs.declared.Basis.{Basis}
 
 pub holds-length : (B : List ℕ) (b : Basis) → Holds B b → b .len ≡ length B
 holds-length B b H = sym (rows-length b (H .valid)) ∙ ap length (H .is)
-
-pub holds-dim : (xs : List ℕ) (b : Basis) → Holds (basisOf word xs) b → b .len ≡ dim word xs
-unfolding dim
-holds-dim xs b H = holds-length (basisOf word xs) b H
 
 pub from-empty : (xs : List ℕ) (e b : Basis) → Holds [] e → Holds (inserts word (rowsOf e) xs) b → Holds (basisOf word xs) b
 unfolding basisOf

@@ -3,7 +3,7 @@ use mathlib.Core.Path.{sym, _∙_, subst}
 use Prim.Native.Nat.{ℕ}
 use borrow.Author.Needs.{needs}
 use Rattle.bases.specs.Basis.{rows-length}
-use Rattle.residues.specs.Residues.{withResidue}
+use Rattle.children.specs.Residues.{withResidue}
 use Rattle.residues.specs.laws.Held.{from-empty}
 use Rattle.sieve.specs.Sieve.{Sieved}
 use Rattle.sieve.specs.laws.Settle.{settling-start}

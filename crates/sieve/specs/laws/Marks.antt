@@ -16,10 +16,10 @@ use Rattle.linear.specs.Word.{word}
 use Rattle.linear.specs.laws.Reduce.{member}
 use Rattle.bases.specs.Basis.{rowsOf, Holds}
 use Rattle.bases.specs.declared.Basis.{Basis}
-use Rattle.residues.specs.Residues.{residues, withResidue, known}
-use Rattle.residues.specs.laws.Child.{residue-at, child-dim}
+use Rattle.children.specs.Residues.{residues, withResidue, known}
+use Rattle.children.specs.laws.Child.{residue-at, child-dim}
 use Rattle.residues.specs.laws.Held.{holds-length}
-use Rattle.residues.specs.Barren.{Barren}
+use Rattle.children.specs.Barren.{Barren}
 use Rattle.sieve.specs.Sieve.{Worth, Judged}
 
 pub barren-last : (gens h : List ℕ) (j k r : ℕ) → r ≡ length (inserts word (basisOf word (withResidue 0 gens h)) (withResidue (getD h j 0) gens h)) → (r ≡ k → ⊥)

@@ -11,8 +11,8 @@ use native.Mathlib.Omega.{arith}
 use native.Mathlib.Decide.{ℕ-discrete}
 use lib.ListN.{length, getD, set, length-set}
 use lib.Seq.{getD-set-same, getD-set-other}
-use Rattle.residues.specs.Residues.{known}
-use Rattle.residues.specs.Barren.{Barren}
+use Rattle.children.specs.Residues.{known}
+use Rattle.children.specs.Barren.{Barren}
 use Rattle.filter.specs.Kept.{Kept}
 use Rattle.sieve.specs.Sieve.{Judged, Sieved}
 

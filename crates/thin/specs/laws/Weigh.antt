@@ -17,10 +17,10 @@ use lib.Seq.{getD-take, getD-set-same, getD-set-other}
 use Rattle.linear.specs.Entry.{sameVec}
 use Rattle.linear.specs.Word.{word, isZero}
 use Rattle.linear.specs.laws.Entry.{sameVec-yes}
-use Rattle.residues.specs.Residues.{known}
-use Rattle.residues.specs.laws.Known.{known-ne, known-found}
+use Rattle.children.specs.Residues.{known}
+use Rattle.children.specs.laws.Known.{known-ne, known-found}
 use Rattle.hash.specs.Bucket.{bucketOf}
-use Rattle.residues.specs.Filter.{Dropped}
+use Rattle.children.specs.Filter.{Dropped}
 use Rattle.reach.specs.Reach.{boundOf, Light, Unreached}
 use Rattle.cut.specs.Ruled.{Ruled, Seen, Marking}
 use Rattle.thin.specs.Thin.{Small, Weighing, Weighed}

@@ -10,8 +10,8 @@ use lib.Seq.{length-take-le}
 use borrow.Fn.Kinds.{In}
 use borrow.Fn.PlainCycle.{Measures, is, falls, and}
 use Rattle.bases.specs.Basis.{rowsOf}
-use Rattle.residues.specs.Residues.{known}
-use Rattle.residues.specs.laws.Child.{residues-length}
+use Rattle.children.specs.Residues.{known}
+use Rattle.children.specs.laws.Child.{residues-length}
 use Rattle.records.specs.Records.{run}
 use Rattle.records.specs.Keep.{chainOf, stateOf}
 use Rattle.walk.specs.Walk.{search}

@@ -23,10 +23,10 @@ use Rattle.linear.specs.Word.{word}
 use Rattle.linear.specs.laws.Insert.{insert-reduced}
 use Rattle.linear.specs.laws.Canonical.{Steps}
 use Rattle.linear.specs.laws.Walk.{walk-is, Free, walk-none, free-steps}
-use Rattle.residues.specs.Residues.{residues, known, withResidue}
-use Rattle.residues.specs.laws.Known.{known-yes, known-no}
-use Rattle.residues.specs.laws.Child.{with-zero}
-use Rattle.residues.specs.Barren.{Barren}
+use Rattle.children.specs.Residues.{residues, known, withResidue}
+use Rattle.children.specs.laws.Known.{known-yes, known-no}
+use Rattle.children.specs.laws.Child.{with-zero}
+use Rattle.children.specs.Barren.{Barren}
 use Rattle.records.specs.Records.{State, note, run}
 use Rattle.walk.specs.Walk.{search}
 

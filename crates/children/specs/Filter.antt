@@ -13,7 +13,7 @@ use lib.Bits.{bitXor}
 use Rattle.linear.specs.Basis.{basisOf}
 use Rattle.linear.specs.Share.{over}
 use Rattle.linear.specs.Word.{word}
-use Rattle.residues.specs.Residues.{known, withResidue}
+use Rattle.children.specs.Residues.{known, withResidue}
 
 pub record Bounded (gens h : List ℕ) (start : ℕ) (bound : ℕ → ℕ) : Type 0 where
   pub above : (v : ℕ) → v ≢ 0 → over word (basisOf word (withResidue 0 gens h)) (withResidue v (drop start gens) (drop start h)) ≤ bound v

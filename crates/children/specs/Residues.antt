@@ -2,13 +2,11 @@
 --   residues gens C       == what is left of each generator when the leads of the basis C are cleared in it
 --   known h i             == by the residues h, the number i brings in nothing, or what an earlier one would
 --   withResidue x gens h  == the generators whose residue is x, in their order
---   Mapped f l out        == an array of 4,096 words that begins with the list l, mapped by f
--- Laws: laws/Known, laws/Child, laws/Held. Assumes nothing.
-use mathlib.Core.Path.{_≡_}
+-- Laws: laws/Known, laws/Child. Assumes nothing.
 use mathlib.Core.Bool.{Bool, cond, _||_}
 use mathlib.Core.List.{List, [], _∷_, map}
 use Prim.Native.Nat.{ℕ}
-use lib.ListN.{length, getD, take}
+use lib.ListN.{getD, take}
 use lib.Dec.{eqb}
 use Rattle.linear.specs.Basis.{reduce}
 use Rattle.linear.specs.Select.{anyOf}
@@ -24,7 +22,3 @@ unfoldable pub withResidue : ℕ → List ℕ → List ℕ → List ℕ
 withResidue x [] h = []
 withResidue x (g ∷ gens) [] = []
 withResidue x (g ∷ gens) (y ∷ h) = let r = withResidue x gens h in cond (eqb y x) (g ∷ r) r
-
-pub record Mapped (f : ℕ → ℕ) (l out : List ℕ) : Type 0 where
-  pub whole : length out ≡ 4096
-  pub is : take (length l) out ≡ map f l

@@ -24,8 +24,8 @@ use Rattle.linear.specs.laws.Reduce.{member}
 use Rattle.linear.specs.laws.Insert.{insert-reduced}
 use Rattle.linear.specs.laws.Select.{anyOf-no, no-anyOf, anyOf-yes}
 use Rattle.linear.specs.laws.Order.{mem-index, mem-getD}
-use Rattle.residues.specs.Residues.{residues, known}
-use Rattle.residues.specs.laws.Child.{residue-at, reduce-child, clear-zero, zero-yes, zero-no}
+use Rattle.children.specs.Residues.{residues, known}
+use Rattle.children.specs.laws.Child.{residue-at, reduce-child, clear-zero, zero-yes, zero-no}
 
 isZero-of : (x : ℕ) → x ≢ 0 → isZero x ≡ false
 isZero-of zero n = absurd (n refl)

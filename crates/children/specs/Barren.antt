@@ -11,7 +11,7 @@ use Rattle.linear.specs.Entry.{generator, chosen, generatorsIn}
 use Rattle.linear.specs.Walk.{Next}
 use Rattle.linear.specs.Word.{word}
 use Rattle.linear.specs.laws.Canonical.{Steps}
-use Rattle.residues.specs.Residues.{residues}
+use Rattle.children.specs.Residues.{residues}
 
 pub record Barren (gens h : List ℕ) (j k missing : ℕ) : Type 0 where
   pub none : (C : List ℕ) → Reduced word C → h ≡ residues gens C → Next word gens C j

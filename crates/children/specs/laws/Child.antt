@@ -31,7 +31,7 @@ use Rattle.linear.specs.laws.Select.{only-mem, mem-only}
 use Rattle.linear.specs.laws.Entry.{sameVec-yes}
 use Rattle.linear.specs.laws.Dimension.{basisOf-is}
 use Rattle.linear.specs.laws.Word.{norm-word}
-use Rattle.residues.specs.Residues.{residues, withResidue}
+use Rattle.children.specs.Residues.{residues, withResidue}
 
 -- ---- its residues
 pub reduce-child : (C : List ℕ) → Reduced word C → (g m : ℕ) → reduce word C g ≢ 0 → reduce word (insert word C g) m ≡ clear word (reduce word C g) (reduce word C m)

@@ -31,11 +31,11 @@ use Rattle.linear.specs.laws.Greedy.{inserts-within}
 use Rattle.linear.specs.laws.Residue.{residue-span}
 use Rattle.linear.specs.laws.Canonical.{Steps, steps-low}
 use Rattle.linear.specs.laws.Share.{over-sub, over-some, alike-mem, share}
-use Rattle.residues.specs.Residues.{residues, known, withResidue}
-use Rattle.residues.specs.Barren.{Barren}
-use Rattle.residues.specs.Filter.{Bounded, pairs, Dropped}
-use Rattle.residues.specs.laws.Child.{residue-at, residues-length, with-zero, mem-with}
-use Rattle.residues.specs.laws.Known.{known-none}
+use Rattle.children.specs.Residues.{residues, known, withResidue}
+use Rattle.children.specs.Barren.{Barren}
+use Rattle.children.specs.Filter.{Bounded, pairs, Dropped}
+use Rattle.children.specs.laws.Child.{residue-at, residues-length, with-zero, mem-with}
+use Rattle.children.specs.laws.Known.{known-none}
 
 -- over two elements
 two-word : Two word

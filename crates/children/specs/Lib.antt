@@ -1,0 +1,5 @@
+-- Residues of the generators at a space, and children that lead nowhere.
+pub mod Residues
+pub mod Barren
+pub mod Filter
+pub mod laws

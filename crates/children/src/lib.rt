@@ -1,0 +1,1 @@
+// Residues of the generators at a space, and children that lead nowhere: theory, in specs/.
