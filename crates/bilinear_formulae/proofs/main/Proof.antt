@@ -8,7 +8,7 @@ use Rattle.bilinear_formulae.proofs.main.Tie as tie
 use Rattle.bilinear_formulae.proofs.main.Reads as reads
 use Rattle.bilinear_formulae.proofs.main.Lts as lts
 use Rattle.bilinear_formulae.proofs.write_entries.Reads as write-entries-reads
-use Rattle.formulae_program.proofs.start.Reads as start-reads
+use Rattle.formulae_start.proofs.start.Reads as start-reads
 use Rattle.io.proofs.read_full.Reads as read-full-reads
 use Rattle.io.proofs.write_all.Reads as write-all-reads
 

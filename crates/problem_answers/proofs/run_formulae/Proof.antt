@@ -8,7 +8,7 @@ use Rattle.problem_answers.proofs.run_formulae.Tie as tie
 use Rattle.problem_answers.proofs.run_formulae.Reads as reads
 use Rattle.problem_answers.proofs.run_formulae.Lts as lts
 use Rattle.problem_answers.proofs.run_entries.Reads as run-entries-reads
-use Rattle.formulae_program.proofs.start.Reads as start-reads
+use Rattle.formulae_start.proofs.start.Reads as start-reads
 use Rattle.io.proofs.write_all.Reads as write-all-reads
 
 slice-aggregate-start : tie.Need-slice-aggregate-start
