@@ -14,8 +14,9 @@ use Rattle.kinds.specs.RefusalLaws.{refuse-inv}
 use Rattle.linear.specs.Basis.{dim}
 use Rattle.linear.specs.Word.{word}
 use Rattle.problems.specs.Problem.{Problem, posed}
-use Rattle.problem_files.specs.ProblemFile.{ProblemFile, problemFile}
-use Rattle.problem_files.specs.declared.Purpose.the-variants as purpose
+use Rattle.problem_judging.specs.Judged.{ProblemFile}
+use Rattle.problem_files.specs.ProblemFile.{problemFile}
+use Rattle.problem_judging.specs.declared.Purpose.the-variants as purpose
 use Rattle.search.specs.Catalogue.{Catalogued}
 use Rattle.ranks.specs.Rank.{rank}
 use Rattle.demand.specs.Theorems.{CatalogueMeans, catalogue-means, RankMeans, rank-means}

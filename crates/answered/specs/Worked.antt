@@ -31,7 +31,9 @@ use Rattle.print.specs.Print.{printed}
 use Rattle.pieces.specs.Fields.{sizesText}
 use Rattle.inner.specs.Inner.{spacedText, innerText}
 use Rattle.reports.specs.Reports.{listsText, entryText, recordLines, countsText, catalogueText, rankHead, rankText}
-use Rattle.problem_files.specs.ProblemFile.{mapLines, settled, judged, formsOf, problemFile}
+use Rattle.problem_lines.specs.ProblemLines.{mapLines}
+use Rattle.problem_judging.specs.Judged.{settled, judged}
+use Rattle.problem_files.specs.ProblemFile.{formsOf, problemFile}
 use Rattle.catalogue_answers.specs.CatalogueAnswers.{catalogueReply}
 use Rattle.rank_answers.specs.RankAnswers.{rankReply}
 use Rattle.inputs.specs.Inputs.{inputOf}

@@ -13,8 +13,9 @@ use Rattle.kinds.specs.Kinds.{numberOf}
 use Rattle.kinds.specs.Refusal.{Answer, refused, accepted, follow}
 use Rattle.kinds.specs.RefusalLaws.{accepted-inj, refuse-inv, follow-inv}
 use Rattle.problems.specs.Problem.{Problem, posed}
-use Rattle.problem_files.specs.ProblemFile.{ProblemFile, problemFile}
-use Rattle.problem_files.specs.declared.Purpose.the-variants as purpose
+use Rattle.problem_judging.specs.Judged.{ProblemFile}
+use Rattle.problem_files.specs.ProblemFile.{problemFile}
+use Rattle.problem_judging.specs.declared.Purpose.the-variants as purpose
 use Rattle.search.specs.Catalogue.{Catalogued, catalogue}
 use Rattle.spaces.specs.Spaces.{Formulae, formulaeOf}
 use Rattle.spaces.specs.Theorems.{formulae-means}

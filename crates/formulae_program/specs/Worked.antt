@@ -26,7 +26,9 @@ use Rattle.print.specs.Print.{printed}
 use Rattle.pieces.specs.Fields.{sizesText}
 use Rattle.inner.specs.Inner.{spacedText, innerText}
 use Rattle.reports.specs.Reports.{listsText, entryText, recordLines, countsText, formulaText}
-use Rattle.problem_files.specs.ProblemFile.{listLines, settled, judged, formsOf, problemFile}
+use Rattle.problem_lines.specs.ProblemLines.{listLines}
+use Rattle.problem_judging.specs.Judged.{settled, judged}
+use Rattle.problem_files.specs.ProblemFile.{formsOf, problemFile}
 use Rattle.spaces.specs.Spaces as spaces
 use Rattle.spaces.specs.Spaces.{isEntry, formulaeOf}
 use Rattle.roles.specs.Roles.{roleLine, roleLines, listBody}

@@ -10,8 +10,8 @@ use mathlib.Core.List.{List, _++_}
 use Rattle.kinds.specs.declared.Kind.{Kind}
 use Rattle.kinds.specs.Kinds.{numberOf}
 use Rattle.kinds.specs.Refusal.{Answer, accepted, follow}
-use Rattle.problem_files.specs.ProblemFile.{ProblemFile}
-use Rattle.problem_files.specs.declared.Purpose.the-variants as purpose
+use Rattle.problem_judging.specs.Judged.{ProblemFile}
+use Rattle.problem_judging.specs.declared.Purpose.the-variants as purpose
 use Rattle.search.specs.Catalogue.{Catalogued, catalogue}
 use Rattle.reports.specs.Reports.{countsText, formulaeNames}
 use Rattle.pages.specs.Pages.{listingRoom}

@@ -3,14 +3,14 @@ ghost use mathlib.Core.Path.{_≡_};
 ghost use Prim.Native.Nat.{_-_, _≤_};
 ghost use lib.ListN.{length, take};
 ghost use Rattle.pages.specs.Pages.{listingRoom};
-ghost use Rattle.problem_files.specs.ProblemFile.{problemOf};
+ghost use Rattle.problem_judging.specs.Judged.{problemOf};
 ghost use Rattle.formulae_start.specs.Listed.{headText, listed, listedInput};
 ghost use Rattle.formulae_start.specs.Starts.{Starts};
 ghost use Rattle.formulae_start.specs.laws.Start.{Empty};
 use kinds::Kind;
 use plans::Plan;
-use problem_files::ProblemRead;
-use problem_files::Purpose;
+use problem_judging::ProblemRead;
+use problem_judging::Purpose;
 use search::Catalogued;
 
 // The line of a refusal from the start of a page, and no entry.
@@ -113,8 +113,8 @@ pub fn start(
     match inputs::read_input(file, Purpose::Catalogue, gs, ts) {
         ProblemRead::Refused(e) => plan_refused(e, page),
         ProblemRead::Problem(kind, p, q, r, k) => {
-            let c = problem_files::handed(kind, q) as usize;
-            let d = problem_files::handed(kind, r) as usize;
+            let c = problem_lines::handed(kind, q) as usize;
+            let d = problem_lines::handed(kind, r) as usize;
             plan_problem(kind, p, q, r, k, &gs[..c], &ts[..d], listing, page)
         }
     }

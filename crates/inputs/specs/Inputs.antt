@@ -9,11 +9,13 @@ use mathlib.Core.List.{List}
 use lib.ListN.{length}
 use lib.Dec.{ltb}
 use Rattle.kinds.specs.Refusal.{Answer, refuse}
-use Rattle.problem_files.specs.ProblemFile.{ProblemFile, handed, problemFile}
+use Rattle.problem_lines.specs.ProblemLines.{handed}
+use Rattle.problem_judging.specs.Judged.{ProblemFile}
+use Rattle.problem_files.specs.ProblemFile.{problemFile}
 use Rattle.problem_files.specs.Lent.{seenRead}
-use Rattle.problem_files.specs.declared.Purpose.{Purpose}
-use Rattle.problem_files.specs.declared.ProblemRead.{ProblemRead}
-use Rattle.problem_files.specs.declared.ProblemRead.the-variants as read
+use Rattle.problem_judging.specs.declared.Purpose.{Purpose}
+use Rattle.problem_judging.specs.declared.ProblemRead.{ProblemRead}
+use Rattle.problem_judging.specs.declared.ProblemRead.the-variants as read
 
 unfoldable pub inputOf : Purpose → List ℕ → Answer ProblemFile
 inputOf a s = refuse 1 (ltb 65536 (length s)) (problemFile a s 4096 4096)

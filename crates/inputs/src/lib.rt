@@ -2,8 +2,8 @@
 ghost use mathlib.Core.Path.{_≡_};
 ghost use lib.ListN.{length};
 ghost use Rattle.inputs.specs.Inputs.{Input};
-use problem_files::ProblemRead;
-use problem_files::Purpose;
+use problem_judging::ProblemRead;
+use problem_judging::Purpose;
 
 // Reads the problem of an input of at most 65,536 bytes; the forms of a list from the buffers' start.
 pub fn read_input(file: &[u8], purpose: Purpose, gs: &mut [u64], ts: &mut [u64]) -> ProblemRead

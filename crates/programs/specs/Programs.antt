@@ -7,9 +7,9 @@
 use Prim.Native.Nat.{ℕ}
 use mathlib.Core.List.{List}
 use Rattle.kinds.specs.Refusal.{accepted, follow}
-use Rattle.problem_files.specs.ProblemFile.{ProblemFile}
-use Rattle.problem_files.specs.declared.Purpose.{Purpose}
-use Rattle.problem_files.specs.declared.Purpose.the-variants as purpose
+use Rattle.problem_judging.specs.Judged.{ProblemFile}
+use Rattle.problem_judging.specs.declared.Purpose.{Purpose}
+use Rattle.problem_judging.specs.declared.Purpose.the-variants as purpose
 use Rattle.inputs.specs.Inputs.{inputOf}
 use Rattle.pages.specs.Pages.{printed}
 use Rattle.catalogue_answers.specs.CatalogueAnswers.{catalogueReply}

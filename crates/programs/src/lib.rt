@@ -2,11 +2,11 @@
 ghost use mathlib.Core.Path.{_≡_};
 ghost use Prim.Native.Nat.{_≤_};
 ghost use lib.ListN.{length, take};
-ghost use Rattle.problem_files.specs.ProblemFile.{problemOf};
+ghost use Rattle.problem_judging.specs.Judged.{problemOf};
 ghost use Rattle.programs.specs.Programs.{replyTo, problemProgram, catalogueProgram, rankProgram};
 use kinds::Kind;
-use problem_files::ProblemRead;
-use problem_files::Purpose;
+use problem_judging::ProblemRead;
+use problem_judging::Purpose;
 
 // What is printed of a problem, from the start of a page; its length.
 fn reply(
@@ -39,8 +39,8 @@ fn problem_program(purpose: Purpose, file: &[u8], page: &mut [u8]) -> usize
     match inputs::read_input(file, purpose, &mut gs, &mut ts) {
         ProblemRead::Refused(e) => pages::refused_page(e, page),
         ProblemRead::Problem(kind, p, q, r, k) => {
-            let c = problem_files::handed(kind, q) as usize;
-            let d = problem_files::handed(kind, r) as usize;
+            let c = problem_lines::handed(kind, q) as usize;
+            let d = problem_lines::handed(kind, r) as usize;
             reply(purpose, kind, p, q, r, k, &gs[..c], &ts[..d], page)
         }
     }

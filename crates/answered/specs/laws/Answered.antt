@@ -25,9 +25,10 @@ use Rattle.linear.specs.laws.Dimension.{dim-length}
 use Rattle.choice.specs.Choice.{formulaRecord}
 use Rattle.problems.specs.Problem.{Problem, posed}
 use Rattle.problems.specs.Theorems.{posed-few}
-use Rattle.problem_files.specs.ProblemFile.{ProblemFile, problemOf, beyond, short, settled, judged, problemFile}
+use Rattle.problem_judging.specs.Judged.{ProblemFile, problemOf, beyond, short, settled, judged}
+use Rattle.problem_files.specs.ProblemFile.{problemFile}
 use Rattle.problem_files.specs.laws.Accepted.{problem-went}
-use Rattle.problem_files.specs.declared.Purpose.{Purpose}
+use Rattle.problem_judging.specs.declared.Purpose.{Purpose}
 use Rattle.fewest.specs.Fewest.{Ranking, is, above, beyond as never, written, ranking}
 use Rattle.search.specs.Catalogue.{Catalogued, listing, catalogue}
 use Rattle.ranks.specs.Rank.{rank}

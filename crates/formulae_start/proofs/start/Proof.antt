@@ -12,7 +12,7 @@ use Rattle.formulae_start.proofs.start.Reads as reads
 use Rattle.formulae_start.proofs.start.Lts as lts
 use Rattle.formulae_start.proofs.plan_problem.Reads as plan-problem-reads
 use Rattle.formulae_start.proofs.plan_refused.Reads as plan-refused-reads
-use Rattle.problem_files.proofs.handed.Reads as handed-reads
+use Rattle.problem_lines.proofs.handed.Reads as handed-reads
 use Rattle.inputs.proofs.read_input.Reads as read-input-reads
 
 read-input-requires : tie.Need-read-input-requires

@@ -13,11 +13,12 @@ use lib.Seq.{take-take}
 use Rattle.kinds.specs.declared.Kind.{Kind}
 use Rattle.kinds.specs.Kinds.{numberOf}
 use Rattle.kinds.specs.Refusal.{Answer, refused, accepted, follow}
-use Rattle.problem_files.specs.ProblemFile.{ProblemFile, problemOf, handed}
+use Rattle.problem_lines.specs.ProblemLines.{handed}
+use Rattle.problem_judging.specs.Judged.{ProblemFile, problemOf}
 use Rattle.problem_files.specs.Lent.{seenRead}
-use Rattle.problem_files.specs.declared.Purpose.the-variants as purpose
-use Rattle.problem_files.specs.declared.ProblemRead.{ProblemRead}
-use Rattle.problem_files.specs.declared.ProblemRead.the-variants as read
+use Rattle.problem_judging.specs.declared.Purpose.the-variants as purpose
+use Rattle.problem_judging.specs.declared.ProblemRead.{ProblemRead}
+use Rattle.problem_judging.specs.declared.ProblemRead.the-variants as read
 use Rattle.search.specs.Catalogue.{Catalogued, catalogue, seenCatalogue}
 use Rattle.search.specs.declared.Catalogued.{Catalogued as Reply}
 use Rattle.search.specs.declared.Catalogued.the-variants as reply

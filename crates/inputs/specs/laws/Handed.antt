@@ -14,9 +14,11 @@ use Rattle.kinds.specs.Refusal.{accepted}
 use Rattle.kinds.specs.RefusalLaws.{follow-inv}
 use Rattle.problems.specs.Problem.{Problem, posed}
 use Rattle.problems.specs.Theorems.{IsMap, posed-map, posed-list}
-use Rattle.problem_files.specs.ProblemFile.{ProblemFile, handed, settled, judged, problemFile}
+use Rattle.problem_lines.specs.ProblemLines.{handed}
+use Rattle.problem_judging.specs.Judged.{ProblemFile, settled, judged}
+use Rattle.problem_files.specs.ProblemFile.{problemFile}
 use Rattle.problem_files.specs.laws.Accepted.{problem-went}
-use Rattle.problem_files.specs.declared.Purpose.{Purpose}
+use Rattle.problem_judging.specs.declared.Purpose.{Purpose}
 
 pub record Counted (kd : Kind) (q r : ℕ) (gs ts : List ℕ) : Type 0 where
   pub generators : length gs ≡ handed kd q

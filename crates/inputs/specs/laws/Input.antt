@@ -13,12 +13,14 @@ use borrow.Author.Tests.{lt-ltb, le-ltb}
 use Rattle.kinds.specs.declared.Kind.{Kind}
 use Rattle.kinds.specs.Refusal.{Answer, refused, accepted, refuse}
 use Rattle.words.specs.Buffers.{filled}
-use Rattle.problem_files.specs.ProblemFile.{ProblemFile, problemOf, handed, problemFile}
+use Rattle.problem_lines.specs.ProblemLines.{handed}
+use Rattle.problem_judging.specs.Judged.{ProblemFile, problemOf}
+use Rattle.problem_files.specs.ProblemFile.{problemFile}
 use Rattle.problem_files.specs.Lent.{seenRead, reply, generatorsOf, targetsOf}
 use Rattle.problem_files.specs.laws.Accepted.{room}
-use Rattle.problem_files.specs.declared.Purpose.{Purpose}
-use Rattle.problem_files.specs.declared.ProblemRead.{ProblemRead}
-use Rattle.problem_files.specs.declared.ProblemRead.the-variants as read
+use Rattle.problem_judging.specs.declared.Purpose.{Purpose}
+use Rattle.problem_judging.specs.declared.ProblemRead.{ProblemRead}
+use Rattle.problem_judging.specs.declared.ProblemRead.the-variants as read
 use Rattle.inputs.specs.Inputs.{inputOf, Fits, Input}
 use Rattle.inputs.specs.laws.Handed.{handed-lengths}
 

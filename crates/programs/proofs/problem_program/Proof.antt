@@ -10,7 +10,7 @@ use Rattle.programs.proofs.problem_program.Tie as tie
 use Rattle.programs.proofs.problem_program.Reads as reads
 use Rattle.programs.proofs.problem_program.Lts as lts
 use Rattle.pages.proofs.refused_page.Reads as refused-page-reads
-use Rattle.problem_files.proofs.handed.Reads as handed-reads
+use Rattle.problem_lines.proofs.handed.Reads as handed-reads
 use Rattle.inputs.proofs.read_input.Reads as read-input-reads
 use Rattle.programs.proofs.reply.Reads as reply-reads
 

@@ -9,11 +9,12 @@ use lib.ListN.{take}
 use Rattle.kinds.specs.declared.Kind.{Kind}
 use Rattle.kinds.specs.Refusal.{Answer, accepted, follow}
 use Rattle.pieces.specs.RefusedText.{refusedText}
-use Rattle.problem_files.specs.ProblemFile.{ProblemFile, problemOf, handed}
+use Rattle.problem_lines.specs.ProblemLines.{handed}
+use Rattle.problem_judging.specs.Judged.{ProblemFile, problemOf}
 use Rattle.problem_files.specs.Lent.{seenRead}
-use Rattle.problem_files.specs.declared.Purpose.{Purpose}
-use Rattle.problem_files.specs.declared.ProblemRead.{ProblemRead}
-use Rattle.problem_files.specs.declared.ProblemRead.the-variants as read
+use Rattle.problem_judging.specs.declared.Purpose.{Purpose}
+use Rattle.problem_judging.specs.declared.ProblemRead.{ProblemRead}
+use Rattle.problem_judging.specs.declared.ProblemRead.the-variants as read
 use Rattle.inputs.specs.Inputs.{Input}
 use Rattle.pages.specs.Pages.{printed}
 use Rattle.programs.specs.Programs.{replyTo, problemProgram}

@@ -1,9 +1,9 @@
--- `problem_files::list_lines` meets its contract. Assumes nothing.
+-- `problem_lines::list_lines` meets its contract. Assumes nothing.
 use native.Mathlib.Omega.{arith}
 use borrow.Author.Needs.{needs}
-use Rattle.problem_files.specs.laws.Steps.{list-many, list-taken, list-not}
-use Rattle.problem_files.proofs.list_lines.Statement.{statement}
-use Rattle.problem_files.proofs.list_lines.Tie as tie
+use Rattle.problem_lines.specs.laws.Lines.{list-many, list-taken, list-not}
+use Rattle.problem_lines.proofs.list_lines.Statement.{statement}
+use Rattle.problem_lines.proofs.list_lines.Tie as tie
 
 returns : tie.Need-returns
 returns c = list-many _ _ (c .before .before .before .before .args .s .now) (c .if1 .taken)

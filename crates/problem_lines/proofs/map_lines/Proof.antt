@@ -1,11 +1,11 @@
--- `problem_files::map_lines` meets its contract. Assumes nothing.
+-- `problem_lines::map_lines` meets its contract. Assumes nothing.
 use mathlib.Core.Path.{ap, _∙_}
 use native.Mathlib.Omega.{arith}
 use borrow.Author.Needs.{needs}
 use Rattle.maps.specs.Generators.{seenCount}
-use Rattle.problem_files.specs.laws.Steps.{map-many, map-more, map-none}
-use Rattle.problem_files.proofs.map_lines.Statement.{statement}
-use Rattle.problem_files.proofs.map_lines.Tie as tie
+use Rattle.problem_lines.specs.laws.Lines.{map-many, map-more, map-none}
+use Rattle.problem_lines.proofs.map_lines.Statement.{statement}
+use Rattle.problem_lines.proofs.map_lines.Tie as tie
 
 generator-count-requires : tie.Need-generator-count-requires
 generator-count-requires c κs = search needs

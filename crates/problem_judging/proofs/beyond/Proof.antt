@@ -1,10 +1,10 @@
--- `problem_files::beyond` meets its contract. Assumes nothing.
+-- `problem_judging::beyond` meets its contract. Assumes nothing.
 use mathlib.Core.Path.{sym}
 use native.Mathlib.Omega.{arith}
 use borrow.Author.Needs.{needs}
-use Rattle.problem_files.specs.laws.Steps.{targets-dim, beyond-catalogue, beyond-rank}
-use Rattle.problem_files.proofs.beyond.Statement.{statement}
-use Rattle.problem_files.proofs.beyond.Tie as tie
+use Rattle.problem_judging.specs.laws.Judging.{targets-dim, beyond-catalogue, beyond-rank}
+use Rattle.problem_judging.proofs.beyond.Statement.{statement}
+use Rattle.problem_judging.proofs.beyond.Tie as tie
 
 enum-told : tie.Need-enum-told
 enum-told c = search needs

@@ -1,10 +1,10 @@
--- `problem_files::settle` meets its contract. Assumes nothing.
+-- `problem_judging::settle` meets its contract. Assumes nothing.
 use mathlib.Core.Path.{sym, _∙_}
 use native.Mathlib.Omega.{arith}
 use borrow.Author.Needs.{needs}
-use Rattle.problem_files.specs.laws.Steps.{settled-8, settled-9, settled-short, settled-is}
-use Rattle.problem_files.proofs.settle.Statement.{statement}
-use Rattle.problem_files.proofs.settle.Tie as tie
+use Rattle.problem_judging.specs.laws.Judging.{settled-8, settled-9, settled-short, settled-is}
+use Rattle.problem_judging.proofs.settle.Statement.{statement}
+use Rattle.problem_judging.proofs.settle.Tie as tie
 
 beyond-requires : tie.Need-beyond-requires
 beyond-requires c κs = search needs

@@ -1,11 +1,11 @@
--- `problem_files::judge` meets its contract. Assumes nothing.
+-- `problem_judging::judge` meets its contract. Assumes nothing.
 use mathlib.Core.Path.{sym}
 use native.Mathlib.Omega.{arith}
 use borrow.Author.Needs.{needs}
 use lib.Seq.{length-take-le}
-use Rattle.problem_files.specs.laws.Steps.{judged-refused, judged-made, made-room}
-use Rattle.problem_files.proofs.judge.Statement.{statement}
-use Rattle.problem_files.proofs.judge.Tie as tie
+use Rattle.problem_judging.specs.laws.Judging.{judged-refused, judged-made, made-room}
+use Rattle.problem_judging.proofs.judge.Statement.{statement}
+use Rattle.problem_judging.proofs.judge.Tie as tie
 
 number-of-requires : tie.Need-number-of-requires
 number-of-requires c κs = search needs

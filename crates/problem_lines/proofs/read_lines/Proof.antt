@@ -1,10 +1,10 @@
--- `problem_files::read_lines` meets its contract. Assumes nothing.
+-- `problem_lines::read_lines` meets its contract. Assumes nothing.
 use mathlib.Core.Path.{sym, _∙_}
 use native.Mathlib.Omega.{arith}
 use borrow.Author.Needs.{needs}
-use Rattle.problem_files.specs.laws.Steps.{ready-list, body-list, body-map}
-use Rattle.problem_files.proofs.read_lines.Statement.{statement}
-use Rattle.problem_files.proofs.read_lines.Tie as tie
+use Rattle.problem_lines.specs.laws.Lines.{ready-list, body-list, body-map}
+use Rattle.problem_lines.proofs.read_lines.Statement.{statement}
+use Rattle.problem_lines.proofs.read_lines.Tie as tie
 
 is-list-requires : tie.Need-is-list-requires
 is-list-requires c κs = search needs
