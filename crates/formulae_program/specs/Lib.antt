@@ -1,6 +1,5 @@
 -- What the Formulae program prints of an input.
 pub mod FormulaeProgram
-pub mod Plans
 pub mod Theorems
 pub mod Worked
 pub mod laws

@@ -13,20 +13,23 @@ use Rattle.kinds.specs.Kinds.{numberOf}
 use Rattle.kinds.specs.Refusal.{Answer, refused, accepted, follow}
 use Rattle.kinds.specs.RefusalLaws.{accepted-inj, refuse-inv, follow-inv}
 use Rattle.problems.specs.Problem.{Problem, posed}
-use Rattle.problem_files.specs.ProblemFile.{ProblemFile, problemFile}
-use Rattle.problem_files.specs.declared.Purpose.the-variants as purpose
+use Rattle.problem_judging.specs.Judged.{ProblemFile}
+use Rattle.problem_files.specs.ProblemFile.{problemFile}
+use Rattle.problem_judging.specs.declared.Purpose.the-variants as purpose
 use Rattle.search.specs.Catalogue.{Catalogued, catalogue}
 use Rattle.spaces.specs.Spaces.{Formulae, formulaeOf}
 use Rattle.spaces.specs.Theorems.{formulae-means}
 use Rattle.formula_lines.specs.FormulaLines.{formulaeText}
 use Rattle.formula_answers.specs.FormulaAnswers.{formulaeAnswer, entryFormulae}
-use Rattle.programs.specs.Programs.{inputOf}
-use Rattle.programs.specs.laws.Answered.{file-posed, catalogue-accepted}
+use Rattle.inputs.specs.Inputs.{inputOf}
+use Rattle.answered.specs.laws.Answered.{file-posed, catalogue-accepted}
 use Rattle.pages.specs.Pages.{listingRoom, printed}
-use Rattle.formulae_program.specs.FormulaeProgram.{Listed, listed, listedInput, rowsAt, firstPart, entryPart, entriesPart, formulaeProgram}
-use Rattle.formulae_program.specs.Plans.{planText, planTexts, Follows, Printing, Starts}
+use Rattle.plans.specs.declared.Plan.{Plan}
+use Rattle.entry_pages.specs.EntryPages.{planText, planTexts}
+use Rattle.formulae_start.specs.Listed.{Listed, listed, listedInput, firstPart}
+use Rattle.formulae_start.specs.Starts.{Follows, Printing, Starts}
+use Rattle.formulae_program.specs.FormulaeProgram.{rowsAt, entryPart, entriesPart, formulaeProgram}
 use Rattle.formulae_program.specs.laws.Shown.{entry-accepted}
-use Rattle.formulae_program.specs.declared.Plan.{Plan}
 
 module _ (x : Plan) (g t listing : List ℕ) where
   part-is : (L : Listed) → Follows L x g t listing → (i : ℕ) → planText x g t listing i ≡ entryPart L i

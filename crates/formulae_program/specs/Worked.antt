@@ -26,14 +26,17 @@ use Rattle.print.specs.Print.{printed}
 use Rattle.pieces.specs.Fields.{sizesText}
 use Rattle.inner.specs.Inner.{spacedText, innerText}
 use Rattle.reports.specs.Reports.{listsText, entryText, recordLines, countsText, formulaText}
-use Rattle.problem_files.specs.ProblemFile.{listLines, settled, judged, formsOf, problemFile}
+use Rattle.problem_lines.specs.ProblemLines.{listLines}
+use Rattle.problem_judging.specs.Judged.{settled, judged}
+use Rattle.problem_files.specs.ProblemFile.{formsOf, problemFile}
 use Rattle.spaces.specs.Spaces as spaces
 use Rattle.spaces.specs.Spaces.{isEntry, formulaeOf}
 use Rattle.roles.specs.Roles.{roleLine, roleLines, listBody}
-use Rattle.programs.specs.Programs.{inputOf}
+use Rattle.inputs.specs.Inputs.{inputOf}
 use Rattle.formula_lines.specs.FormulaLines.{formulaeText}
 use Rattle.formula_answers.specs.FormulaAnswers.{entryFormulae}
-use Rattle.formulae_program.specs.FormulaeProgram.{listedInput, headText, entriesPart, formulaeProgram}
+use Rattle.formulae_start.specs.Listed.{listedInput, headText}
+use Rattle.formulae_program.specs.FormulaeProgram.{entriesPart, formulaeProgram}
 
 pub worked-formulae : formulaeProgram ((107 ∷ 105 ∷ 110 ∷ 100 ∷ 44 ∷ 112 ∷ 44 ∷ 113 ∷ 44 ∷ 114 ∷ 44 ∷ 107 ∷ 10 ∷ []) ++ (108 ∷ 105 ∷ 115 ∷ 116 ∷ 44 ∷ 50 ∷ 44 ∷ 51 ∷ 44 ∷ 49 ∷ 44 ∷ 50 ∷ 10 ∷ []) ++ (114 ∷ 111 ∷ 108 ∷ 101 ∷ 44 ∷ 102 ∷ 111 ∷ 114 ∷ 109 ∷ 10 ∷ []) ++ (103 ∷ 44 ∷ 49 ∷ 10 ∷ []) ++ (103 ∷ 44 ∷ 50 ∷ 10 ∷ []) ++ (103 ∷ 44 ∷ 51 ∷ 10 ∷ []) ++ (116 ∷ 44 ∷ 51 ∷ 10 ∷ []))
     ≡ (107 ∷ 105 ∷ 110 ∷ 100 ∷ 44 ∷ 112 ∷ 44 ∷ 113 ∷ 44 ∷ 114 ∷ 44 ∷ 107 ∷ 44 ∷ 101 ∷ 108 ∷ 108 ∷ 44 ∷ 102 ∷ 111 ∷ 117 ∷ 110 ∷ 100 ∷ 44 ∷ 115 ∷ 104 ∷ 111 ∷ 119 ∷ 110 ∷ 10 ∷ [])

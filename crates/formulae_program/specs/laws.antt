@@ -1,3 +1,2 @@
 -- The laws behind it.
-pub mod Plans
 pub mod Shown

@@ -1,6 +1,5 @@
 -- The reply to a problem's file, and what the two lent buffers hold at exit.
---   seenProblem gs ts x     == what the code's answer x says of a file that hands in the forms gs and ts
---   seenRead g t x          == the same, the forms handed in standing at the start of g and t
+--   seenRead g t x          == what the code's answer x says of a file, the forms handed in standing at the start of g and t
 --   reply a                 == the code's answer
 --   generatorsOf, targetsOf a d == the buffer d after it: all 0 where the reading is refused, else the forms handed in from the start and the
 --     rest as it was; a kind other than list hands in none, and d is as it was
@@ -10,13 +9,10 @@ use mathlib.Core.List.{List}
 use lib.ListN.{take}
 use Rattle.kinds.specs.Refusal.{Answer, refused, accepted}
 use Rattle.words.specs.Buffers.{filled, zeros}
-use Rattle.problem_files.specs.ProblemFile.{ProblemFile, problemOf, handed}
-use Rattle.problem_files.specs.declared.ProblemRead.{ProblemRead}
-use Rattle.problem_files.specs.declared.ProblemRead.the-variants as read
-
-abbrev pub seenProblem : List ℕ → List ℕ → ProblemRead → Answer ProblemFile
-seenProblem gs ts (read.Refused e) = refused e
-seenProblem gs ts (read.Problem kd p q r k) = accepted (problemOf kd p q r k gs ts)
+use Rattle.problem_lines.specs.ProblemLines.{handed}
+use Rattle.problem_judging.specs.Judged.{ProblemFile, problemOf}
+use Rattle.problem_judging.specs.declared.ProblemRead.{ProblemRead}
+use Rattle.problem_judging.specs.declared.ProblemRead.the-variants as read
 
 abbrev pub seenRead : List ℕ → List ℕ → ProblemRead → Answer ProblemFile
 seenRead g t (read.Refused e) = refused e

@@ -1,4 +1,2 @@
 -- The laws behind the programs.
-pub mod Answered
-pub mod Handed
-pub mod Input
+pub mod Steps

@@ -2,23 +2,11 @@
 ghost use mathlib.Core.Path.{_≡_};
 ghost use Prim.Native.Nat.{_≤_};
 ghost use lib.ListN.{length, take};
-ghost use Rattle.problem_files.specs.ProblemFile.{problemOf};
+ghost use Rattle.problem_judging.specs.Judged.{problemOf};
 ghost use Rattle.programs.specs.Programs.{replyTo, problemProgram, catalogueProgram, rankProgram};
-ghost use Rattle.programs.specs.laws.Input.{Input};
 use kinds::Kind;
-use problem_files::ProblemRead;
-use problem_files::Purpose;
-
-// Reads the problem of an input of at most 65,536 bytes; the forms of a list from the buffers' start.
-pub fn read_input(file: &[u8], purpose: Purpose, gs: &mut [u64], ts: &mut [u64]) -> ProblemRead
-    requires { ⌜ (length (now gs) ≡ 4096) × (length (now ts) ≡ 4096) ⌝ }
-    ensures { λ x. ⌜ Input purpose (now (file .entry)) x (now (gs .exit)) (now (ts .exit)) ⌝ }
-{
-    if 65536 < file.len() {
-        return ProblemRead::Refused(1);
-    }
-    problem_files::read_problem(file, purpose, gs, ts)
-}
+use problem_judging::ProblemRead;
+use problem_judging::Purpose;
 
 // What is printed of a problem, from the start of a page; its length.
 fn reply(
@@ -48,11 +36,11 @@ fn problem_program(purpose: Purpose, file: &[u8], page: &mut [u8]) -> usize
 {
     let mut gs = [0u64; 4096];
     let mut ts = [0u64; 4096];
-    match read_input(file, purpose, &mut gs, &mut ts) {
+    match inputs::read_input(file, purpose, &mut gs, &mut ts) {
         ProblemRead::Refused(e) => pages::refused_page(e, page),
         ProblemRead::Problem(kind, p, q, r, k) => {
-            let c = problem_files::handed(kind, q) as usize;
-            let d = problem_files::handed(kind, r) as usize;
+            let c = problem_lines::handed(kind, q) as usize;
+            let d = problem_lines::handed(kind, r) as usize;
             reply(purpose, kind, p, q, r, k, &gs[..c], &ts[..d], page)
         }
     }

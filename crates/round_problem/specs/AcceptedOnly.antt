@@ -12,9 +12,10 @@ use Rattle.kinds.specs.RefusalLaws.{refuse-inv, follow-inv}
 use Rattle.problems.specs.Problem.{Problem, posed}
 use Rattle.round.specs.HeadText.{headText}
 use Rattle.round.specs.laws.HeadOnly.{head-only}
-use Rattle.problem_files.specs.ProblemFile.{ProblemFile, problemOf, beyond, short, settled, judged, problemFile}
+use Rattle.problem_judging.specs.Judged.{ProblemFile, problemOf, beyond, short, settled, judged}
+use Rattle.problem_files.specs.ProblemFile.{problemFile}
 use Rattle.problem_files.specs.laws.Accepted.{Went, problem-went}
-use Rattle.problem_files.specs.declared.Purpose.{Purpose}
+use Rattle.problem_judging.specs.declared.Purpose.{Purpose}
 use Rattle.round_problem.specs.ProblemText.{linesText, problemText}
 use Rattle.round_problem.specs.PrintThenRead.{Sound}
 use Rattle.round_problem.specs.laws.LinesOnly.{body-only}

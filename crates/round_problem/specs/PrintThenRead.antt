@@ -22,10 +22,12 @@ use Rattle.problems.specs.Problem.{Problem, posed}
 use Rattle.problems.specs.Theorems.{posed-few}
 use Rattle.round.specs.HeadText.{headText}
 use Rattle.round.specs.laws.HeadBack.{head-back}
-use Rattle.problem_files.specs.ProblemFile.{ProblemFile, problemOf, beyond, settled, judged, formsOf, problemFile}
-use Rattle.problem_files.specs.declared.Purpose.{Purpose}
-use Rattle.problem_files.specs.declared.Purpose.the-variants as purpose
-use Rattle.problem_files.specs.laws.Steps.{settled-is, file-is}
+use Rattle.problem_judging.specs.Judged.{ProblemFile, problemOf, beyond, settled, judged}
+use Rattle.problem_files.specs.ProblemFile.{formsOf, problemFile}
+use Rattle.problem_judging.specs.declared.Purpose.{Purpose}
+use Rattle.problem_judging.specs.declared.Purpose.the-variants as purpose
+use Rattle.problem_judging.specs.laws.Judging.{settled-is}
+use Rattle.problem_files.specs.laws.Steps.{file-is}
 use Rattle.round_problem.specs.ProblemText.{linesText, problemText}
 use Rattle.round_problem.specs.laws.FormsBack.{Forms, forms-of}
 

@@ -2,15 +2,16 @@
 use mathlib.Core.Path.{sym}
 use native.Mathlib.Omega.{arith}
 use lib.Seq.{length-take-le}
-use Rattle.programs.specs.laws.Input.{input-room, program-refused, program-said}
+use Rattle.inputs.specs.laws.Input.{input-room}
+use Rattle.programs.specs.laws.Steps.{program-refused, program-said}
 use borrow.Author.Needs.{needs}
 use Rattle.programs.proofs.problem_program.Statement.{statement}
 use Rattle.programs.proofs.problem_program.Tie as tie
 use Rattle.programs.proofs.problem_program.Reads as reads
 use Rattle.programs.proofs.problem_program.Lts as lts
 use Rattle.pages.proofs.refused_page.Reads as refused-page-reads
-use Rattle.problem_files.proofs.handed.Reads as handed-reads
-use Rattle.programs.proofs.read_input.Reads as read-input-reads
+use Rattle.problem_lines.proofs.handed.Reads as handed-reads
+use Rattle.inputs.proofs.read_input.Reads as read-input-reads
 use Rattle.programs.proofs.reply.Reads as reply-reads
 
 slice-aggregate-read-input : tie.Need-slice-aggregate-read-input

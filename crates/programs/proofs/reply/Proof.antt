@@ -1,7 +1,7 @@
 -- `programs::reply` meets its contract. Assumes nothing.
 use mathlib.Core.Path.{ap, sym, _∙_}
-use Rattle.problem_files.specs.ProblemFile.{problemOf}
-use Rattle.problem_files.specs.declared.Purpose.{Purpose}
+use Rattle.problem_judging.specs.Judged.{problemOf}
+use Rattle.problem_judging.specs.declared.Purpose.{Purpose}
 use Rattle.programs.specs.Programs.{replyTo}
 use borrow.Author.Needs.{needs}
 use Rattle.programs.proofs.reply.Statement.{statement}

@@ -27,8 +27,8 @@ use Rattle.problems.specs.Theorems.{IsMap, posed-map, posed-list}
 use Rattle.problems.specs.laws.Taken.{ListTaken, posed-kind}
 use Rattle.problems.specs.laws.Laying.{list-targets}
 use Rattle.files.specs.Outcome.{isList}
-use Rattle.problem_files.specs.ProblemFile.{handed, listLines, mapLines, bodyOf}
-use Rattle.problem_files.specs.laws.Steps.{list-taken, map-none}
+use Rattle.problem_lines.specs.ProblemLines.{handed, listLines, mapLines, bodyOf}
+use Rattle.problem_lines.specs.laws.Lines.{list-taken, map-none}
 use Rattle.round.specs.laws.FileBack.{sizes-few}
 use Rattle.round_problem.specs.ProblemText.{listText, linesText}
 use Rattle.round_problem.specs.laws.ListBack.{list-back}

@@ -22,7 +22,7 @@ use Rattle.print.specs.Print.{maskText}
 use Rattle.lines.specs.Formula.{ended}
 use Rattle.files.specs.Outcome.{isList}
 use Rattle.roles.specs.Roles.{roleNames, generatorRole, targetRole, roleLine, roleLines, listBody}
-use Rattle.problem_files.specs.ProblemFile.{listLines, mapLines, bodyOf}
+use Rattle.problem_lines.specs.ProblemLines.{listLines, mapLines, bodyOf}
 use Rattle.round.specs.laws.HeadOnly.{inv, inj, name-only, field-only}
 use Rattle.round_problem.specs.ProblemText.{rolesText, listText, linesText}
 

@@ -1,0 +1,4 @@
+-- What the programs print of an input that is accepted.
+pub mod Theorems
+pub mod Worked
+pub mod laws

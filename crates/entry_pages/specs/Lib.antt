@@ -1,0 +1,3 @@
+-- What the Formulae program prints of an entry.
+pub mod EntryPages
+pub mod laws

@@ -1,0 +1,3 @@
+-- The laws behind it.
+pub mod Handed
+pub mod Input

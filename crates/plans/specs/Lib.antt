@@ -1,0 +1,2 @@
+-- The plan by which the Formulae program prints.
+pub mod Plans

@@ -1,0 +1,3 @@
+-- The forms that a problem's file hands in, judged.
+pub mod Judged
+pub mod laws

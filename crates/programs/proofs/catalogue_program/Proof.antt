@@ -1,0 +1,16 @@
+-- `programs::catalogue_program` meets its contract. Assumes nothing.
+use borrow.Author.Needs.{needs}
+use Rattle.programs.proofs.catalogue_program.Statement.{statement}
+use Rattle.programs.proofs.catalogue_program.Tie as tie
+
+problem-program-requires : tie.Need-problem-program-requires
+problem-program-requires c κs = search needs
+
+same-length : tie.Need-same-length
+same-length c = c .before .before .problem-program .kept .1 .1 .0
+
+returns : tie.Need-returns
+returns c = c .before .before .problem-program .ensures
+
+pub catalogue-program-spec : {M : Type 1} → statement M
+catalogue-program-spec = tie.close (tie.spec problem-program-requires same-length returns)

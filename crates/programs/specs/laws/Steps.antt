@@ -1,0 +1,34 @@
+-- The steps of a program.
+--   program-refused, program-said   what is printed, from the code's answer to the input
+-- Assumes nothing.
+use Prim.Native.Nat.{ℕ, _≤_}
+use mathlib.Core.Path.{_≡_, sym, ap, ap₂, _∙_}
+use mathlib.Core.List.{List}
+use native.Mathlib.Omega.{arith}
+use lib.ListN.{take}
+use Rattle.kinds.specs.declared.Kind.{Kind}
+use Rattle.kinds.specs.Refusal.{Answer, accepted, follow}
+use Rattle.pieces.specs.RefusedText.{refusedText}
+use Rattle.problem_lines.specs.ProblemLines.{handed}
+use Rattle.problem_judging.specs.Judged.{ProblemFile, problemOf}
+use Rattle.problem_files.specs.Lent.{seenRead}
+use Rattle.problem_judging.specs.declared.Purpose.{Purpose}
+use Rattle.problem_judging.specs.declared.ProblemRead.{ProblemRead}
+use Rattle.problem_judging.specs.declared.ProblemRead.the-variants as read
+use Rattle.inputs.specs.Inputs.{Input}
+use Rattle.pages.specs.Pages.{printed}
+use Rattle.programs.specs.Programs.{replyTo, problemProgram}
+
+module _ (a : Purpose) (s : List ℕ) (x : ProblemRead) (g t : List ℕ) (I : Input a s x g t) where
+  program-is : (y : ProblemRead) → x ≡ y → problemProgram a s ≡ printed (follow (seenRead g t y) λ P. accepted (replyTo a P))
+  unfolding problemProgram
+  program-is y h = ap (λ (o : Answer ProblemFile). printed (follow o λ P. accepted (replyTo a P))) (I .answer ∙ ap (seenRead g t) h)
+
+  pub program-refused : (e n : ℕ) (d : List ℕ) → x ≡ read.Refused e → (take n d ≡ refusedText e) × (n ≤ 32) → (take n d ≡ problemProgram a s) × (n ≤ 196608)
+  program-refused e n d h P = (P .0 ∙ sym (program-is (read.Refused e) h), (let b = P .1 in omega arith))
+
+  module _ (kd : Kind) (p q r k : ℕ) (h : x ≡ read.Problem kd p q r k) where
+    pub program-said : (c u n : ℕ) (d : List ℕ) → c ≡ handed kd q → u ≡ handed kd r → (take n d ≡ replyTo a (problemOf kd p q r k (take c g) (take u t))) × (n ≤ 196608)
+        → (take n d ≡ problemProgram a s) × (n ≤ 196608)
+    program-said c u n d i j P =
+        (P .0 ∙ ap₂ (λ (b e : ℕ). replyTo a (problemOf kd p q r k (take b g) (take e t))) i j ∙ sym (program-is (read.Problem kd p q r k) h), P .1)
