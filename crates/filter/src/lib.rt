@@ -6,6 +6,8 @@ ghost use Rattle.linear.specs.Basis.{basisOf};
 ghost use Rattle.linear.specs.Word.{word};
 ghost use Rattle.children.specs.Residues.{withResidue};
 ghost use Rattle.children.specs.Filter.{pairs};
+ghost use Rattle.cut.specs.Ruled.{Ruled, Marking};
+ghost use Rattle.thin.specs.Thin.{Small};
 ghost use Rattle.filter.specs.Kept.{Sieving, Kept};
 
 // How many pairs {y, y + x} of values there are besides 0 and x.
@@ -21,6 +23,27 @@ fn needed(k: usize, n: usize) -> usize
     ensures { λ r. ⌜ r ≡ k - n ⌝ }
 {
     if n < k { k - n } else { 0 }
+}
+
+// Takes the marks from `start` on away that the ranks rule out: by pairs of values too, where more than one dimension is missing.
+fn rule_out(
+    h: &[u64],
+    start: usize,
+    need: usize,
+    missing: usize,
+    top: usize,
+    ranks: &[u8],
+    marks: &mut [u8],
+)
+    requires { ⌜ Marking (now h) start (now ranks) (now marks) × Small (pairs missing) top (now ranks) × (missing ≢ 0) × (missing ≤ 8) ⌝ }
+    ensures { λ _. ⌜ Ruled (now (h .entry)) need (pairs missing) (now (ranks .entry)) start (now (marks .exit)) ⌝ }
+{
+    if missing == 1 {
+        cut::cut(h, start, need, ranks, marks);
+    } else {
+        let p = pairs(missing);
+        thin::thin(h, start, need, p, top, ranks, marks);
+    }
 }
 
 // Marks the numbers from `start` on whose children the ranks don't rule out. `s` has the rows of the generators of residue 0.
@@ -41,10 +64,5 @@ pub fn filter(
     let mut ranks = [0u8; 65536];
     let top = buckets::fill(gens, h, start, s, &mut ranks, firsts, rows, marks);
     let need = needed(k, s.len());
-    if missing == 1 {
-        cut::cut(h, start, need, &ranks, marks);
-    } else {
-        let p = pairs(missing);
-        thin::thin(h, start, need, p, top, &ranks, marks);
-    }
+    rule_out(h, start, need, missing, top, &ranks, marks);
 }

@@ -1,3 +1,2 @@
--- What the proofs of the recursion share.
-mod Keeping
+-- What the proof of the recursion rests on.
 mod Going

@@ -1,6 +1,5 @@
 -- What the recursion over the formulae of a space asks and gives.
 --   formulaeFrom gens w targets C p n i m == the records that it emits: from the basis C of the generators numbered p, for m more numbers out of i, .., i + n - 1
---   Keeping c t limit out == what `keep` asks: a choice with room, and counts in range
 --   Node ..               == what `spread` asks: w is reduced, b the basis of a part of it with `missing` dimensions less, c holds the generators chosen
 -- From the empty basis the records are those of all formulae: `formulae-from` (laws/Spread). Assumes nothing.
 use mathlib.Core.List.{List}
@@ -11,17 +10,13 @@ use Rattle.linear.specs.Spread.{spread, Inner}
 use Rattle.bases.specs.Basis.{rowsOf, Valid}
 use Rattle.bases.specs.declared.Basis.{Basis}
 use Rattle.choice.specs.declared.Choice.{Choice}
-use Rattle.choice.specs.Choice.{numbersOf, Whole, Chose, formulaRecord}
+use Rattle.choice.specs.Choice.{numbersOf, Chose, formulaRecord}
 use Rattle.records.specs.declared.Tally.{Tally}
 use Rattle.records.specs.Records.{Sane}
 use Rattle.records.specs.Keep.{stateOf}
 
 abbrev pub formulaeFrom : (gens w targets C p : List ℕ) → ℕ → ℕ → ℕ → List (List ℕ)
 formulaeFrom gens w targets C p n i m = spread word gens w (formulaRecord gens targets) C p n i m
-
-pub record Keeping (c : Choice) (t : Tally) (limit : ℕ) (out : List ℕ) : Type 0 where
-  pub whole : Whole c
-  pub sane : Sane limit (stateOf t out)
 
 pub record Node (gens w : List ℕ) (missing : ℕ) (b : Basis) (c : Choice) (t : Tally) (limit : ℕ) (out : List ℕ) : Type 0 where
   pub space : Reduced word w

@@ -6,35 +6,10 @@ ghost use mathlib.Core.Path.{_≡_};
 ghost use Prim.Native.Nat.{_-_};
 ghost use lib.ListN.{length};
 ghost use Rattle.bases.specs.Basis.{rowsOf};
-ghost use Rattle.choice.specs.Choice.{numbersOf, recordOf};
-ghost use Rattle.records.specs.Records.{note, run};
+ghost use Rattle.choice.specs.Choice.{numbersOf};
+ghost use Rattle.records.specs.Records.{run};
 ghost use Rattle.records.specs.Keep.{stateOf};
-ghost use Rattle.spread.specs.Spread.{formulaeFrom, Keeping, Node};
-
-// Counts the formula whose products `c` holds, unless the limit is reached, and writes its record where it fits.
-fn keep(c: Choice, targets: &[u64], t: Tally, limit: u64, out: &mut [u64]) -> Tally
-    requires { ⌜ Keeping c t limit (now out) ⌝ }
-    ensures { λ r. ⌜ stateOf r (now (out .exit)) ≡ note limit (stateOf t (now (out .entry))) (recordOf c (now (targets .entry))) ⌝ }
-{
-    if t.found == limit {
-        return t;
-    }
-    let at = t.at;
-    let size = c.len + targets.len();
-    if out.len() - at < size {
-        return Tally {
-            found: t.found + 1,
-            shown: t.shown,
-            at: at,
-        };
-    }
-    choice::write_formula(c, targets, out, at);
-    Tally {
-        found: t.found + 1,
-        shown: t.shown + 1,
-        at: at + size,
-    }
-}
+ghost use Rattle.spread.specs.Spread.{formulaeFrom, Node};
 
 // Goes on from the generators of `c`, with the basis `b`, by `missing` generators from number `start` on, each inside the space `w` and not yet spanned. Where
 // those left can't complete the space it returns at once.
@@ -54,7 +29,7 @@ pub fn spread(
     ensures { λ r. ⌜ stateOf r (now (out .exit)) ≡ run limit (stateOf t (now (out .entry))) (formulaeFrom (now (gens .entry)) (now (w .entry)) (now (targets .entry)) (rowsOf b) (numbersOf c) (length (now (gens .entry)) - start) start missing) ⌝ }
 {
     if missing == 0 {
-        return keep(c, targets, t, limit, out);
+        return formula_records::keep(c, targets, t, limit, out);
     }
     let n = gens.len();
     let mut u = t;

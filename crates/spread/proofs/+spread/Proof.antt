@@ -19,7 +19,7 @@ use Rattle.bases.proofs.Basis.insert.Reads as insert-reads
 use Rattle.choice.proofs.add.Reads as add-reads
 use Rattle.spans.proofs.is_wanted.Reads as is-wanted-reads
 use Rattle.spans.proofs.completes.Reads as completes-reads
-use Rattle.spread.proofs.keep.Reads as keep-reads
+use Rattle.formula_records.proofs.keep.Reads as keep-reads
 use Rattle.spread.proofs.+spread.{statement}
 use Rattle.spread.proofs.+spread.Tie.{close}
 

@@ -1,11 +1,11 @@
--- `spread::keep` meets its contract. Assumes nothing.
+-- `formula_records::keep` meets its contract. Assumes nothing.
 use native.Mathlib.Omega.{arith}
 use borrow.Author.Needs.{needs}
-use Rattle.spread.proofs.Keeping.{keep-full, keep-short, keep-fits}
-use Rattle.spread.proofs.keep.Statement.{statement}
-use Rattle.spread.proofs.keep.Tie as tie
-use Rattle.spread.proofs.keep.Reads as reads
-use Rattle.spread.proofs.keep.Lts as lts
+use Rattle.formula_records.proofs.Keeping.{keep-full, keep-short, keep-fits}
+use Rattle.formula_records.proofs.keep.Statement.{statement}
+use Rattle.formula_records.proofs.keep.Tie as tie
+use Rattle.formula_records.proofs.keep.Reads as reads
+use Rattle.formula_records.proofs.keep.Lts as lts
 use Rattle.choice.proofs.write_formula.Reads as write-formula-reads
 
 returns : tie.Need-returns

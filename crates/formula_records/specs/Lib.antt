@@ -1,0 +1,2 @@
+-- The records of formulae.
+pub mod Keep
