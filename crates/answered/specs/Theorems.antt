@@ -1,7 +1,7 @@
 -- What the Catalogue and Rank programs print of an input that is accepted: an answer, never a refusal, and what it means. To be read from top to bottom.
 --   CatalogueAnswered, catalogue-answered   the Catalogue's text, of an answer that lists every entry, none twice
 --   RankAnswered, rank-answered             Rank's text, of an answer that is the least number of products
--- So a program refuses exactly the inputs that are refused when read (`inputOf`). The definitions: inputOf (inputs), catalogueProgram, rankProgram (programs), catalogueText (reports),
+-- So a program refuses exactly the inputs that are refused when read (`inputOf`). The definitions: inputOf (inputs), catalogueProgram, rankProgram (programs), catalogueText (catalogue_reports),
 -- rankAnswer (rank_answers), CatalogueMeans and RankMeans (demand). Assumes nothing.
 use Prim.Native.Nat.{ℕ}
 use mathlib.Core.Path.{_≡_, ap, _∙_}
@@ -21,7 +21,7 @@ use Rattle.search.specs.Catalogue.{Catalogued}
 use Rattle.ranks.specs.Rank.{rank}
 use Rattle.demand.specs.Theorems.{CatalogueMeans, catalogue-means, RankMeans, rank-means}
 use Rattle.fewest.specs.Fewest.{Ranking}
-use Rattle.reports.specs.Reports.{catalogueText}
+use Rattle.catalogue_reports.specs.CatalogueReports.{catalogueText}
 use Rattle.pages.specs.Pages.{listingRoom, printed}
 use Rattle.catalogue_answers.specs.CatalogueAnswers.{catalogueAnswer, catalogueReply}
 use Rattle.rank_answers.specs.RankAnswers.{rankAnswer, rankReply}

@@ -30,7 +30,9 @@ use Rattle.lines.specs.Formula.{ended}
 use Rattle.print.specs.Print.{printed}
 use Rattle.pieces.specs.Fields.{sizesText}
 use Rattle.inner.specs.Inner.{spacedText, innerText}
-use Rattle.reports.specs.Reports.{listsText, entryText, recordLines, countsText, catalogueText, rankHead, rankText}
+use Rattle.record_lines.specs.RecordLines.{listsText, entryText, recordLines}
+use Rattle.catalogue_reports.specs.CatalogueReports.{countsText, catalogueText}
+use Rattle.rank_reports.specs.RankReports.{rankHead, rankText}
 use Rattle.problem_lines.specs.ProblemLines.{mapLines}
 use Rattle.problem_judging.specs.Judged.{settled, judged}
 use Rattle.problem_files.specs.ProblemFile.{formsOf, problemFile}

@@ -1,14 +1,14 @@
 -- What is printed of a problem's Catalogue.
 --   catalogueAnswer .. a   == the text of Catalogue's answer a
 --   catalogueReply ..      == the text of a problem's Catalogue
--- The texts are in crate reports. Assumes nothing.
+-- The text is in crate catalogue_reports. Assumes nothing.
 use Prim.Native.Nat.{ℕ}
 use mathlib.Core.List.{List}
 use Rattle.kinds.specs.declared.Kind.{Kind}
 use Rattle.kinds.specs.Kinds.{numberOf}
 use Rattle.kinds.specs.Refusal.{Answer, refused, accepted}
 use Rattle.pieces.specs.RefusedText.{refusedText}
-use Rattle.reports.specs.Reports.{catalogueText}
+use Rattle.catalogue_reports.specs.CatalogueReports.{catalogueText}
 use Rattle.search.specs.Catalogue.{Catalogued, catalogue}
 use Rattle.pages.specs.Pages.{listingRoom}
 

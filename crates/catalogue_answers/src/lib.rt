@@ -24,7 +24,7 @@ pub fn catalogue_reply(
     let said = search::catalogue(kinds::number_of(kind), p, q, r, k, gs, ts, &mut listing);
     match said {
         Catalogued::Refused(e) => pages::refused_page(e, page),
-        Catalogued::Entries(ell, found, shown) => reports::catalogue_text(
+        Catalogued::Entries(ell, found, shown) => catalogue_reports::catalogue_text(
             kind,
             p,
             q,

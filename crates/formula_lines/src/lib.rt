@@ -3,9 +3,8 @@ ghost use mathlib.Core.Path.{_≡_};
 ghost use Prim.Native.Nat.{_+_, _*_, _≤_};
 ghost use lib.ListN.{length};
 ghost use Rattle.pieces.specs.Piece.{Piece};
-ghost use Rattle.reports.specs.Reports.{formulaText};
-ghost use Rattle.reports.specs.laws.Lines.{Short, Records};
-ghost use Rattle.formula_lines.specs.FormulaLines.{formulaLines, leftText, formulaeText};
+ghost use Rattle.record_lines.specs.RecordLines.{Short, Records};
+ghost use Rattle.formula_lines.specs.FormulaLines.{formulaText, formulaLines, leftText, formulaeText};
 
 // The line of formula i of an entry, from place `at` on, as far as there is room; the place after it.
 fn put_formula(entry: u64, i: u64, xs: &[u64], ys: &[u64], out: &mut [u8], at: usize) -> usize
@@ -14,7 +13,7 @@ fn put_formula(entry: u64, i: u64, xs: &[u64], ys: &[u64], out: &mut [u8], at: u
 {
     let a = print::put_number(entry, 10, 20, out, at);
     print::put_byte(out, a, 44);
-    reports::put_entry(i, xs, ys, out, a + 1)
+    record_lines::put_entry(i, xs, ys, out, a + 1)
 }
 
 // The lines of n formulae of an entry, whose records have k numbers and t rows, likewise.

@@ -25,7 +25,8 @@ use Rattle.lines.specs.Formula.{ended}
 use Rattle.print.specs.Print.{printed}
 use Rattle.pieces.specs.Fields.{sizesText}
 use Rattle.inner.specs.Inner.{spacedText, innerText}
-use Rattle.reports.specs.Reports.{listsText, entryText, recordLines, countsText, formulaText}
+use Rattle.record_lines.specs.RecordLines.{listsText, entryText, recordLines}
+use Rattle.catalogue_reports.specs.CatalogueReports.{countsText}
 use Rattle.problem_lines.specs.ProblemLines.{listLines}
 use Rattle.problem_judging.specs.Judged.{settled, judged}
 use Rattle.problem_files.specs.ProblemFile.{formsOf, problemFile}
@@ -33,7 +34,7 @@ use Rattle.spaces.specs.Spaces as spaces
 use Rattle.spaces.specs.Spaces.{isEntry, formulaeOf}
 use Rattle.roles.specs.Roles.{roleLine, roleLines, listBody}
 use Rattle.inputs.specs.Inputs.{inputOf}
-use Rattle.formula_lines.specs.FormulaLines.{formulaeText}
+use Rattle.formula_lines.specs.FormulaLines.{formulaText, formulaeText}
 use Rattle.formula_answers.specs.FormulaAnswers.{entryFormulae}
 use Rattle.formulae_start.specs.Listed.{listedInput, headText}
 use Rattle.formulae_program.specs.FormulaeProgram.{entriesPart, formulaeProgram}

@@ -6,16 +6,17 @@
 --   firstPart L       == those of a problem with its Catalogue
 -- What Formulae prints is decided (docs/DECISIONS.md). Assumes nothing.
 use Prim.Native.Nat.{ℕ}
-use mathlib.Core.List.{List, _++_}
+use mathlib.Core.List.{List, [], _∷_, _++_}
 use Rattle.kinds.specs.declared.Kind.{Kind}
 use Rattle.kinds.specs.Kinds.{numberOf}
 use Rattle.kinds.specs.Refusal.{Answer, accepted, follow}
 use Rattle.problem_judging.specs.Judged.{ProblemFile}
 use Rattle.problem_judging.specs.declared.Purpose.the-variants as purpose
 use Rattle.search.specs.Catalogue.{Catalogued, catalogue}
-use Rattle.reports.specs.Reports.{countsText, formulaeNames}
+use Rattle.catalogue_reports.specs.CatalogueReports.{countsText}
 use Rattle.pages.specs.Pages.{listingRoom}
 use Rattle.inputs.specs.Inputs.{inputOf}
+use Rattle.text.specs.Line.{LF}
 
 pub record Listed : Type 0 where
   pub problem : ProblemFile
@@ -28,6 +29,11 @@ listed P =
 
 unfoldable pub listedInput : List ℕ → Answer Listed
 listedInput s = follow (inputOf purpose.Catalogue s) listed
+
+-- `entry,formula,products,rows`
+abbrev pub formulaeNames : List ℕ
+formulaeNames =
+    101 ∷ 110 ∷ 116 ∷ 114 ∷ 121 ∷ 44 ∷ 102 ∷ 111 ∷ 114 ∷ 109 ∷ 117 ∷ 108 ∷ 97 ∷ 44 ∷ 112 ∷ 114 ∷ 111 ∷ 100 ∷ 117 ∷ 99 ∷ 116 ∷ 115 ∷ 44 ∷ 114 ∷ 111 ∷ 119 ∷ 115 ∷ LF ∷ []
 
 unfoldable pub headText : Kind → (p q r k ell found shown : ℕ) → List ℕ
 headText kind p q r k ell found shown = countsText kind p q r k ell found shown ++ formulaeNames

@@ -48,7 +48,7 @@ fn put_head(
     requires { ⌜ length (now page) ≡ 278528 ⌝ }
     ensures { λ e. ⌜ (take e (now (page .exit)) ≡ headText kind p q r k ell found shown) × (e ≤ 278528) ⌝ }
 {
-    let a = reports::put_counts(kind, p, q, r, k, ell, found, shown, page);
+    let a = catalogue_reports::put_counts(kind, p, q, r, k, ell, found, shown, page);
     print::put_bytes(b"entry,formula,products,rows\n", page, a)
 }
 

@@ -1,7 +1,7 @@
 -- What is printed of a problem's Rank.
 --   rankAnswer .. a   == the text of Rank's answer a, for t targets of dimension ell
 --   rankReply ..      == the text of a problem's Rank
--- The texts are in crate reports. Assumes nothing.
+-- The texts are in crate rank_reports. Assumes nothing.
 use Prim.Native.Nat.{ℕ}
 use mathlib.Core.Bool.{true, false}
 use mathlib.Core.List.{List, []}
@@ -13,7 +13,7 @@ use Rattle.linear.specs.Basis.{dim}
 use Rattle.linear.specs.Word.{word}
 use Rattle.problems.specs.Problem.{posed}
 use Rattle.pieces.specs.RefusedText.{refusedText}
-use Rattle.reports.specs.Reports.{rankText, farRankText}
+use Rattle.rank_reports.specs.RankReports.{rankText, farRankText}
 use Rattle.ranks.specs.Rank.{rank}
 use Rattle.fewest.specs.Fewest.{Ranking, is, above, beyond}
 use Rattle.pages.specs.Pages.{listingRoom, printed}

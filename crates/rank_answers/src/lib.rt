@@ -5,7 +5,7 @@ ghost use Prim.Native.Nat.{_+_, _≤_};
 ghost use lib.ListN.{length, take, drop};
 ghost use Rattle.kinds.specs.Kinds.{numberOf};
 ghost use Rattle.pieces.specs.Piece.{Piece};
-ghost use Rattle.reports.specs.Reports.{rankText};
+ghost use Rattle.rank_reports.specs.RankReports.{rankText};
 ghost use Rattle.problems.specs.Problem.{posed};
 ghost use Rattle.targets.specs.Targets.{Measured};
 ghost use Rattle.rank_answers.specs.RankAnswers.{rankReply};
@@ -29,7 +29,7 @@ fn put_formula(
     requires { ⌜ (length (now formula) ≡ 4096) × (n + t ≤ 4096) ⌝ }
     ensures { λ e. ⌜ Piece (now (page .entry)) 0 (rankText kind p q r k ell (take n (now (formula .entry))) (take t (drop n (now (formula .entry))))) 86188 (now (page .exit)) e ⌝ }
 {
-    reports::rank_text(
+    rank_reports::rank_text(
         kind,
         p,
         q,
@@ -63,8 +63,8 @@ fn put_rank(
     match said {
         Ranked::Refused(e) => pages::refused_page(e, page),
         Ranked::Is(n) => put_formula(kind, p, q, r, k, ell as u64, n, t, &formula, page),
-        Ranked::Above => reports::far_rank_text(kind, p, q, r, k, ell as u64, true, page),
-        Ranked::Beyond => reports::far_rank_text(kind, p, q, r, k, ell as u64, false, page),
+        Ranked::Above => rank_reports::far_rank_text(kind, p, q, r, k, ell as u64, true, page),
+        Ranked::Beyond => rank_reports::far_rank_text(kind, p, q, r, k, ell as u64, false, page),
     }
 }
 

@@ -8,7 +8,7 @@ use Rattle.catalogue_answers.proofs.catalogue_reply.Reads as reads
 use Rattle.catalogue_answers.proofs.catalogue_reply.Lts as lts
 use Rattle.pages.proofs.refused_page.Reads as refused-page-reads
 use Rattle.kinds.proofs.number_of.Reads as number-of-reads
-use Rattle.reports.proofs.catalogue_text.Reads as catalogue-text-reads
+use Rattle.catalogue_reports.proofs.catalogue_text.Reads as catalogue-text-reads
 use Rattle.search.proofs.catalogue.Reads as catalogue-reads
 
 number-of-requires : tie.Need-number-of-requires

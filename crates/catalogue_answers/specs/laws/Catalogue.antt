@@ -33,8 +33,8 @@ use Rattle.search.specs.declared.Catalogued.the-variants as reply
 use Rattle.pieces.specs.Piece.{Piece}
 use Rattle.pieces.specs.laws.Pieces.{whole}
 use Rattle.pieces.specs.RefusedText.{refusedText}
-use Rattle.reports.specs.Reports.{catalogueText}
-use Rattle.reports.specs.laws.Lines.{Records}
+use Rattle.catalogue_reports.specs.CatalogueReports.{catalogueText}
+use Rattle.record_lines.specs.RecordLines.{Records}
 use Rattle.pages.specs.Pages.{listingRoom}
 use Rattle.catalogue_answers.specs.CatalogueAnswers.{catalogueAnswer, catalogueReply}
 

@@ -30,7 +30,7 @@ use Rattle.spaces.specs.declared.Listed.the-variants as reply
 use Rattle.pieces.specs.Piece.{Piece}
 use Rattle.pieces.specs.laws.Pieces.{whole}
 use Rattle.pieces.specs.RefusedText.{refusedText}
-use Rattle.reports.specs.laws.Lines.{Records}
+use Rattle.record_lines.specs.RecordLines.{Records}
 use Rattle.formula_lines.specs.FormulaLines.{formulaeText}
 use Rattle.pages.specs.Pages.{listingRoom, printed}
 use Rattle.targets.specs.Targets.{Measured, Measures}

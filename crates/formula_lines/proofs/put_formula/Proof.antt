@@ -9,7 +9,7 @@ use Rattle.formula_lines.proofs.put_formula.Reads as reads
 use Rattle.formula_lines.proofs.put_formula.Lts as lts
 use Rattle.print.proofs.put_byte.Reads as put-byte-reads
 use Rattle.print.proofs.put_number.Reads as put-number-reads
-use Rattle.reports.proofs.put_entry.Reads as put-entry-reads
+use Rattle.record_lines.proofs.put_entry.Reads as put-entry-reads
 
 put-number-requires : tie.Need-put-number-requires
 put-number-requires c κs = search needs

@@ -1,8 +1,8 @@
 -- `formula_lines::put_formulae` meets its contract. Assumes nothing.
 use native.Mathlib.Omega.{arith}
 use Prim.Native.Nat.{_-_, _+_, _*_}
-use Rattle.reports.specs.Reports.{formulaText}
-use Rattle.reports.specs.laws.Lines.{Listing, listing-start, inside-listing, listing-next, listing-end}
+use Rattle.formula_lines.specs.FormulaLines.{formulaText}
+use Rattle.record_lines.specs.laws.Lines.{Listing, listing-start, inside-listing, listing-next, listing-end}
 use lib.ListN.{drop, length-take}
 use Rattle.formula_lines.proofs.put_formulae.Statement.{statement}
 use Rattle.formula_lines.proofs.put_formulae.Tie as tie

@@ -10,9 +10,9 @@ use Rattle.print.specs.Print.{numberText}
 use Rattle.text.specs.Line.{comma}
 use Rattle.pieces.specs.Piece.{Piece}
 use Rattle.pieces.specs.laws.Pieces.{Put, piece, piece-then, number-short}
-use Rattle.reports.specs.Reports.{entryText, formulaText, moreText}
-use Rattle.reports.specs.laws.Lines.{byte-then, weaker}
-use Rattle.formula_lines.specs.FormulaLines.{formulaLines, leftText, formulaeText}
+use Rattle.record_lines.specs.RecordLines.{entryText}
+use Rattle.record_lines.specs.laws.Lines.{byte-then, weaker}
+use Rattle.formula_lines.specs.FormulaLines.{formulaText, moreText, formulaLines, leftText, formulaeText}
 
 pub formula-put : (entry i : ℕ) (xs ys : List ℕ) (at a e : ℕ) (d d₁ d₂ d₃ : List ℕ) → Put d at (numberText entry) d₁ a → d₂ ≡ set d₁ a 44
     → Piece d₂ (a + 1) (entryText i xs ys) (21 * length xs + 21 * length ys + 25) d₃ e → Piece d at (formulaText entry i xs ys) (21 * length xs + 21 * length ys + 46) d₃ e

@@ -6,7 +6,7 @@ use Rattle.formulae_start.proofs.put_head.Tie as tie
 use Rattle.formulae_start.proofs.put_head.Reads as reads
 use Rattle.formulae_start.proofs.put_head.Lts as lts
 use Rattle.print.proofs.put_bytes.Reads as put-bytes-reads
-use Rattle.reports.proofs.put_counts.Reads as put-counts-reads
+use Rattle.catalogue_reports.proofs.put_counts.Reads as put-counts-reads
 
 put-counts-requires : tie.Need-put-counts-requires
 put-counts-requires c κs = search needs

@@ -25,13 +25,13 @@ use Rattle.search.specs.declared.Catalogued.the-variants as reply
 use Rattle.pieces.specs.Piece.{Piece}
 use Rattle.pieces.specs.laws.Pieces.{Put, piece, piece-then, whole}
 use Rattle.pieces.specs.RefusedText.{refusedText}
-use Rattle.reports.specs.Reports.{countsText, formulaeNames}
+use Rattle.catalogue_reports.specs.CatalogueReports.{countsText}
 use Rattle.pages.specs.Pages.{listingRoom}
 use Rattle.catalogue_answers.specs.laws.Catalogue.{Fitted, fitted}
 use Rattle.inputs.specs.Inputs.{Input}
 use Rattle.plans.specs.Plans.{Ready}
 use Rattle.plans.specs.declared.Plan.{Plan}
-use Rattle.formulae_start.specs.Listed.{Listed, listed, listedInput, headText}
+use Rattle.formulae_start.specs.Listed.{Listed, listed, listedInput, formulaeNames, headText}
 use Rattle.formulae_start.specs.Starts.{Follows, Printing, Starts}
 
 pub record Empty (n : ℕ) (x : Plan) (page : List ℕ) : Type 0 where

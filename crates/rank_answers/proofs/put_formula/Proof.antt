@@ -7,7 +7,7 @@ use Rattle.rank_answers.proofs.put_formula.Statement.{statement}
 use Rattle.rank_answers.proofs.put_formula.Tie as tie
 use Rattle.rank_answers.proofs.put_formula.Reads as reads
 use Rattle.rank_answers.proofs.put_formula.Lts as lts
-use Rattle.reports.proofs.rank_text.Reads as rank-text-reads
+use Rattle.rank_reports.proofs.rank_text.Reads as rank-text-reads
 
 slice-aggregate-rank-text : tie.Need-slice-aggregate-rank-text
 slice-aggregate-rank-text c = let l = c .before .before .before .pre .0 in let h = c .before .before .before .pre .1 in sym (length-take-le (c .before .before .before .args .n) (c .before .before .before .args .formula .now) (omega arith))

@@ -9,7 +9,7 @@ use Rattle.rank_answers.proofs.put_rank.Lts as lts
 use Rattle.rank_answers.proofs.put_formula.Reads as put-formula-reads
 use Rattle.pages.proofs.refused_page.Reads as refused-page-reads
 use Rattle.kinds.proofs.number_of.Reads as number-of-reads
-use Rattle.reports.proofs.far_rank_text.Reads as far-rank-text-reads
+use Rattle.rank_reports.proofs.far_rank_text.Reads as far-rank-text-reads
 use Rattle.ranks.proofs.rank.Reads as rank-reads
 
 number-of-requires : tie.Need-number-of-requires

@@ -29,8 +29,8 @@ use Rattle.ranks.specs.Rank.{rank}
 use Rattle.pieces.specs.Piece.{Piece}
 use Rattle.pieces.specs.laws.Pieces.{whole}
 use Rattle.pieces.specs.RefusedText.{refusedText}
-use Rattle.reports.specs.Reports.{rankText, farRankText}
-use Rattle.reports.specs.laws.Lines.{Short}
+use Rattle.rank_reports.specs.RankReports.{rankText, farRankText}
+use Rattle.record_lines.specs.RecordLines.{Short}
 use Rattle.pages.specs.Pages.{listingRoom, printed}
 use Rattle.targets.specs.Targets.{Measured, Measures}
 use Rattle.targets.specs.declared.Targets.{Targets}

@@ -1,0 +1,4 @@
+-- What the Catalogue prints.
+pub mod CatalogueReports
+pub mod Worked
+pub mod laws

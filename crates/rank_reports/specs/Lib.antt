@@ -1,0 +1,4 @@
+-- What Rank prints.
+pub mod RankReports
+pub mod Worked
+pub mod laws

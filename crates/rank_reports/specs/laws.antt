@@ -1,0 +1,2 @@
+-- The laws of the texts.
+pub mod Rank

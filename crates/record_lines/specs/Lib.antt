@@ -1,0 +1,3 @@
+-- The lines of records.
+pub mod RecordLines
+pub mod laws

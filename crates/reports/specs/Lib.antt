@@ -1,4 +1,0 @@
--- What the programs print.
-pub mod Reports
-pub mod Worked
-pub mod laws

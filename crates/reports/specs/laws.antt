@@ -1,2 +1,0 @@
--- The laws of the texts.
-pub mod Lines
