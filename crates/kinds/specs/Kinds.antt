@@ -2,9 +2,10 @@
 --   known           == the one table: kind, number, name
 --   numberOf k      == the number by which a caller names the kind
 --   nameOf k        == the bytes that name it in a file
---   kindNumbered x  == the kind with the number x
+--   kindNumbered x  == the kind with the number x; each kind is the one with its number (kind-numbered)
 --   kindNamed s     == the kind that the bytes s name
 -- Document 01: poly, short, circ, mat, list. Assumes nothing.
+use mathlib.Core.Path.{_≡_, refl}
 use mathlib.Core.Bool.{Bool, true, false, _&&_, cond}
 use mathlib.Core.List.{List, [], _∷_}
 use mathlib.Core.Option.{Option, none, some}
@@ -43,6 +44,14 @@ firstKind p (k ∷ l) = cond (p k) (some k) (firstKind p l)
 
 unfoldable pub kindNumbered : ℕ → Option Kind
 kindNumbered x = firstKind (λ k. eqb (numberOf k) x) kinds
+
+pub kind-numbered : (kd : Kind) → kindNumbered (numberOf kd) ≡ some kd
+unfolding kindNumbered
+kind-numbered kind.Poly = refl
+kind-numbered kind.Short = refl
+kind-numbered kind.Circ = refl
+kind-numbered kind.Mat = refl
+kind-numbered kind.List = refl
 
 -- two byte strings are the same
 abbrev pub same : List ℕ → List ℕ → Bool

@@ -2,7 +2,8 @@
 use mathlib.Core.Path.{sym}
 use native.Mathlib.Omega.{arith}
 use borrow.Author.Needs.{needs}
-use Rattle.problem_judging.specs.laws.Judging.{targets-dim, beyond-catalogue, beyond-rank}
+use Rattle.bases.specs.Basis.{based-dim}
+use Rattle.problem_judging.specs.laws.Judging.{beyond-catalogue, beyond-rank}
 use Rattle.problem_judging.proofs.beyond.Statement.{statement}
 use Rattle.problem_judging.proofs.beyond.Tie as tie
 
@@ -19,7 +20,7 @@ enum-told-2 : tie.Need-enum-told-2
 enum-told-2 c = search needs
 
 returns : tie.Need-returns
-returns c = beyond-catalogue (c .before .before .before .before .args .purpose) (c .before .before .before .before .args .k) _ (c .before .before .before .before .args .targets .now) (c .before .enum-told .given .1) (targets-dim (c .before .before .before .before .args .targets .now) (c .basis-of .result) (c .basis-of .ensures))
+returns c = beyond-catalogue (c .before .before .before .before .args .purpose) (c .before .before .before .before .args .k) _ (c .before .before .before .before .args .targets .now) (c .before .enum-told .given .1) (based-dim (c .before .before .before .before .args .targets .now) (c .basis-of .result) (c .basis-of .ensures))
 
 returns-2 : tie.Need-returns-2
 returns-2 c = beyond-rank (c .before .before .before .args .purpose) (c .before .before .before .args .k) (c .before .before .before .args .targets .now) (c .enum-told2 .given .1)

@@ -1,5 +1,4 @@
 -- How a problem is judged, case by case.
---   targets-dim            a basis has as many rows as the dimension
 --   settled-8 .. settled-is   refusals 8 and 9
 --   judged-refused, judged-made   6 to 9, from the code's answer on the posed problem
 --   judged-is              an accepted problem is of the kind and the counts that were asked
@@ -8,13 +7,11 @@ use Prim.Native.Nat.{ℕ, _+_, _<_, _≤_}
 use mathlib.Core.Path.{_≡_, sym, ap, _∙_, subst}
 use mathlib.Core.List.{List, []}
 use mathlib.Core.Bool.{true, false, not}
-use lib.ListN.{length, take}
+use lib.ListN.{take}
 use lib.Dec.{ltb, eqb}
 use borrow.Author.Tests.{lt-ltb, le-ltb}
-use Rattle.linear.specs.Basis.{dim, basisOf}
+use Rattle.linear.specs.Basis.{dim}
 use Rattle.linear.specs.Word.{word}
-use Rattle.bases.specs.Basis.{Holds, rows-length}
-use Rattle.bases.specs.declared.Basis.{Basis}
 use Rattle.kinds.specs.declared.Kind.{Kind}
 use Rattle.kinds.specs.Kinds.{numberOf}
 use Rattle.kinds.specs.Refusal.{Answer, refused, accepted, refuse, follow}
@@ -31,9 +28,6 @@ use Rattle.problem_judging.specs.declared.ProblemRead.{ProblemRead}
 use Rattle.problem_judging.specs.declared.ProblemRead.the-variants as read
 
 -- ---- 8 and 9
-pub targets-dim : (xs : List ℕ) (b : Basis) → Holds (basisOf word xs) b → b .len ≡ dim word xs
-targets-dim xs b B = unfold dim in sym (rows-length b (B .valid)) ∙ ap length (B .is)
-
 module _ (a : Purpose) (kd : Kind) (p q r k u v : ℕ) (targets : List ℕ) where
   pub settled-8 : beyond a k targets ≡ true → Settled a kd p q r k u v targets (read.Refused 8)
   unfolding settled

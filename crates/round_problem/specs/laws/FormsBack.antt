@@ -15,7 +15,7 @@ use lib.Dec.{leb}
 use borrow.Author.Tests.{le-leb}
 use Rattle.kinds.specs.declared.Kind.{Kind}
 use Rattle.kinds.specs.declared.Kind.the-variants as kind
-use Rattle.kinds.specs.Kinds.{numberOf, kindNumbered}
+use Rattle.kinds.specs.Kinds.{numberOf, kindNumbered, kind-numbered}
 use Rattle.kinds.specs.Sizes.{sizes, listSizes, within}
 use Rattle.kinds.specs.SizeLaws.{given-yes, given-some, sizes-bounds}
 use Rattle.kinds.specs.Refusal.{Answer, accepted}
@@ -42,14 +42,6 @@ pub record Forms (kd : Kind) (p q r : ℕ) (gs ts : List ℕ) : Type 0 where
   pub generators : handed kd q ≡ length gs
   pub targets : handed kd r ≡ length ts
   pub body : bodyOf kd q r (z .0) (z .1) (linesText kd gs ts) ≡ accepted (gs, ts)
-
-named : (kd : Kind) → kindNumbered (numberOf kd) ≡ some kd
-unfolding kindNumbered
-named kind.Poly = refl
-named kind.Short = refl
-named kind.Circ = refl
-named kind.Mat = refl
-named kind.List = refl
 
 empty : (xs : List ℕ) → length xs ≡ 0 → xs ≡ []
 empty [] e = refl
@@ -111,7 +103,7 @@ of-list p q r gs ts P z s T =
 
 module _ (p q r : ℕ) (gs ts : List ℕ) (P : Problem) where
   a-map : (kd : Kind) → kd ≢ kind.List → isList kd ≡ false → posed (numberOf kd) p q r gs ts [] ≡ accepted P → Forms kd p q r gs ts
-  a-map kd d f e = of-map kd p q r gs ts P f (posed-map p q r gs ts [] P (numberOf kd) e kd (named kd) d)
+  a-map kd d f e = of-map kd p q r gs ts P f (posed-map p q r gs ts [] P (numberOf kd) e kd (kind-numbered kd) d)
 
   pub forms-of : (kd : Kind) → posed (numberOf kd) p q r gs ts [] ≡ accepted P → Forms kd p q r gs ts
   forms-of kind.Poly e = a-map kind.Poly (λ k. true≢false (sym (ap isList k))) refl e
@@ -121,7 +113,7 @@ module _ (p q r : ℕ) (gs ts : List ℕ) (P : Problem) where
   forms-of kind.List e =
       let K = posed-kind (numberOf kind.List) p q r gs ts [] P e in
       let k : K .kd ≡ kind.List = same (K .kd) (K .named) in
-      of-list p q r gs ts P (K .n, K .m, K .u) (ap (λ (x : Kind). sizes x p q r) (sym k) ∙ K .sized) (posed-list p q r gs ts [] P (numberOf kind.List) e (named kind.List))
+      of-list p q r gs ts P (K .n, K .m, K .u) (ap (λ (x : Kind). sizes x p q r) (sym k) ∙ K .sized) (posed-list p q r gs ts [] P (numberOf kind.List) e (kind-numbered kind.List))
     where
       same : (k : Kind) → kindNumbered (numberOf kind.List) ≡ some k → k ≡ kind.List
-      same k a = let b = named kind.List in cc
+      same k a = let b = kind-numbered kind.List in cc
