@@ -5,7 +5,7 @@ ghost use lib.ListN.{length};
 ghost use lib.Dec.{ltb};
 ghost use Rattle.files.specs.Outcome.{isList, outcome};
 ghost use Rattle.files.specs.Lent.{reply, firstOf, secondOf, rowsOf};
-ghost use Rattle.files.specs.laws.Outcome.{number, Left};
+ghost use Rattle.files.specs.laws.Outcome.{number, Left, Under};
 use heads::HeadRead;
 use kinds::Kind;
 use kinds::Known;
@@ -54,6 +54,25 @@ fn refusal(wide: bool, zero: bool, k: usize, t: usize, la: usize, lb: usize, lr:
     if too_short(k, t, la, lb, lr) { 9 } else { 0 }
 }
 
+// Reads the lines of a formula under the first two: the refusal, 5 to 9, or 0, and the buffers are filled.
+fn read_under(
+    s: &[u8],
+    k: usize,
+    n: usize,
+    m: usize,
+    t: usize,
+    a: &mut [u64],
+    b: &mut [u64],
+    d: &mut [u64],
+) -> u64
+    ensures { λ e. ⌜ Under k n m t (now (s .entry)) (now (a .entry)) (now (b .entry)) (now (d .entry)) (now (a .exit)) (now (b .exit)) (now (d .exit)) e ⌝ }
+{
+    let BodyRead::Are(wide, zero) = lines::read_body(s, k, n, m, t, a, b, d) else {
+        return 5;
+    };
+    refusal(wide, zero, k, t, a.len(), b.len(), d.len())
+}
+
 // The reply of reading a formula: a refusal's number, or the kind and the four counts.
 pub enum Read {
     Refused(u64),
@@ -76,21 +95,16 @@ fn read_whole(s: &[u8], a: &mut [u64], b: &mut [u64], d: &mut [u64]) -> Read
     let Sized::Are(n, m, t) = kinds::sizes_of(kind, p, q, r) else {
         return Read::Refused(3);
     };
-    let products = k as usize;
-    let outputs = t as usize;
-    let BodyRead::Are(wide, zero) = lines::read_body(
+    let e = read_under(
         &s[u..],
-        products,
+        k as usize,
         n as usize,
         m as usize,
-        outputs,
+        t as usize,
         a,
         b,
         d,
-    ) else {
-        return Read::Refused(5);
-    };
-    let e = refusal(wide, zero, products, outputs, a.len(), b.len(), d.len());
+    );
     if e != 0 {
         return Read::Refused(e);
     }

@@ -8,7 +8,6 @@ use Rattle.kinds.specs.Kinds.{seenKind}
 use Rattle.kinds.specs.Sizes.{seenSizes}
 use Rattle.formula.specs.Formula.{judged}
 use Rattle.formula.specs.laws.Judging.{unlike-a, unlike-b, unlike-rows, check-2, check-3, check-sized}
-use borrow.Author.Needs.{needs}
 use Rattle.formula.proofs.check.Statement.{statement}
 use Rattle.formula.proofs.check.Tie as tie
 use Rattle.formula.proofs.check.Reads as reads
@@ -18,25 +17,25 @@ use Rattle.formula.proofs.map_kind.Reads as map-kind-reads
 use Rattle.kinds.proofs.sizes_of.Reads as sizes-of-reads
 
 map-kind-requires : tie.Need-map-kind-requires
-map-kind-requires c κs = search needs
+map-kind-requires c κs = tt
 
 enum-known-kind : tie.Need-enum-known-kind
-enum-known-kind c = search needs
+enum-known-kind c = c .match .keys1
 
 enum-told : tie.Need-enum-told
-enum-told c = search needs
+enum-told c = c .match .keys2
 
 returns : tie.Need-returns
 returns c = check-2 (c .before .before .before .before .before .before .args .number) (c .before .before .before .before .before .before .args .p) (c .before .before .before .before .before .before .args .q) (c .before .before .before .before .before .before .args .r) (c .before .before .before .before .before .before .args .k) (c .before .before .before .before .before .before .args .a .now) (c .before .before .before .before .before .before .args .b .now) (c .before .before .before .before .before .before .args .rows .now) (c .before .before .map-kind .ensures ∙ ap seenKind (c .enum-told .given .1))
 
 sizes-of-requires : tie.Need-sizes-of-requires
-sizes-of-requires c κs = search needs
+sizes-of-requires c κs = tt
 
 enum-known-n : tie.Need-enum-known-n
-enum-known-n c = search needs
+enum-known-n c = c .match2 .keys1
 
 enum-told-2 : tie.Need-enum-told-2
-enum-told-2 c = search needs
+enum-told-2 c = c .match2 .keys2
 
 returns-2 : tie.Need-returns-2
 returns-2 c = check-3 (c .before .before .before .before .before .before .before .before .before .before .args .number) (c .before .before .before .before .before .before .before .before .before .before .args .p) (c .before .before .before .before .before .before .before .before .before .before .args .q) (c .before .before .before .before .before .before .before .before .before .before .args .r) (c .before .before .before .before .before .before .before .before .before .before .args .k) (c .before .before .before .before .before .before .before .before .before .before .args .a .now) (c .before .before .before .before .before .before .before .before .before .before .args .b .now) (c .before .before .before .before .before .before .before .before .before .before .args .rows .now) (c .before .before .before .before .kind .given .0 .0) (c .before .before .before .before .before .before .map-kind .ensures ∙ ap seenKind (c .before .before .before .before .kind .given .1)) (c .before .before .sizes-of .ensures ∙ ap seenSizes (c .enum-told2 .given .1))

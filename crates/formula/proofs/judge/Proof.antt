@@ -22,31 +22,31 @@ use Rattle.words.proofs.any_zero.Reads as any-zero-reads
 use Rattle.formula.proofs.verdict_on.Reads as verdict-on-reads
 
 any-wide-requires : tie.Need-any-wide-requires
-any-wide-requires c κs = search needs
+any-wide-requires c κs = tt
 
 returns : tie.Need-returns
 returns c = judged-as (c .before .before .before .before .before .args .kind) (c .before .before .before .before .before .args .p) (c .before .before .before .before .before .args .q) (c .before .before .before .before .before .args .r) (c .before .before .before .before .before .args .n) (c .before .before .before .before .before .args .m) (c .before .before .before .before .before .args .a .now) (c .before .before .before .before .before .args .b .now) (c .before .before .before .before .before .args .rows .now) (c .before .before .before .before .before .pre .paired) true (wide (c .before .before .before .before .before .args .m) (c .before .before .before .before .before .args .b .now)) (wide (length (c .before .before .before .before .before .args .a .now)) (c .before .before .before .before .before .args .rows .now)) (zeroIn (c .before .before .before .before .before .args .a .now)) (zeroIn (c .before .before .before .before .before .args .b .now)) (ltb 64 (length (c .before .before .before .before .before .args .a .now))) (sym (c .before .any-wide .ensures) ∙ c .if1 .taken) refl refl refl refl refl
 
 any-wide-requires-2 : tie.Need-any-wide-requires-2
-any-wide-requires-2 c κs = search needs
+any-wide-requires-2 c κs = tt
 
 returns-2 : tie.Need-returns-2
 returns-2 c = judged-as (c .before .before .before .before .before .before .before .args .kind) (c .before .before .before .before .before .before .before .args .p) (c .before .before .before .before .before .before .before .args .q) (c .before .before .before .before .before .before .before .args .r) (c .before .before .before .before .before .before .before .args .n) (c .before .before .before .before .before .before .before .args .m) (c .before .before .before .before .before .before .before .args .a .now) (c .before .before .before .before .before .before .before .args .b .now) (c .before .before .before .before .before .before .before .args .rows .now) (c .before .before .before .before .before .before .before .pre .paired) false true (wide (length (c .before .before .before .before .before .before .before .args .a .now)) (c .before .before .before .before .before .before .before .args .rows .now)) (zeroIn (c .before .before .before .before .before .before .before .args .a .now)) (zeroIn (c .before .before .before .before .before .before .before .args .b .now)) (ltb 64 (length (c .before .before .before .before .before .before .before .args .a .now))) (sym (c .before .before .before .any-wide .ensures) ∙ c .before .before .if1 .left) (sym (c .before .any-wide2 .ensures) ∙ c .if2 .taken) refl refl refl refl
 
 any-wide-requires-3 : tie.Need-any-wide-requires-3
-any-wide-requires-3 c κs = search needs
+any-wide-requires-3 c κs = tt
 
 returns-3 : tie.Need-returns-3
 returns-3 c = judged-as (c .before .before .before .before .before .before .before .before .before .args .kind) (c .before .before .before .before .before .before .before .before .before .args .p) (c .before .before .before .before .before .before .before .before .before .args .q) (c .before .before .before .before .before .before .before .before .before .args .r) (c .before .before .before .before .before .before .before .before .before .args .n) (c .before .before .before .before .before .before .before .before .before .args .m) (c .before .before .before .before .before .before .before .before .before .args .a .now) (c .before .before .before .before .before .before .before .before .before .args .b .now) (c .before .before .before .before .before .before .before .before .before .args .rows .now) (c .before .before .before .before .before .before .before .before .before .pre .paired) false false true (zeroIn (c .before .before .before .before .before .before .before .before .before .args .a .now)) (zeroIn (c .before .before .before .before .before .before .before .before .before .args .b .now)) (ltb 64 (length (c .before .before .before .before .before .before .before .before .before .args .a .now))) (sym (c .before .before .before .before .before .any-wide .ensures) ∙ c .before .before .before .before .if1 .left) (sym (c .before .before .before .any-wide2 .ensures) ∙ c .before .before .if2 .left) (sym (c .before .any-wide3 .ensures) ∙ c .if3 .taken) refl refl refl
 
 any-zero-requires : tie.Need-any-zero-requires
-any-zero-requires c κs = search needs
+any-zero-requires c κs = tt
 
 returns-4 : tie.Need-returns-4
 returns-4 c = judged-as (c .before .before .before .before .before .before .before .before .before .before .before .args .kind) (c .before .before .before .before .before .before .before .before .before .before .before .args .p) (c .before .before .before .before .before .before .before .before .before .before .before .args .q) (c .before .before .before .before .before .before .before .before .before .before .before .args .r) (c .before .before .before .before .before .before .before .before .before .before .before .args .n) (c .before .before .before .before .before .before .before .before .before .before .before .args .m) (c .before .before .before .before .before .before .before .before .before .before .before .args .a .now) (c .before .before .before .before .before .before .before .before .before .before .before .args .b .now) (c .before .before .before .before .before .before .before .before .before .before .before .args .rows .now) (c .before .before .before .before .before .before .before .before .before .before .before .pre .paired) false false false true (zeroIn (c .before .before .before .before .before .before .before .before .before .before .before .args .b .now)) (ltb 64 (length (c .before .before .before .before .before .before .before .before .before .before .before .args .a .now))) (sym (c .before .before .before .before .before .before .before .any-wide .ensures) ∙ c .before .before .before .before .before .before .if1 .left) (sym (c .before .before .before .before .before .any-wide2 .ensures) ∙ c .before .before .before .before .if2 .left) (sym (c .before .before .before .any-wide3 .ensures) ∙ c .before .before .if3 .left) (sym (c .before .any-zero .ensures) ∙ c .if4 .taken) refl refl
 
 any-zero-requires-2 : tie.Need-any-zero-requires-2
-any-zero-requires-2 c κs = search needs
+any-zero-requires-2 c κs = tt
 
 returns-5 : tie.Need-returns-5
 returns-5 c = judged-as (c .before .before .before .before .before .before .before .before .before .before .before .before .before .args .kind) (c .before .before .before .before .before .before .before .before .before .before .before .before .before .args .p) (c .before .before .before .before .before .before .before .before .before .before .before .before .before .args .q) (c .before .before .before .before .before .before .before .before .before .before .before .before .before .args .r) (c .before .before .before .before .before .before .before .before .before .before .before .before .before .args .n) (c .before .before .before .before .before .before .before .before .before .before .before .before .before .args .m) (c .before .before .before .before .before .before .before .before .before .before .before .before .before .args .a .now) (c .before .before .before .before .before .before .before .before .before .before .before .before .before .args .b .now) (c .before .before .before .before .before .before .before .before .before .before .before .before .before .args .rows .now) (c .before .before .before .before .before .before .before .before .before .before .before .before .before .pre .paired) false false false false true (ltb 64 (length (c .before .before .before .before .before .before .before .before .before .before .before .before .before .args .a .now))) (sym (c .before .before .before .before .before .before .before .before .before .any-wide .ensures) ∙ c .before .before .before .before .before .before .before .before .if1 .left) (sym (c .before .before .before .before .before .before .before .any-wide2 .ensures) ∙ c .before .before .before .before .before .before .if2 .left) (sym (c .before .before .before .before .before .any-wide3 .ensures) ∙ c .before .before .before .before .if3 .left) (sym (c .before .before .before .any-zero .ensures) ∙ c .before .before .if4 .left) (sym (c .before .any-zero2 .ensures) ∙ c .if5 .taken) refl

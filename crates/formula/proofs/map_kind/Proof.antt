@@ -2,7 +2,6 @@
 use mathlib.Core.Path.{ap, _∙_}
 use Rattle.kinds.specs.Kinds.{seenKind}
 use Rattle.formula.specs.Formula.{known, mapKind}
-use borrow.Author.Needs.{needs}
 use Rattle.formula.proofs.map_kind.Statement.{statement}
 use Rattle.formula.proofs.map_kind.Tie as tie
 use Rattle.formula.proofs.map_kind.Reads as reads
@@ -10,31 +9,31 @@ use Rattle.formula.proofs.map_kind.Lts as lts
 use Rattle.kinds.proofs.kind_numbered.Reads as kind-numbered-reads
 
 kind-numbered-requires : tie.Need-kind-numbered-requires
-kind-numbered-requires c κs = search needs
+kind-numbered-requires c κs = tt
 
 enum-known-kind : tie.Need-enum-known-kind
-enum-known-kind c = search needs
+enum-known-kind c = c .match .keys1
 
 enum-told : tie.Need-enum-told
-enum-told c = search needs
+enum-told c = c .match .keys2
 
 returns : tie.Need-returns
 returns c = ap known (c .before .before .kind-numbered .ensures ∙ ap seenKind (c .enum-told .given .1))
 
 enum-told-2 : tie.Need-enum-told-2
-enum-told-2 c = search needs
+enum-told-2 c = c .match2 .keys1
 
 enum-told-3 : tie.Need-enum-told-3
-enum-told-3 c = search needs
+enum-told-3 c = c .match2 .keys2
 
 enum-told-4 : tie.Need-enum-told-4
-enum-told-4 c = search needs
+enum-told-4 c = c .match2 .keys3
 
 enum-told-5 : tie.Need-enum-told-5
-enum-told-5 c = search needs
+enum-told-5 c = c .match2 .keys4
 
 enum-told-6 : tie.Need-enum-told-6
-enum-told-6 c = search needs
+enum-told-6 c = c .match2 .keys5
 
 returns-2 : tie.Need-returns-2
 returns-2 c = ap known (c .before .before .before .before .before .kind-numbered .ensures ∙ ap seenKind (c .before .before .before .kind .given .1)) ∙ ap mapKind (c .enum-told2 .given .1)

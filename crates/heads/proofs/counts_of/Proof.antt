@@ -1,4 +1,5 @@
 -- `heads::counts_of` meets its contract. Assumes nothing.
+use native.Mathlib.Nat.{le-refl}
 use borrow.Author.Needs.{needs}
 use mathlib.Core.Path.{ap, sym, _∙_}
 use native.Mathlib.Omega.{arith}
@@ -13,10 +14,10 @@ field-at-requires : tie.Need-field-at-requires
 field-at-requires c κs = search needs
 
 enum-known-p : tie.Need-enum-known-p
-enum-known-p c = search needs
+enum-known-p c = c .match .keys1
 
 enum-told : tie.Need-enum-told
-enum-told c = search needs
+enum-told c = c .match .keys2
 
 returns : tie.Need-returns
 returns c =
@@ -35,16 +36,16 @@ part-field-at-start c =
     (field-fit _ _ _ _ (field-at .ensures .1) (c .before .p .given .1))
 
 part-field-at-end : tie.Need-part-field-at-end
-part-field-at-end c = search needs
+part-field-at-end c = le-refl _
 
 field-at-requires-2 : tie.Need-field-at-requires-2
 field-at-requires-2 c κs = search needs
 
 enum-known-q : tie.Need-enum-known-q
-enum-known-q c = search needs
+enum-known-q c = c .match2 .keys1
 
 enum-told-2 : tie.Need-enum-told-2
-enum-told-2 c = search needs
+enum-told-2 c = c .match2 .keys2
 
 returns-2 : tie.Need-returns-2
 returns-2 c =
@@ -81,16 +82,16 @@ part-field-at-start-2 c =
     (field-fits (args .s .now) _ _ _ _ (field-at2 .ensures .1) (c .before .q .given .1) (field-fit _ _ _ _ (field-at .ensures .1) (p .given .1)))
 
 part-field-at-end-2 : tie.Need-part-field-at-end-2
-part-field-at-end-2 c = search needs
+part-field-at-end-2 c = le-refl _
 
 field-at-requires-3 : tie.Need-field-at-requires-3
 field-at-requires-3 c κs = search needs
 
 enum-known-r : tie.Need-enum-known-r
-enum-known-r c = search needs
+enum-known-r c = c .match3 .keys1
 
 enum-told-3 : tie.Need-enum-told-3
-enum-told-3 c = search needs
+enum-told-3 c = c .match3 .keys2
 
 returns-3 : tie.Need-returns-3
 returns-3 c =
@@ -135,16 +136,16 @@ part-numeral-of-start c =
     (field-fits (args .s .now) _ _ _ _ (field-at3 .ensures .1) (c .before .r .given .1) (field-fits (args .s .now) _ _ _ _ (field-at2 .ensures .1) (q .given .1) (field-fit _ _ _ _ (field-at .ensures .1) (p .given .1))))
 
 part-numeral-of-end : tie.Need-part-numeral-of-end
-part-numeral-of-end c = search needs
+part-numeral-of-end c = le-refl _
 
 numeral-of-requires : tie.Need-numeral-of-requires
 numeral-of-requires c κs = search needs
 
 enum-known-k : tie.Need-enum-known-k
-enum-known-k c = search needs
+enum-known-k c = c .match4 .keys1
 
 enum-told-4 : tie.Need-enum-told-4
-enum-told-4 c = search needs
+enum-told-4 c = c .match4 .keys2
 
 returns-4 : tie.Need-returns-4
 returns-4 c =

@@ -1,5 +1,5 @@
 -- `heads::head_line` meets its contract. Assumes nothing.
-use borrow.Author.Needs.{needs}
+use native.Mathlib.Nat.{le-refl}
 use mathlib.Core.Path.{ap, sym, _∙_}
 use native.Mathlib.Omega.{arith}
 use Prim.Native.Nat.{_+_}
@@ -13,13 +13,13 @@ use Rattle.heads.proofs.head_line.Statement.{statement}
 use Rattle.heads.proofs.head_line.Tie as tie
 
 cut-at-requires : tie.Need-cut-at-requires
-cut-at-requires c κs = search needs
+cut-at-requires c κs = tt
 
 enum-known-e : tie.Need-enum-known-e
-enum-known-e c = search needs
+enum-known-e c = c .match .keys1
 
 enum-told : tie.Need-enum-told
-enum-told c = search needs
+enum-told c = c .match .keys2
 
 returns : tie.Need-returns
 returns c =
@@ -34,13 +34,13 @@ slice-aggregate-line c =
     sym (length-take-le _ _ (omega arith))
 
 cut-at-requires-2 : tie.Need-cut-at-requires-2
-cut-at-requires-2 c κs = search needs
+cut-at-requires-2 c κs = tt
 
 enum-known-n : tie.Need-enum-known-n
-enum-known-n c = search needs
+enum-known-n c = c .match2 .keys1
 
 enum-told-2 : tie.Need-enum-told-2
-enum-told-2 c = search needs
+enum-told-2 c = c .match2 .keys2
 
 returns-2 : tie.Need-returns-2
 returns-2 c =
@@ -70,16 +70,16 @@ part-counts-of-start c =
     cut-fits _ _ _ (cut-at2 .ensures .1) (c .before .n .given .1)
 
 part-counts-of-end : tie.Need-part-counts-of-end
-part-counts-of-end c = search needs
+part-counts-of-end c = le-refl _
 
 counts-of-requires : tie.Need-counts-of-requires
-counts-of-requires c κs = search needs
+counts-of-requires c κs = tt
 
 enum-known-p : tie.Need-enum-known-p
-enum-known-p c = search needs
+enum-known-p c = c .match3 .keys1
 
 enum-told-3 : tie.Need-enum-told-3
-enum-told-3 c = search needs
+enum-told-3 c = c .match3 .keys2
 
 returns-3 : tie.Need-returns-3
 returns-3 c =
@@ -99,7 +99,7 @@ slice-aggregate-kind-named c =
     sym (length-take-le _ _ (omega (arith, h)))
 
 kind-named-requires : tie.Need-kind-named-requires
-kind-named-requires c κs = search needs
+kind-named-requires c κs = tt
 
 add-t14 : tie.Need-add-t14
 add-t14 c =

@@ -1,4 +1,5 @@
 -- `heads::head_lines` meets its contract. Assumes nothing.
+use native.Mathlib.Nat.{le-refl}
 use borrow.Author.Needs.{needs}
 use mathlib.Core.Path.{ap, _∙_}
 use native.Mathlib.Omega.{arith}
@@ -14,13 +15,13 @@ slice-aggregate-name-line : tie.Need-slice-aggregate-name-line
 slice-aggregate-name-line c = search needs
 
 name-line-requires : tie.Need-name-line-requires
-name-line-requires c κs = search needs
+name-line-requires c κs = tt
 
 enum-known-u : tie.Need-enum-known-u
-enum-known-u c = search needs
+enum-known-u c = c .match .keys1
 
 enum-told : tie.Need-enum-told
-enum-told c = search needs
+enum-told c = c .match .keys2
 
 returns : tie.Need-returns
 returns c =
@@ -39,16 +40,16 @@ part-head-line-start c =
     (used-fit _ _ _ (name-line .ensures .1) (c .before .u .given .1))
 
 part-head-line-end : tie.Need-part-head-line-end
-part-head-line-end c = search needs
+part-head-line-end c = le-refl _
 
 head-line-requires : tie.Need-head-line-requires
-head-line-requires c κs = search needs
+head-line-requires c κs = tt
 
 enum-known-kind : tie.Need-enum-known-kind
-enum-known-kind c = search needs
+enum-known-kind c = c .match2 .keys1
 
 enum-told-2 : tie.Need-enum-told-2
-enum-told-2 c = search needs
+enum-told-2 c = c .match2 .keys2
 
 returns-2 : tie.Need-returns-2
 returns-2 c =

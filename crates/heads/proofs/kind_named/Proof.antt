@@ -9,7 +9,7 @@ slice-aggregate-equal : tie.Need-slice-aggregate-equal
 slice-aggregate-equal c = search needs
 
 equal-requires : tie.Need-equal-requires
-equal-requires c κs = search needs
+equal-requires c κs = tt
 
 returns : tie.Need-returns
 returns c =
@@ -20,7 +20,7 @@ slice-aggregate-equal-2 : tie.Need-slice-aggregate-equal-2
 slice-aggregate-equal-2 c = search needs
 
 equal-requires-2 : tie.Need-equal-requires-2
-equal-requires-2 c κs = search needs
+equal-requires-2 c κs = tt
 
 returns-2 : tie.Need-returns-2
 returns-2 c =
@@ -33,7 +33,7 @@ slice-aggregate-equal-3 : tie.Need-slice-aggregate-equal-3
 slice-aggregate-equal-3 c = search needs
 
 equal-requires-3 : tie.Need-equal-requires-3
-equal-requires-3 c κs = search needs
+equal-requires-3 c κs = tt
 
 returns-3 : tie.Need-returns-3
 returns-3 c =
@@ -48,7 +48,7 @@ slice-aggregate-equal-4 : tie.Need-slice-aggregate-equal-4
 slice-aggregate-equal-4 c = search needs
 
 equal-requires-4 : tie.Need-equal-requires-4
-equal-requires-4 c κs = search needs
+equal-requires-4 c κs = tt
 
 returns-4 : tie.Need-returns-4
 returns-4 c =
@@ -65,7 +65,7 @@ slice-aggregate-equal-5 : tie.Need-slice-aggregate-equal-5
 slice-aggregate-equal-5 c = search needs
 
 equal-requires-5 : tie.Need-equal-requires-5
-equal-requires-5 c κs = search needs
+equal-requires-5 c κs = tt
 
 returns-5 : tie.Need-returns-5
 returns-5 c =

@@ -1,4 +1,5 @@
 -- `lines::product_line` meets its contract. Assumes nothing.
+use native.Mathlib.Nat.{le-refl}
 use borrow.Author.Needs.{needs}
 use mathlib.Core.Path.{ap, _∙_}
 use native.Mathlib.Omega.{arith}
@@ -12,10 +13,10 @@ field-at-requires : tie.Need-field-at-requires
 field-at-requires c κs = search needs
 
 enum-known-x : tie.Need-enum-known-x
-enum-known-x c = search needs
+enum-known-x c = c .match .keys1
 
 enum-told : tie.Need-enum-told
-enum-told c = search needs
+enum-told c = c .match .keys2
 
 returns : tie.Need-returns
 returns c =
@@ -34,16 +35,16 @@ part-field-at-start c =
     (field-fit _ _ _ _ (field-at .ensures .1) (c .before .x .given .1))
 
 part-field-at-end : tie.Need-part-field-at-end
-part-field-at-end c = search needs
+part-field-at-end c = le-refl _
 
 field-at-requires-2 : tie.Need-field-at-requires-2
 field-at-requires-2 c κs = search needs
 
 enum-known-y : tie.Need-enum-known-y
-enum-known-y c = search needs
+enum-known-y c = c .match2 .keys1
 
 enum-told-2 : tie.Need-enum-told-2
-enum-told-2 c = search needs
+enum-told-2 c = c .match2 .keys2
 
 returns-2 : tie.Need-returns-2
 returns-2 c =

@@ -1,4 +1,5 @@
 -- `lines::products_part` meets its contract. Assumes nothing.
+use native.Mathlib.Nat.{le-refl}
 use mathlib.Core.Path.{ap, _∙_}
 use native.Mathlib.Omega.{arith}
 use borrow.Author.Needs.{needs}
@@ -13,13 +14,13 @@ slice-aggregate-name-line : tie.Need-slice-aggregate-name-line
 slice-aggregate-name-line c = search needs
 
 name-line-requires : tie.Need-name-line-requires
-name-line-requires c κs = search needs
+name-line-requires c κs = tt
 
 enum-known-u : tie.Need-enum-known-u
-enum-known-u c = search needs
+enum-known-u c = c .match .keys1
 
 enum-told : tie.Need-enum-told
-enum-told c = search needs
+enum-told c = c .match .keys2
 
 returns : tie.Need-returns
 returns c = (products-unnamed _ _ _ (c .before .before .before .before .before .before .before .args .s .now) _ _ (c .before .before .name-line .ensures .0 ∙ ap (seenUsed (c .before .before .before .before .before .before .before .args .s .now)) (c .enum-told .given .1)), omega arith)
@@ -31,16 +32,16 @@ part-read-products-start : tie.Need-part-read-products-start
 part-read-products-start c = used-fit _ _ _ (c .before .before .before .name-line .ensures .1) (c .before .u .given .1)
 
 part-read-products-end : tie.Need-part-read-products-end
-part-read-products-end c = search needs
+part-read-products-end c = le-refl _
 
 read-products-requires : tie.Need-read-products-requires
-read-products-requires c κs = search needs
+read-products-requires c κs = tt
 
 enum-known-v : tie.Need-enum-known-v
-enum-known-v c = search needs
+enum-known-v c = c .match2 .keys1
 
 enum-told-2 : tie.Need-enum-told-2
-enum-told-2 c = search needs
+enum-told-2 c = c .match2 .keys2
 
 same-length : tie.Need-same-length
 same-length c = c .before .before .before .before .before .before .read-products .kept .1 .1 .1 .1 .0

@@ -1,19 +1,19 @@
 -- `lines::read_body` meets its contract. Assumes nothing.
+use native.Mathlib.Nat.{le-refl}
 use mathlib.Core.Path.{ap, _∙_}
-use borrow.Author.Needs.{needs}
 use Rattle.lines.specs.Views.{seenProducts}
 use Rattle.lines.specs.laws.Body.{run-1, run-2, run-is, products-fit, last-at, last-not}
 use Rattle.lines.proofs.read_body.Statement.{statement}
 use Rattle.lines.proofs.read_body.Tie as tie
 
 products-part-requires : tie.Need-products-part-requires
-products-part-requires c κs = search needs
+products-part-requires c κs = tt
 
 enum-known-u : tie.Need-enum-known-u
-enum-known-u c = search needs
+enum-known-u c = c .match .keys1
 
 enum-told : tie.Need-enum-told
-enum-told c = search needs
+enum-told c = c .match .keys2
 
 same-length : tie.Need-same-length
 same-length c = c .before .before .before .before .before .before .products-part .kept .1 .1 .1 .1 .0
@@ -31,16 +31,16 @@ part-rows-part-start : tie.Need-part-rows-part-start
 part-rows-part-start c = products-fit _ _ _ _ _ (c .before .before .before .before .before .before .before .products-part .ensures .1) (c .before .u .given .1)
 
 part-rows-part-end : tie.Need-part-rows-part-end
-part-rows-part-end c = search needs
+part-rows-part-end c = le-refl _
 
 rows-part-requires : tie.Need-rows-part-requires
-rows-part-requires c κs = search needs
+rows-part-requires c κs = tt
 
 enum-known-o : tie.Need-enum-known-o
-enum-known-o c = search needs
+enum-known-o c = c .match2 .keys1
 
 enum-told-2 : tie.Need-enum-told-2
-enum-told-2 c = search needs
+enum-told-2 c = c .match2 .keys2
 
 same-length-3 : tie.Need-same-length-3
 same-length-3 c = c .before .before .before .before .before .before .before .before .before .before .before .before .before .before .products-part .kept .1 .1 .1 .1 .0
@@ -55,7 +55,7 @@ returns-2 : tie.Need-returns-2
 returns-2 c = run-2 _ _ _ _ (c .before .before .before .before .before .before .before .before .before .before .before .before .before .before .before .before .before .before .before .before .before .args .s .now) _ _ _ _ _ _ _ _ (c .before .before .before .before .before .before .before .before .before .before .before .before .before .before .products-part .ensures .0 ∙ ap (seenProducts (c .before .before .before .before .before .before .before .before .before .before .before .before .before .before .before .before .before .before .before .before .before .args .s .now) _ _) (c .before .before .before .before .before .before .before .before .u .given .1)) (last-not (c .before .before .before .before .before .before .before .before .before .before .before .before .before .before .before .before .before .before .before .before .before .args .s .now) _ _ _ _ _ _ (c .before .before .before .before .rows-part .ensures) (c .enum-told2 .given .1))
 
 either-requires : tie.Need-either-requires
-either-requires c κs = search needs
+either-requires c κs = tt
 
 same-length-6 : tie.Need-same-length-6
 same-length-6 c = c .before .before .before .before .before .before .before .before .before .before .before .before .before .before .before .before .products-part .kept .1 .1 .1 .1 .0

@@ -1,4 +1,5 @@
 -- `lines::rows_part` meets its contract. Assumes nothing.
+use native.Mathlib.Nat.{le-refl}
 use mathlib.Core.Path.{ap, _∙_}
 use native.Mathlib.Omega.{arith}
 use borrow.Author.Needs.{needs}
@@ -13,13 +14,13 @@ slice-aggregate-name-line : tie.Need-slice-aggregate-name-line
 slice-aggregate-name-line c = search needs
 
 name-line-requires : tie.Need-name-line-requires
-name-line-requires c κs = search needs
+name-line-requires c κs = tt
 
 enum-known-u : tie.Need-enum-known-u
-enum-known-u c = search needs
+enum-known-u c = c .match .keys1
 
 enum-told : tie.Need-enum-told
-enum-told c = search needs
+enum-told c = c .match .keys2
 
 returns : tie.Need-returns
 returns c = rows-unnamed _ _ (c .before .before .before .before .before .before .args .s .now) _ (c .before .before .name-line .ensures .0 ∙ ap (seenUsed (c .before .before .before .before .before .before .args .s .now)) (c .enum-told .given .1))
@@ -31,16 +32,16 @@ part-read-rows-start : tie.Need-part-read-rows-start
 part-read-rows-start c = used-fit _ _ _ (c .before .before .before .name-line .ensures .1) (c .before .u .given .1)
 
 part-read-rows-end : tie.Need-part-read-rows-end
-part-read-rows-end c = search needs
+part-read-rows-end c = le-refl _
 
 read-rows-requires : tie.Need-read-rows-requires
-read-rows-requires c κs = search needs
+read-rows-requires c κs = tt
 
 enum-known-v : tie.Need-enum-known-v
-enum-known-v c = search needs
+enum-known-v c = c .match2 .keys1
 
 enum-told-2 : tie.Need-enum-told-2
-enum-told-2 c = search needs
+enum-told-2 c = c .match2 .keys2
 
 same-length : tie.Need-same-length
 same-length c = c .before .before .before .before .read-rows .kept .1 .1 .1 .0
