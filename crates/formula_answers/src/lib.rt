@@ -25,7 +25,7 @@ fn put_entry(
     ensures { λ e. ⌜ (take e (now (page .exit)) ≡ entryFormulae entry number p q r (now (gs .entry)) (now (ts .entry)) (now (rows .entry))) × (e ≤ 278528) ⌝ }
 {
     let mut listing = [0u64; 4096];
-    let said = spaces::formulae(number, p, q, r, gs, ts, rows, &mut listing);
+    let said = formulae::formulae(number, p, q, r, gs, ts, rows, &mut listing);
     let k = rows.len();
     match said {
         Listed::Refused(e) => pages::refused_page(e, page),

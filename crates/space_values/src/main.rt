@@ -59,7 +59,7 @@ fn list_formulae(
     rows: &[u64],
     out: &mut [u64],
 ) {
-    let said = spaces::formulae(number, p, q, r, gs, ts, rows, out);
+    let said = formulae::formulae(number, p, q, r, gs, ts, rows, out);
     print_listed(said);
     print_buffer(out);
 }

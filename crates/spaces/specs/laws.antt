@@ -1,4 +1,3 @@
 -- The laws of the definitions beside this folder.
 pub mod Entry
 pub mod Listing
-pub mod Replies

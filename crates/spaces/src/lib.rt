@@ -1,15 +1,9 @@
 // The formulae of a space, on numbers.
 use bases::Basis;
 use choice::Choice;
-use problems::Posed;
 use records::Tally;
-ghost use mathlib.Core.Path.{_≡_};
-ghost use Prim.Native.Nat.{_≤_};
-ghost use lib.ListN.{length};
-ghost use Rattle.spaces.specs.Spaces.{formulaeOf, seenFormulae, lentFormulae};
 ghost use Rattle.spaces.specs.laws.Entry.{Rows};
 ghost use Rattle.spaces.specs.laws.Listing.{Accepted, Told};
-ghost use Rattle.spaces.specs.laws.Replies.{Some, Given};
 
 // What is said of a space: a refusal's number; or how many formulae are listed, these being all, or more being left.
 pub enum Listed {
@@ -19,7 +13,7 @@ pub enum Listed {
 }
 
 // Whether the rows are the reduced basis of a solution space.
-fn is_entry(gens: &[u64], targets: &[u64], rows: &[u64]) -> bool
+pub fn is_entry(gens: &[u64], targets: &[u64], rows: &[u64]) -> bool
     ensures { λ r. ⌜ Rows (now (gens .entry)) (now (targets .entry)) (now (rows .entry)) r ⌝ }
 {
     let b = bases::basis_of(rows);
@@ -33,7 +27,7 @@ fn is_entry(gens: &[u64], targets: &[u64], rows: &[u64]) -> bool
 }
 
 // The formulae of a solution space. It stops after the first that does not fit.
-fn list_space(gens: &[u64], targets: &[u64], rows: &[u64], out: &mut [u64]) -> Listed
+pub fn list_space(gens: &[u64], targets: &[u64], rows: &[u64], out: &mut [u64]) -> Listed
     requires { ⌜ Accepted (now gens) (now targets) (now rows) ⌝ }
     ensures { λ r. ⌜ Told (now (gens .entry)) (now (targets .entry)) (now (rows .entry)) (now (out .entry)) r (now (out .exit)) ⌝ }
 {
@@ -65,41 +59,4 @@ fn list_space(gens: &[u64], targets: &[u64], rows: &[u64], out: &mut [u64]) -> L
         return Listed::All(u.shown);
     }
     Listed::More(u.shown)
-}
-
-// The formulae of a space of a problem whose generators and targets are made; refusals 8 and 10.
-fn list_problem(gens: &[u64], targets: &[u64], rows: &[u64], out: &mut [u64]) -> Listed
-    requires { ⌜ Some (now targets) ⌝ }
-    ensures { λ r. ⌜ Given (now (gens .entry)) (now (targets .entry)) (now (rows .entry)) (now (out .entry)) r (now (out .exit)) ⌝ }
-{
-    let ell = bases::basis_of(targets).len;
-    if rows.len() > ell + 6 {
-        return Listed::Refused(8);
-    }
-    if !is_entry(gens, targets, rows) {
-        return Listed::Refused(10);
-    }
-    list_space(gens, targets, rows, out)
-}
-
-// The formulae of the space with these rows, for the problem of the kind with that number and its sizes; `gs` and `ts` are the generators and targets of a list.
-// The records that fit go to `out`, from its start.
-pub fn formulae(
-    number: u64,
-    p: u64,
-    q: u64,
-    r: u64,
-    gs: &[u64],
-    ts: &[u64],
-    rows: &[u64],
-    out: &mut [u64],
-) -> Listed
-    ensures { λ x. ⌜ (formulaeOf number p q r (now (gs .entry)) (now (ts .entry)) (now (rows .entry)) (now (out .entry)) ≡ seenFormulae x (now (out .exit))) × (now (out .exit) ≡ lentFormulae (formulaeOf number p q r (now (gs .entry)) (now (ts .entry)) (now (rows .entry)) (now (out .entry))) (now (out .entry))) ⌝ }
-{
-    let mut g = [0u64; 4095];
-    let mut t = [0u64; 64];
-    match problems::pose(number, p, q, r, gs, ts, rows, &mut g, &mut t) {
-        Posed::Refused(e) => Listed::Refused(e),
-        Posed::Are(n, u) => list_problem(&g[..n], &t[..u], rows, out),
-    }
 }

@@ -9,7 +9,7 @@ use Rattle.formula_answers.proofs.put_entry.Reads as reads
 use Rattle.formula_answers.proofs.put_entry.Lts as lts
 use Rattle.pages.proofs.refused_page.Reads as refused-page-reads
 use Rattle.formula_lines.proofs.formulae_text.Reads as formulae-text-reads
-use Rattle.spaces.proofs.formulae.Reads as formulae-reads
+use Rattle.formulae.proofs.formulae.Reads as formulae-reads
 
 slice-aggregate-formulae : tie.Need-slice-aggregate-formulae
 slice-aggregate-formulae c = search needs

@@ -1,6 +1,6 @@
 -- `listing::tally` meets its contract: the walk from the space of b. Assumes nothing.
 use mathlib.Core.Path.{_≡_, sym}
-use Prim.Native.Nat.{ℕ}
+use Prim.Native.Nat.{ℕ, _≤_}
 use native.Mathlib.Omega.{arith}
 use lib.ListN.{length, replicate, length-replicate}
 use lib.Seq.{length-take-le}
@@ -18,17 +18,23 @@ rows-all = length-replicate {A = ℕ} 32768 0
 h-all : length (replicate {A = ℕ} 4096 0) ≡ 4096
 h-all = length-replicate {A = ℕ} 4096 0
 
+few : {n : ℕ} → n ≤ 4095 → n ≤ 4096
+few l = omega arith
+
+within : {n a : ℕ} → n ≤ 4095 → a ≡ 4096 → n ≤ a
+within l e = omega arith
+
 residues-requires : tie.Need-residues-requires
-residues-requires c κs = (c .before .before .before .pre .valid, omega (arith, c .before .before .before .pre .small), h-all)
+residues-requires c κs = (c .before .before .before .pre .valid, few (c .before .before .before .pre .small), h-all)
 
 sub-missing : tie.Need-sub-missing
-sub-missing c = omega (arith, c .before .before .before .before .before .pre .least)
+sub-missing c = c .before .before .before .before .before .pre .least
 
 array-share-prefix-h : tie.Need-array-share-prefix-h
-array-share-prefix-h c = omega (arith, c .before .before .before .before .before .pre .small, c .before .residues .ensures .whole)
+array-share-prefix-h c = within (c .before .before .before .before .before .pre .small) (c .before .residues .ensures .whole)
 
 slice-aggregate-walk : tie.Need-slice-aggregate-walk
-slice-aggregate-walk c = sym (length-take-le (length (c .before .before .before .before .before .before .args .gens .now)) (c .before .before .residues .last .1 .1 .0) (omega (arith, c .before .before .before .before .before .before .pre .small, c .before .before .residues .ensures .whole)))
+slice-aggregate-walk c = sym (length-take-le (length (c .before .before .before .before .before .before .args .gens .now)) (c .before .before .residues .last .1 .1 .0) (within (c .before .before .before .before .before .before .pre .small) (c .before .before .residues .ensures .whole)))
 
 slice-aggregate-walk-2 : tie.Need-slice-aggregate-walk-2
 slice-aggregate-walk-2 c = sym firsts-all

@@ -4,7 +4,9 @@ use native.Mathlib.Omega.{arith}
 use mathlib.Core.Path.{_≡_, refl, sym, ap, _∙_}
 use mathlib.Core.Logic.{_≢_}
 use mathlib.Core.Bool.{false}
-use Prim.Native.Nat.{ℕ, _+_, _-_, _<_, _≤_}
+use Prim.Native.Nat.{ℕ, _+_, _-_, _*_, _<_, _≤_}
+use mir.Syntax.{w64}
+use mir.Val.{Fits}
 use lib.ListN.{length, getD, replicate, length-replicate}
 use lib.Seq.{length-take-le}
 use borrow.Fn.Kinds.{In}
@@ -13,7 +15,8 @@ use Rattle.bases.specs.Basis.{rowsOf}
 use Rattle.children.specs.Residues.{known}
 use Rattle.children.specs.laws.Child.{residues-length}
 use Rattle.records.specs.Records.{run}
-use Rattle.records.specs.Keep.{chainOf, stateOf}
+use Rattle.records.specs.Keep.{chainOf, stateOf, Tidy}
+use Rattle.records.specs.declared.Chain.{Chain}
 use Rattle.walk.specs.Walk.{search}
 use Rattle.walk.specs.laws.Search.{leaf-yes, leaf-no}
 use Rattle.walk.proofs.Going.{Going, going-next, going-full, going-end, node-down, going-down}
@@ -68,6 +71,58 @@ walk-Inv-loop gens h start missing k b c limit firsts₀ stretches₀ out₀ n m
 abbrev walk-μ-loop : walk-lts.MeasureT-loop
 walk-μ-loop gens h start missing k b c limit firsts₀ stretches₀ out₀ n marks j₀ mine₀ u₀ firsts stretches out j mine u = length gens - j
 
+-- facts on numbers
+as-few : {a b n : ℕ} → a ≡ b → b ≤ n → a ≤ n
+as-few e l = omega arith
+
+as-many : {a b n : ℕ} → a ≡ b → n ≤ b → n ≤ a
+as-many e l = omega arith
+
+inside : {a b j : ℕ} → a ≡ b → j < b → j < a
+inside e l = omega arith
+
+ends : {a b : ℕ} → a ≡ b → b ≤ a
+ends e = omega arith
+
+le-refl : {a : ℕ} → a ≤ a
+le-refl = omega arith
+
+within : {n a : ℕ} → n ≤ 4096 → a ≡ 4096 → n ≤ a
+within l e = omega arith
+
+tidy-none : {c : Chain} {m : ℕ} → Tidy c m → Tidy c 0
+tidy-none T = record { whole = T .whole; room = omega (arith, T .room) }
+
+tidy-one : {c : Chain} {m : ℕ} → Tidy c m → m ≢ 0 → Tidy c 1
+tidy-one T n = record { whole = T .whole; room = omega (arith, T .room) }
+
+few-missing : {c : Chain} {m : ℕ} → Tidy c m → m ≤ 8
+few-missing T = omega (arith, T .room)
+
+some : {m : ℕ} → m ≢ 0 → 1 ≤ m
+some n = omega arith
+
+falls-one : {m t : ℕ} → m ≡ t → m ≢ 0 → m - 1 < t
+falls-one e n = omega arith
+
+one-fits : {j n : ℕ} → j < n → n ≤ 4096 → Fits w64 (j + 1)
+one-fits l k = record { fits = omega arith }
+
+eight-fits : {j n : ℕ} → j < n → n ≤ 4096 → Fits w64 (j * 8)
+eight-fits l k = record { fits = omega arith }
+
+next-le : {j n : ℕ} → j < n → j + 1 ≤ n
+next-le l = omega arith
+
+later : {a j : ℕ} → a ≤ j → a ≤ j + 1
+later l = omega arith
+
+after : {a j r : ℕ} → a ≤ j → j + 1 ≤ r → a ≤ r
+after l k = omega arith
+
+fewer : {j r n : ℕ} → j < n → j + 1 ≤ r → r ≤ n → n - r < n - j
+fewer a b c = omega arith
+
 mine-all : length (replicate {A = ℕ} 4096 0) ≡ 4096
 mine-all = length-replicate {A = ℕ} 4096 0
 
@@ -83,7 +138,7 @@ walk-spanned-requires t c κs =
 walk-keep-requires : (t : ℕ) → walk-lts.Need-keep-requires (claims t) (walk-at t) walk.Post walk-Inv-loop walk-μ-loop
 walk-keep-requires t c κs =
     let N = c .before .before .before .before .before .before .before .before .before .pre .1 .0 in
-    record { valid = N .valid; tidy = record { whole = N .tidy .whole; room = omega (arith, N .tidy .room) }; sane = N .sane }
+    record { valid = N .valid; tidy = tidy-none (N .tidy); sane = N .sane }
 
 walk-same-length : (t : ℕ) → walk-lts.Need-same-length (claims t) (walk-at t) walk.Post walk-Inv-loop walk-μ-loop
 walk-same-length t c = c .before .before .keep .kept .1 .1 .1 .1 .0
@@ -118,10 +173,10 @@ walk-sieve-requires t c κs =
     let eh : length h ≡ length m = ap length (N .left) ∙ residues-length m (rowsOf (a .b)) in
     record {
       alike = sym eh;
-      few = omega (arith, eh, N .small);
-      begin = omega (arith, eh, N .begin);
+      few = as-few eh (N .small);
+      begin = as-many eh (N .begin);
       some = c .before .before .before .if1 .left;
-      most = omega (arith, N .tidy .room);
+      most = few-missing (N .tidy);
       firsts-all = c .before .before .before .before .before .before .before .before .before .pre .1 .1;
       rows-all = c .before .before .before .before .before .before .before .before .before .pre .1 .2;
       marks-all = refl;
@@ -131,7 +186,7 @@ walk-slice-aggregate-next-marked : (t : ℕ) → walk-lts.Need-slice-aggregate-n
 walk-slice-aggregate-next-marked t c = sym (c .before .before .before .before .before .before .sieve .ensures .whole)
 
 walk-next-marked-requires : (t : ℕ) → walk-lts.Need-next-marked-requires (claims t) (walk-at t) walk.Post walk-Inv-loop walk-μ-loop
-walk-next-marked-requires t c κs = let N = c .before .before .before .before .before .before .before .before .before .before .before .before .before .before .before .before .pre .1 .0 in (N .begin, omega (arith, N .small, c .before .before .before .before .before .before .sieve .ensures .whole))
+walk-next-marked-requires t c κs = let N = c .before .before .before .before .before .before .before .before .before .before .before .before .before .before .before .before .pre .1 .0 in (N .begin, within (N .small) (c .before .before .before .before .before .before .sieve .ensures .whole))
 
 walk-same-length-2 : (t : ℕ) → walk-lts.Need-same-length-2 (claims t) (walk-at t) walk.Post walk-Inv-loop walk-μ-loop
 walk-same-length-2 t c = c .before .before .before .before .before .before .before .before .sieve .kept .1 .1 .1 .1 .1 .0
@@ -145,8 +200,8 @@ walk-returns-3 t c =
     let N = c .before .before .before .before .before .before .before .before .before .before .before .before .before .before .before .before .before .before .pre .1 .0 in
     let m = a .gens .now in
     let h = a .h .now in
-    let I = going-next m (a .k) (a .b) (a .c) (a .missing) (a .limit) (run (a .limit) (stateOf (a .t) (a .out .now)) (search m (a .k) (rowsOf (a .b)) (chainOf (a .c)) (length m - a .start) (a .start) (a .missing))) (length (a .out .now)) h (N .left) (N .valid) (N .tidy) (c .before .before .before .before .before .before .before .before .before .before .before .before .if1 .left) (a .t) (a .out .now) (replicate 4096 0) (a .start) (c .before .before .before .before .before .before .before .before .sieve .last .1 .1 .1 .1 .1 .1 .1 .0) (c .before .before .before .before .before .before .before .before .sieve .ensures) (a .start) (c .before .next-marked .result) (omega arith) (c .before .next-marked .ensures) (record { within = N .begin; rest = refl; sane = N .sane; same = refl; whole = mine-all }) in
-    going-end m (a .k) (a .b) (a .c) (a .missing) (a .limit) (run (a .limit) (stateOf (a .t) (a .out .now)) (search m (a .k) (rowsOf (a .b)) (chainOf (a .c)) (length m - a .start) (a .start) (a .missing))) (length (a .out .now)) h (N .left) (N .valid) (N .tidy) (c .before .before .before .before .before .before .before .before .before .before .before .before .if1 .left) (c .before .next-marked .result) (a .t) (a .out .now) (replicate 4096 0) I (omega (arith, c .if3 .taken))
+    let I = going-next m (a .k) (a .b) (a .c) (a .missing) (a .limit) (run (a .limit) (stateOf (a .t) (a .out .now)) (search m (a .k) (rowsOf (a .b)) (chainOf (a .c)) (length m - a .start) (a .start) (a .missing))) (length (a .out .now)) h (N .left) (N .valid) (N .tidy) (c .before .before .before .before .before .before .before .before .before .before .before .before .if1 .left) (a .t) (a .out .now) (replicate 4096 0) (a .start) (c .before .before .before .before .before .before .before .before .sieve .last .1 .1 .1 .1 .1 .1 .1 .0) (c .before .before .before .before .before .before .before .before .sieve .ensures) (a .start) (c .before .next-marked .result) le-refl (c .before .next-marked .ensures) (record { within = N .begin; rest = refl; sane = N .sane; same = refl; whole = mine-all }) in
+    going-end m (a .k) (a .b) (a .c) (a .missing) (a .limit) (run (a .limit) (stateOf (a .t) (a .out .now)) (search m (a .k) (rowsOf (a .b)) (chainOf (a .c)) (length m - a .start) (a .start) (a .missing))) (length (a .out .now)) h (N .left) (N .valid) (N .tidy) (c .before .before .before .before .before .before .before .before .before .before .before .before .if1 .left) (c .before .next-marked .result) (a .t) (a .out .now) (replicate 4096 0) I (ends (c .if3 .taken))
 
 walk-loop-holds : (t : ℕ) → walk-lts.Need-loop-holds (claims t) (walk-at t) walk.Post walk-Inv-loop walk-μ-loop
 walk-loop-holds t c =
@@ -156,7 +211,7 @@ walk-loop-holds t c =
     let m = a .gens .now in
     let h = a .h .now in (
       c .before .next-marked .ensures .low,
-      going-next m (a .k) (a .b) (a .c) (a .missing) (a .limit) (run (a .limit) (stateOf (a .t) (a .out .now)) (search m (a .k) (rowsOf (a .b)) (chainOf (a .c)) (length m - a .start) (a .start) (a .missing))) (length (a .out .now)) h (N .left) (N .valid) (N .tidy) (c .before .before .before .before .before .before .before .before .before .before .before .before .if1 .left) (a .t) (a .out .now) (replicate 4096 0) (a .start) (S .last .1 .1 .1 .1 .1 .1 .1 .0) (S .ensures) (a .start) (c .before .next-marked .result) (omega arith) (c .before .next-marked .ensures) (record { within = N .begin; rest = refl; sane = N .sane; same = refl; whole = mine-all }),
+      going-next m (a .k) (a .b) (a .c) (a .missing) (a .limit) (run (a .limit) (stateOf (a .t) (a .out .now)) (search m (a .k) (rowsOf (a .b)) (chainOf (a .c)) (length m - a .start) (a .start) (a .missing))) (length (a .out .now)) h (N .left) (N .valid) (N .tidy) (c .before .before .before .before .before .before .before .before .before .before .before .before .if1 .left) (a .t) (a .out .now) (replicate 4096 0) (a .start) (S .last .1 .1 .1 .1 .1 .1 .1 .0) (S .ensures) (a .start) (c .before .next-marked .result) le-refl (c .before .next-marked .ensures) (record { within = N .begin; rest = refl; sane = N .sane; same = refl; whole = mine-all }),
       S .kept .1 .1 .1 .1 .1 .0 ∙ c .before .before .before .before .before .before .before .before .before .before .before .before .before .before .before .before .before .before .pre .1 .1,
       S .kept .1 .1 .1 .1 .1 .1 .0 ∙ c .before .before .before .before .before .before .before .before .before .before .before .before .before .before .before .before .before .before .pre .1 .2,
       c .before .next-marked .ensures .marked,
@@ -182,7 +237,7 @@ walk-returns-4 t c =
     going-full m (a .k) (a .b) (a .c) (a .missing) (a .limit) _ _ h (N .left) (N .valid) (N .tidy) ne (l .j) (l .u) (l .out) (l .mine) (l .inv .1) (c .if4 .taken)
 
 walk-mul-x : (t : ℕ) → walk-lts.Need-mul-x (claims t) (walk-at t) walk.Post walk-Inv-loop walk-μ-loop
-walk-mul-x t c = omega arith
+walk-mul-x t c = eight-fits (c .before .before .loop-test .taken) (c .before .before .before .before .before .before .before .before .before .before .before .before .before .before .before .before .before .before .before .before .before .before .pre .1 .0 .small)
 
 walk-shared-slice-read-x : (t : ℕ) → walk-lts.Need-shared-slice-read-x (claims t) (walk-at t) walk.Post walk-Inv-loop walk-μ-loop
 walk-shared-slice-read-x t c =
@@ -191,26 +246,26 @@ walk-shared-slice-read-x t c =
     let m = a .gens .now in
     let h = a .h .now in
     let eh : length h ≡ length m = ap length (N .left) ∙ residues-length m (rowsOf (a .b)) in
-    omega (arith, eh, c .before .before .before .loop-test .taken)
+    inside eh (c .before .before .before .loop-test .taken)
 
 walk-child-requires : (t : ℕ) → walk-lts.Need-child-requires (claims t) (walk-at t) walk.Post walk-Inv-loop walk-μ-loop
 walk-child-requires t c κs =
     let a = c .before .before .before .before .before .before .before .before .before .before .before .before .before .before .before .before .before .before .before .before .before .before .before .before .args in
     let N = c .before .before .before .before .before .before .before .before .before .before .before .before .before .before .before .before .before .before .before .before .before .before .before .before .pre .1 .0 in
     let eh : length (a .h .now) ≡ length (a .gens .now) = ap length (N .left) ∙ residues-length (a .gens .now) (rowsOf (a .b)) in
-    (omega (arith, eh, N .small), c .before .before .before .before .before .loop .inv .1 .whole)
+    (as-few eh (N .small), c .before .before .before .before .before .loop .inv .1 .whole)
 
 walk-array-share-prefix-mine : (t : ℕ) → walk-lts.Need-array-share-prefix-mine (claims t) (walk-at t) walk.Post walk-Inv-loop walk-μ-loop
-walk-array-share-prefix-mine t c = omega (arith, c .before .before .before .before .before .before .before .before .before .before .before .before .before .before .before .before .before .before .before .before .before .before .before .before .before .pre .1 .0 .small, c .child .ensures .whole)
+walk-array-share-prefix-mine t c = within (c .before .before .before .before .before .before .before .before .before .before .before .before .before .before .before .before .before .before .before .before .before .before .before .before .before .pre .1 .0 .small) (c .child .ensures .whole)
 
 walk-slice-aggregate-walk : (t : ℕ) → walk-lts.Need-slice-aggregate-walk (claims t) (walk-at t) walk.Post walk-Inv-loop walk-μ-loop
-walk-slice-aggregate-walk t c = sym (length-take-le (length (c .before .before .before .before .before .before .before .before .before .before .before .before .before .before .before .before .before .before .before .before .before .before .before .before .before .before .args .gens .now)) (c .before .child .last .1 .1 .0) (omega (arith, c .before .before .before .before .before .before .before .before .before .before .before .before .before .before .before .before .before .before .before .before .before .before .before .before .before .before .pre .1 .0 .small, c .before .child .ensures .whole)))
+walk-slice-aggregate-walk t c = sym (length-take-le (length (c .before .before .before .before .before .before .before .before .before .before .before .before .before .before .before .before .before .before .before .before .before .before .before .before .before .before .args .gens .now)) (c .before .child .last .1 .1 .0) (within (c .before .before .before .before .before .before .before .before .before .before .before .before .before .before .before .before .before .before .before .before .before .before .before .before .before .before .pre .1 .0 .small) (c .before .child .ensures .whole)))
 
 walk-add-walk : (t : ℕ) → walk-lts.Need-add-walk (claims t) (walk-at t) walk.Post walk-Inv-loop walk-μ-loop
-walk-add-walk t c = omega (arith, c .before .before .before .before .before .before .loop-test .taken, c .before .before .before .before .before .before .before .before .before .before .before .before .before .before .before .before .before .before .before .before .before .before .before .before .before .before .pre .1 .0 .small)
+walk-add-walk t c = one-fits (c .before .before .before .before .before .before .loop-test .taken) (c .before .before .before .before .before .before .before .before .before .before .before .before .before .before .before .before .before .before .before .before .before .before .before .before .before .before .pre .1 .0 .small)
 
 walk-sub-walk : (t : ℕ) → walk-lts.Need-sub-walk (claims t) (walk-at t) walk.Post walk-Inv-loop walk-μ-loop
-walk-sub-walk t c = omega (arith, c .before .before .before .before .before .before .before .before .before .before .before .before .before .before .before .before .before .before .before .before .if1 .left)
+walk-sub-walk t c = some (c .before .before .before .before .before .before .before .before .before .before .before .before .before .before .before .before .before .before .before .before .if1 .left)
 
 walk-insert-requires : (t : ℕ) → walk-lts.Need-insert-requires (claims t) (walk-at t) walk.Post walk-Inv-loop walk-μ-loop
 walk-insert-requires t c κs = c .before .before .before .before .before .before .before .before .before .before .before .before .before .before .before .before .before .before .before .before .before .before .before .before .before .before .pre .1 .0 .valid
@@ -219,7 +274,7 @@ walk-push-requires : (t : ℕ) → walk-lts.Need-push-requires (claims t) (walk-
 walk-push-requires t c κs =
     let N = c .before .before .before .before .before .before .before .before .before .before .before .before .before .before .before .before .before .before .before .before .before .before .before .before .before .before .before .pre .1 .0 in
     let ne = c .before .before .before .before .before .before .before .before .before .before .before .before .before .before .before .before .before .before .before .before .before .if1 .left in
-    record { whole = N .tidy .whole; room = omega (arith, N .tidy .room, ne) }
+    tidy-one (N .tidy) ne
 
 walk-walk-requires : (t : ℕ) → walk-lts.Need-walk-requires (claims t) (walk-at t) walk.Post walk-Inv-loop walk-μ-loop
 walk-walk-requires t c κs =
@@ -232,7 +287,7 @@ walk-walk-requires t c κs =
     let g : l .j < length m = c .before .before .before .before .before .before .before .before .before .before .before .loop-test .taken in
     let e : false ≡ known h (l .j) = c .before .before .before .before .before .before .before .before .before .before .before .before .before .before .before .before .before .before .before .before .before .sieve .ensures .judged (l .j) (l .inv .0) g .on (l .inv .4 g) in
     let d : a .missing ≡ t = c .before .before .before .before .before .before .before .before .before .before .before .before .before .before .before .before .before .before .before .before .before .before .before .before .before .before .before .before .before .before .before .pre .0 in (
-      omega (arith, d, ne),
+      falls-one d ne,
       (node-down m (a .k) (a .b) (a .c) (a .missing) (a .limit) _ _ h (N .left) (N .valid) (N .tidy) ne (l .j) (l .u) (l .out) (l .mine) (l .inv .1) g e (N .small) (c .before .before .before .before .insert .result) (c .before .before .before .before .insert .ensures) (c .before .before .before .push .result) (c .before .before .before .push .ensures) (c .before .before .before .before .before .before .child .last .1 .1 .0) (c .before .before .before .before .before .before .child .ensures), l .inv .2, l .inv .3),
     )
 
@@ -240,13 +295,13 @@ walk-slice-aggregate-next-marked-2 : (t : ℕ) → walk-lts.Need-slice-aggregate
 walk-slice-aggregate-next-marked-2 t c = sym (c .before .before .before .before .before .before .before .before .before .before .before .before .before .before .before .before .before .before .before .before .before .before .before .before .before .before .before .before .before .sieve .ensures .whole)
 
 walk-add-next-marked : (t : ℕ) → walk-lts.Need-add-next-marked (claims t) (walk-at t) walk.Post walk-Inv-loop walk-μ-loop
-walk-add-next-marked t c = omega (arith, c .before .before .before .before .before .before .before .before .before .before .before .before .before .before .before .before .before .before .before .loop-test .taken, c .before .before .before .before .before .before .before .before .before .before .before .before .before .before .before .before .before .before .before .before .before .before .before .before .before .before .before .before .before .before .before .before .before .before .before .before .before .before .before .pre .1 .0 .small)
+walk-add-next-marked t c = one-fits (c .before .before .before .before .before .before .before .before .before .before .before .before .before .before .before .before .before .before .before .loop-test .taken) (c .before .before .before .before .before .before .before .before .before .before .before .before .before .before .before .before .before .before .before .before .before .before .before .before .before .before .before .before .before .before .before .before .before .before .before .before .before .before .before .pre .1 .0 .small)
 
 walk-next-marked-requires-2 : (t : ℕ) → walk-lts.Need-next-marked-requires-2 (claims t) (walk-at t) walk.Post walk-Inv-loop walk-μ-loop
-walk-next-marked-requires-2 t c κs = let N = c .before .before .before .before .before .before .before .before .before .before .before .before .before .before .before .before .before .before .before .before .before .before .before .before .before .before .before .before .before .before .before .before .before .before .before .before .before .before .before .pre .1 .0 in (omega (arith, c .before .before .before .before .before .before .before .before .before .before .before .before .before .before .before .before .before .before .before .loop-test .taken), omega (arith, N .small, c .before .before .before .before .before .before .before .before .before .before .before .before .before .before .before .before .before .before .before .before .before .before .before .before .before .before .before .before .before .sieve .ensures .whole))
+walk-next-marked-requires-2 t c κs = let N = c .before .before .before .before .before .before .before .before .before .before .before .before .before .before .before .before .before .before .before .before .before .before .before .before .before .before .before .before .before .before .before .before .before .before .before .before .before .before .before .pre .1 .0 in (next-le (c .before .before .before .before .before .before .before .before .before .before .before .before .before .before .before .before .before .before .before .loop-test .taken), within (N .small) (c .before .before .before .before .before .before .before .before .before .before .before .before .before .before .before .before .before .before .before .before .before .before .before .before .before .before .before .before .before .sieve .ensures .whole))
 
 walk-loop-less : (t : ℕ) → walk-lts.Need-loop-less (claims t) (walk-at t) walk.Post walk-Inv-loop walk-μ-loop
-walk-loop-less t c = omega (arith, c .before .before .before .before .before .before .before .before .before .before .before .before .before .before .before .before .before .before .before .before .loop-test .taken, c .next-marked2 .ensures .low, c .next-marked2 .ensures .high)
+walk-loop-less t c = fewer (c .before .before .before .before .before .before .before .before .before .before .before .before .before .before .before .before .before .before .before .before .loop-test .taken) (c .next-marked2 .ensures .low) (c .next-marked2 .ensures .high)
 
 walk-loop-again : (t : ℕ) → walk-lts.Need-loop-again (claims t) (walk-at t) walk.Post walk-Inv-loop walk-μ-loop
 walk-loop-again t c =
@@ -263,8 +318,8 @@ walk-loop-again t c =
     let e : false ≡ known h (l .j) = S .ensures .judged (l .j) (l .inv .0) g .on (l .inv .4 g) in
     let I = going-down m (a .k) (a .b) (a .c) (a .missing) (a .limit) (run (a .limit) (stateOf (a .t) (a .out .now)) (search m (a .k) (rowsOf (a .b)) (chainOf (a .c)) (length m - a .start) (a .start) (a .missing))) (length (a .out .now)) h (N .left) (N .valid) (N .tidy) ne (l .j) (l .u) (l .out) (l .mine) (l .inv .1) g e (c .before .before .before .before .before .before .before .before .before .before .before .before .before .insert .result) (c .before .before .before .before .before .before .before .before .before .before .before .before .before .insert .ensures) (c .before .before .before .before .before .before .before .before .before .before .before .before .push .result) (c .before .before .before .before .before .before .before .before .before .before .before .before .push .ensures) (W .result) (W .last .1 .1 .1 .1 .1 .1 .1 .1 .1 .1 .1 .0) (K .last .1 .1 .0)
     (K .ensures .whole) (W .ensures) in (
-      omega (arith, l .inv .0, c .next-marked2 .ensures .low),
-      going-next m (a .k) (a .b) (a .c) (a .missing) (a .limit) (run (a .limit) (stateOf (a .t) (a .out .now)) (search m (a .k) (rowsOf (a .b)) (chainOf (a .c)) (length m - a .start) (a .start) (a .missing))) (length (a .out .now)) h (N .left) (N .valid) (N .tidy) ne (W .result) (W .last .1 .1 .1 .1 .1 .1 .1 .1 .1 .1 .1 .0) (K .last .1 .1 .0) (a .start) (S .last .1 .1 .1 .1 .1 .1 .1 .0) (S .ensures) (l .j + 1) (c .next-marked2 .result) (omega (arith, l .inv .0)) (c .next-marked2 .ensures) I,
+      after (l .inv .0) (c .next-marked2 .ensures .low),
+      going-next m (a .k) (a .b) (a .c) (a .missing) (a .limit) (run (a .limit) (stateOf (a .t) (a .out .now)) (search m (a .k) (rowsOf (a .b)) (chainOf (a .c)) (length m - a .start) (a .start) (a .missing))) (length (a .out .now)) h (N .left) (N .valid) (N .tidy) ne (W .result) (W .last .1 .1 .1 .1 .1 .1 .1 .1 .1 .1 .1 .0) (K .last .1 .1 .0) (a .start) (S .last .1 .1 .1 .1 .1 .1 .1 .0) (S .ensures) (l .j + 1) (c .next-marked2 .result) (later (l .inv .0)) (c .next-marked2 .ensures) I,
       W .kept .1 .1 .1 .1 .1 .1 .1 .1 .1 .0 ∙ l .inv .2,
       W .kept .1 .1 .1 .1 .1 .1 .1 .1 .1 .1 .0 ∙ l .inv .3,
       c .next-marked2 .ensures .marked,

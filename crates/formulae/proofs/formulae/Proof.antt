@@ -1,16 +1,16 @@
--- `spaces::formulae` meets its contract. Assumes nothing.
+-- `formulae::formulae` meets its contract. Assumes nothing.
 use native.Mathlib.Omega.{arith}
 use mathlib.Core.Path.{sym}
 use lib.Seq.{length-take-le}
 use Rattle.spaces.specs.Spaces.{formulaeOf}
-use Rattle.spaces.specs.laws.Replies.{made-room, made-some, formulae-refused, formulae-made, replied-refused, replied-given}
+use Rattle.formulae.specs.Replies.{made-room, made-some, formulae-refused, formulae-made, replied-refused, replied-given}
 use borrow.Author.Needs.{needs}
-use Rattle.spaces.proofs.formulae.Statement.{statement}
-use Rattle.spaces.proofs.formulae.Tie as tie
-use Rattle.spaces.proofs.formulae.Reads as reads
-use Rattle.spaces.proofs.formulae.Lts as lts
+use Rattle.formulae.proofs.formulae.Statement.{statement}
+use Rattle.formulae.proofs.formulae.Tie as tie
+use Rattle.formulae.proofs.formulae.Reads as reads
+use Rattle.formulae.proofs.formulae.Lts as lts
 use Rattle.problems.proofs.pose.Reads as pose-reads
-use Rattle.spaces.proofs.list_problem.Reads as list-problem-reads
+use Rattle.formulae.proofs.list_problem.Reads as list-problem-reads
 
 slice-aggregate-pose : tie.Need-slice-aggregate-pose
 slice-aggregate-pose c = search needs

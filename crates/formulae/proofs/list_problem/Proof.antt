@@ -1,15 +1,15 @@
--- `spaces::list_problem` meets its contract. Assumes nothing.
+-- `formulae::list_problem` meets its contract. Assumes nothing.
 use native.Mathlib.Omega.{arith}
 use Rattle.bases.specs.Basis.{based-dim}
-use Rattle.spaces.specs.laws.Replies.{given-far, given-no, is-accepted, given-yes}
+use Rattle.formulae.specs.Replies.{given-far, given-no, is-accepted, given-yes}
 use borrow.Author.Needs.{needs}
-use Rattle.spaces.proofs.list_problem.Statement.{statement}
-use Rattle.spaces.proofs.list_problem.Tie as tie
-use Rattle.spaces.proofs.list_problem.Reads as reads
-use Rattle.spaces.proofs.list_problem.Lts as lts
+use Rattle.formulae.proofs.list_problem.Statement.{statement}
+use Rattle.formulae.proofs.list_problem.Tie as tie
+use Rattle.formulae.proofs.list_problem.Reads as reads
+use Rattle.formulae.proofs.list_problem.Lts as lts
 use Rattle.bases.proofs.basis_of.Reads as basis-of-reads
 use Rattle.spaces.proofs.is_entry.Reads as is-entry-reads
 use Rattle.spaces.proofs.list_space.Reads as list-space-reads
 
 basis-of-requires : tie.Need-basis-of-requires
 basis-of-requires c κs = search needs

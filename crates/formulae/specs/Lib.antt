@@ -1,0 +1,2 @@
+-- The formulae of a space of a problem.
+pub mod Replies
