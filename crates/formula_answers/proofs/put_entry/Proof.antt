@@ -1,8 +1,10 @@
 -- `formula_answers::put_entry` meets its contract. Assumes nothing.
 use mathlib.Core.Bool.{true, false}
+use mathlib.Core.Path.{_≡_, sym, _∙_}
+use Prim.Native.Nat.{ℕ, _≤_}
 use native.Mathlib.Omega.{arith}
+use lib.ListN.{length-replicate}
 use Rattle.formula_answers.specs.laws.Formulae.{said-refused, said-all, said-more, said-records, said-lines}
-use borrow.Author.Needs.{needs}
 use Rattle.formula_answers.proofs.put_entry.Statement.{statement}
 use Rattle.formula_answers.proofs.put_entry.Tie as tie
 use Rattle.formula_answers.proofs.put_entry.Reads as reads
@@ -11,32 +13,36 @@ use Rattle.pages.proofs.refused_page.Reads as refused-page-reads
 use Rattle.formula_lines.proofs.formulae_text.Reads as formulae-text-reads
 use Rattle.formulae.proofs.formulae.Reads as formulae-reads
 
+-- a page takes the line of a refusal
+roomy : {n : ℕ} → n ≡ 278528 → 32 ≤ n
+roomy h = omega arith
+
 slice-aggregate-formulae : tie.Need-slice-aggregate-formulae
-slice-aggregate-formulae c = search needs
+slice-aggregate-formulae c = sym (length-replicate {A = ℕ} 4096 0)
 
 formulae-requires : tie.Need-formulae-requires
-formulae-requires c κs = search needs
+formulae-requires c κs = tt
 
 enum-known-said : tie.Need-enum-known-said
-enum-known-said c = search needs
+enum-known-said c = c .match .keys1
 
 refused-page-requires : tie.Need-refused-page-requires
-refused-page-requires c κs = let l = c .before .before .before .before .before .before .before .before .before .before .before .pre .0 in omega arith
+refused-page-requires c κs = roomy (c .before .before .before .before .before .before .before .before .before .before .before .pre .0)
 
 enum-known-said-2 : tie.Need-enum-known-said-2
-enum-known-said-2 c = search needs
+enum-known-said-2 c = c .match .keys2
 
 slice-aggregate-formulae-text : tie.Need-slice-aggregate-formulae-text
-slice-aggregate-formulae-text c = search needs
+slice-aggregate-formulae-text c = sym (c .before .before .before .before .before .formulae .kept .1 .1 .1 .1 .1 .1 .1 .0 ∙ length-replicate {A = ℕ} 4096 0)
 
 formulae-text-requires : tie.Need-formulae-text-requires
 formulae-text-requires c κs = said-records (c .before .before .before .before .before .before .before .before .before .before .before .before .args .entry) (c .before .before .before .before .before .before .before .before .before .before .before .before .args .number) (c .before .before .before .before .before .before .before .before .before .before .before .before .args .p) (c .before .before .before .before .before .before .before .before .before .before .before .before .args .q) (c .before .before .before .before .before .before .before .before .before .before .before .before .args .r) (c .before .before .before .before .before .before .before .before .before .before .before .before .args .gs .now) (c .before .before .before .before .before .before .before .before .before .before .before .before .args .ts .now) (c .before .before .before .before .before .before .before .before .before .before .before .before .args .rows .now) (c .before .before .before .before .before .before .before .before .before .before .before .before .args .t) (c .before .before .before .before .before .before .formulae .result) _ (record { counts = c .before .before .before .before .before .before .before .before .before .before .before .before .pre .1; answer = c .before .before .before .before .before .before .formulae .ensures .0; size = c .before .before .before .before .before .before .formulae .kept .1 .1 .1 .1 .1 .1 .1 .0 }) (c .before .before .before .said2 .given .0 .0) true (said-all (c .before .before .before .before .before .before .before .before .before .before .before .before .args .entry) (c .before .before .before .before .before .before .before .before .before .before .before .before .args .number) (c .before .before .before .before .before .before .before .before .before .before .before .before .args .p) (c .before .before .before .before .before .before .before .before .before .before .before .before .args .q) (c .before .before .before .before .before .before .before .before .before .before .before .before .args .r) (c .before .before .before .before .before .before .before .before .before .before .before .before .args .gs .now) (c .before .before .before .before .before .before .before .before .before .before .before .before .args .ts .now) (c .before .before .before .before .before .before .before .before .before .before .before .before .args .rows .now) (c .before .before .before .before .before .before .before .before .before .before .before .before .args .t) (c .before .before .before .before .before .before .formulae .result) _ (record { counts = c .before .before .before .before .before .before .before .before .before .before .before .before .pre .1; answer = c .before .before .before .before .before .before .formulae .ensures .0; size = c .before .before .before .before .before .before .formulae .kept .1 .1 .1 .1 .1 .1 .1 .0 }) (c .before .before .before .said2 .given .0 .0) (c .before .before .before .said2 .given .1))
 
 enum-known-said-3 : tie.Need-enum-known-said-3
-enum-known-said-3 c = search needs
+enum-known-said-3 c = c .match .keys3
 
 slice-aggregate-formulae-text-2 : tie.Need-slice-aggregate-formulae-text-2
-slice-aggregate-formulae-text-2 c = search needs
+slice-aggregate-formulae-text-2 c = sym (c .before .before .before .before .before .formulae .kept .1 .1 .1 .1 .1 .1 .1 .0 ∙ length-replicate {A = ℕ} 4096 0)
 
 formulae-text-requires-2 : tie.Need-formulae-text-requires-2
 formulae-text-requires-2 c κs = said-records (c .before .before .before .before .before .before .before .before .before .before .before .before .args .entry) (c .before .before .before .before .before .before .before .before .before .before .before .before .args .number) (c .before .before .before .before .before .before .before .before .before .before .before .before .args .p) (c .before .before .before .before .before .before .before .before .before .before .before .before .args .q) (c .before .before .before .before .before .before .before .before .before .before .before .before .args .r) (c .before .before .before .before .before .before .before .before .before .before .before .before .args .gs .now) (c .before .before .before .before .before .before .before .before .before .before .before .before .args .ts .now) (c .before .before .before .before .before .before .before .before .before .before .before .before .args .rows .now) (c .before .before .before .before .before .before .before .before .before .before .before .before .args .t) (c .before .before .before .before .before .before .formulae .result) _ (record { counts = c .before .before .before .before .before .before .before .before .before .before .before .before .pre .1; answer = c .before .before .before .before .before .before .formulae .ensures .0; size = c .before .before .before .before .before .before .formulae .kept .1 .1 .1 .1 .1 .1 .1 .0 }) (c .before .before .before .said3 .given .0 .0) false (said-more (c .before .before .before .before .before .before .before .before .before .before .before .before .args .entry) (c .before .before .before .before .before .before .before .before .before .before .before .before .args .number) (c .before .before .before .before .before .before .before .before .before .before .before .before .args .p) (c .before .before .before .before .before .before .before .before .before .before .before .before .args .q) (c .before .before .before .before .before .before .before .before .before .before .before .before .args .r) (c .before .before .before .before .before .before .before .before .before .before .before .before .args .gs .now) (c .before .before .before .before .before .before .before .before .before .before .before .before .args .ts .now) (c .before .before .before .before .before .before .before .before .before .before .before .before .args .rows .now) (c .before .before .before .before .before .before .before .before .before .before .before .before .args .t) (c .before .before .before .before .before .before .formulae .result) _ (record { counts = c .before .before .before .before .before .before .before .before .before .before .before .before .pre .1; answer = c .before .before .before .before .before .before .formulae .ensures .0; size = c .before .before .before .before .before .before .formulae .kept .1 .1 .1 .1 .1 .1 .1 .0 }) (c .before .before .before .said3 .given .0 .0) (c .before .before .before .said3 .given .1))

@@ -3,7 +3,6 @@ use mathlib.Core.Path.{refl}
 use native.Mathlib.Omega.{arith}
 use lib.Seq.{take-length}
 use Rattle.formulae_start.specs.laws.Start.{starts-refused, starts-listed}
-use borrow.Author.Needs.{needs}
 use Rattle.formulae_start.proofs.plan_problem.Statement.{statement}
 use Rattle.formulae_start.proofs.plan_problem.Tie as tie
 use Rattle.formulae_start.proofs.plan_problem.Reads as reads
@@ -15,40 +14,40 @@ use Rattle.kinds.proofs.number_of.Reads as number-of-reads
 use Rattle.search.proofs.catalogue.Reads as catalogue-reads
 
 number-of-requires : tie.Need-number-of-requires
-number-of-requires c κs = search needs
+number-of-requires c κs = tt
 
 catalogue-requires : tie.Need-catalogue-requires
-catalogue-requires c κs = search needs
+catalogue-requires c κs = tt
 
 enum-known-e : tie.Need-enum-known-e
-enum-known-e c = search needs
+enum-known-e c = c .match .keys1
 
 plan-refused-requires : tie.Need-plan-refused-requires
-plan-refused-requires c κs = search needs
+plan-refused-requires c κs = c .before .before .before .before .before .before .before .before .before .before .before .before .before .pre .1
 
 enum-known-ell : tie.Need-enum-known-ell
-enum-known-ell c = search needs
+enum-known-ell c = c .match .keys2
 
 put-head-requires : tie.Need-put-head-requires
-put-head-requires c κs = search needs
+put-head-requires c κs = c .before .before .before .before .before .before .before .before .before .before .before .before .before .pre .1
 
 extension-length-requires : tie.Need-extension-length-requires
-extension-length-requires c κs = search needs
+extension-length-requires c κs = tt
 
 same-length : tie.Need-same-length
-same-length c = search needs
+same-length c = c .before .before .before .before .before .before .before .before .before .catalogue .kept .1 .1 .1 .1 .1 .1 .1 .0
 
 same-length-2 : tie.Need-same-length-2
-same-length-2 c = search needs
+same-length-2 c = c .before .before .plan-refused .kept .1 .0
 
 returns : tie.Need-returns
 returns c = starts-refused (c .before .before .before .before .before .before .before .before .before .before .before .before .before .before .before .before .args .kind) (c .before .before .before .before .before .before .before .before .before .before .before .before .before .before .before .before .args .p) (c .before .before .before .before .before .before .before .before .before .before .before .before .before .before .before .before .args .q) (c .before .before .before .before .before .before .before .before .before .before .before .before .before .before .before .before .args .r) (c .before .before .before .before .before .before .before .before .before .before .before .before .before .before .before .before .args .k) (c .before .before .before .before .before .before .before .before .before .before .before .before .before .before .before .before .args .gs .now) (c .before .before .before .before .before .before .before .before .before .before .before .before .before .before .before .before .args .ts .now) _ (c .before .before .before .before .before .before .before .before .before .catalogue .result) (c .before .before .before .before .before .before .before .before .before .before .before .before .before .before .before .before .args .listing .now) _ (record { named = c .before .before .before .before .before .before .before .before .before .before .before .number-of .ensures; blank = c .before .before .before .before .before .before .before .before .before .before .before .before .before .before .before .before .pre .0; answer = c .before .before .before .before .before .before .before .before .before .catalogue .ensures .0; same = c .before .before .before .before .before .before .before .before .before .catalogue .kept .1 .1 .1 .1 .1 .1 .1 .0 }) (c .before .before .before .before .before .e .given .0 .0) (c .before .before .before .before .before .e .given .1) _ _ (c .before .before .plan-refused .ensures)
 
 same-length-3 : tie.Need-same-length-3
-same-length-3 c = search needs
+same-length-3 c = c .before .before .before .before .before .before .before .before .before .before .catalogue .kept .1 .1 .1 .1 .1 .1 .1 .0
 
 same-length-4 : tie.Need-same-length-4
-same-length-4 c = search needs
+same-length-4 c = c .before .before .before .put-head .kept .1 .1 .1 .1 .1 .1 .1 .1 .0
 
 returns-2 : tie.Need-returns-2
 returns-2 c = starts-listed (c .before .before .before .before .before .before .before .before .before .before .before .before .before .before .before .before .before .args .kind) (c .before .before .before .before .before .before .before .before .before .before .before .before .before .before .before .before .before .args .p) (c .before .before .before .before .before .before .before .before .before .before .before .before .before .before .before .before .before .args .q) (c .before .before .before .before .before .before .before .before .before .before .before .before .before .before .before .before .before .args .r) (c .before .before .before .before .before .before .before .before .before .before .before .before .before .before .before .before .before .args .k) (c .before .before .before .before .before .before .before .before .before .before .before .before .before .before .before .before .before .args .gs .now) (c .before .before .before .before .before .before .before .before .before .before .before .before .before .before .before .before .before .args .ts .now) _ (c .before .before .before .before .before .before .before .before .before .before .catalogue .result) (c .before .before .before .before .before .before .before .before .before .before .before .before .before .before .before .before .before .args .listing .now) _ (record { named = c .before .before .before .before .before .before .before .before .before .before .before .before .number-of .ensures; blank = c .before .before .before .before .before .before .before .before .before .before .before .before .before .before .before .before .before .pre .0; answer = c .before .before .before .before .before .before .before .before .before .before .catalogue .ensures .0; same = c .before .before .before .before .before .before .before .before .before .before .catalogue .kept .1 .1 .1 .1 .1 .1 .1 .0 }) (c .before .before .before .before .before .before .ell .given .0 .0) (c .before .before .before .before .before .before .ell .given .0 .1 .0) (c .before .before .before .before .before .before .ell .given .0 .1 .1 .0) (c .before .before .before .before .before .before .ell .given .1) _ _ (record { number = c .before .before .before .before .before .before .before .before .before .before .before .before .number-of .ensures; p = refl; q = refl; r = refl; generators = take-length (c .before .before .before .before .before .before .before .before .before .before .before .before .before .before .before .before .before .args .gs .now); targets = take-length (c .before .before .before .before .before .before .before .before .before .before .before .before .before .before .before .before .before .args .ts .now); numbers = c .extension-length .ensures; rows = refl; shown = refl; buffer = refl }) (omega arith) (omega arith) (c .before .before .before .put-head .ensures)

@@ -1,7 +1,6 @@
 -- `inputs::read_input` meets its contract. Assumes nothing.
 use native.Mathlib.Omega.{arith}
 use Rattle.inputs.specs.laws.Input.{input-long, input-read}
-use borrow.Author.Needs.{needs}
 use Rattle.inputs.proofs.read_input.Statement.{statement}
 use Rattle.inputs.proofs.read_input.Tie as tie
 use Rattle.inputs.proofs.read_input.Reads as reads
@@ -12,13 +11,13 @@ returns : tie.Need-returns
 returns c = input-long (c .before .before .before .before .args .purpose) (c .before .before .before .before .args .file .now) _ _ (omega arith)
 
 read-problem-requires : tie.Need-read-problem-requires
-read-problem-requires c κs = search needs
+read-problem-requires c κs = tt
 
 same-length : tie.Need-same-length
-same-length c = search needs
+same-length c = c .before .before .before .before .read-problem .kept .1 .1 .0
 
 same-length-2 : tie.Need-same-length-2
-same-length-2 c = search needs
+same-length-2 c = c .before .before .before .before .read-problem .kept .1 .1 .1 .0
 
 returns-2 : tie.Need-returns-2
 returns-2 c = input-read (c .before .before .before .before .before .before .before .before .before .before .before .args .purpose) (c .before .before .before .before .before .before .before .before .before .before .before .args .file .now) (c .before .before .before .before .before .before .before .before .before .before .before .args .gs .now) (c .before .before .before .before .before .before .before .before .before .before .before .args .ts .now) _ _ _ (omega arith) (c .before .before .before .before .before .before .before .before .before .before .before .pre .0) (c .before .before .before .before .before .before .before .before .before .before .before .pre .1) (c .before .before .before .before .read-problem .ensures)

@@ -1,10 +1,11 @@
 -- `programs::problem_program` meets its contract. Assumes nothing.
-use mathlib.Core.Path.{sym}
+use mathlib.Core.Path.{_≡_, sym}
+use Prim.Native.Nat.{ℕ, _≤_}
+use lib.ListN.{length-replicate}
 use native.Mathlib.Omega.{arith}
 use lib.Seq.{length-take-le}
 use Rattle.inputs.specs.laws.Input.{input-room}
 use Rattle.programs.specs.laws.Steps.{program-refused, program-said}
-use borrow.Author.Needs.{needs}
 use Rattle.programs.proofs.problem_program.Statement.{statement}
 use Rattle.programs.proofs.problem_program.Tie as tie
 use Rattle.programs.proofs.problem_program.Reads as reads
@@ -14,29 +15,33 @@ use Rattle.problem_lines.proofs.handed.Reads as handed-reads
 use Rattle.inputs.proofs.read_input.Reads as read-input-reads
 use Rattle.programs.proofs.reply.Reads as reply-reads
 
+-- a page takes the line of a refusal
+roomy : {n : ℕ} → n ≡ 196608 → 32 ≤ n
+roomy h = omega arith
+
 slice-aggregate-read-input : tie.Need-slice-aggregate-read-input
-slice-aggregate-read-input c = search needs
+slice-aggregate-read-input c = sym (length-replicate {A = ℕ} 4096 0)
 
 slice-aggregate-read-input-2 : tie.Need-slice-aggregate-read-input-2
-slice-aggregate-read-input-2 c = search needs
+slice-aggregate-read-input-2 c = sym (length-replicate {A = ℕ} 4096 0)
 
 read-input-requires : tie.Need-read-input-requires
-read-input-requires c κs = search needs
+read-input-requires c κs = (length-replicate {A = ℕ} 4096 0, length-replicate {A = ℕ} 4096 0)
 
 enum-known-e : tie.Need-enum-known-e
-enum-known-e c = search needs
+enum-known-e c = c .match .keys1
 
 refused-page-requires : tie.Need-refused-page-requires
-refused-page-requires c κs = search needs
+refused-page-requires c κs = roomy (c .before .before .before .before .before .before .before .before .before .before .before .pre)
 
 enum-known-kind : tie.Need-enum-known-kind
-enum-known-kind c = search needs
+enum-known-kind c = c .match .keys2
 
 handed-requires : tie.Need-handed-requires
-handed-requires c κs = search needs
+handed-requires c κs = tt
 
 handed-requires-2 : tie.Need-handed-requires-2
-handed-requires-2 c κs = search needs
+handed-requires-2 c κs = tt
 
 array-share-prefix-gs : tie.Need-array-share-prefix-gs
 array-share-prefix-gs c = let m = input-room (c .before .before .before .before .before .before .before .before .before .before .before .before .args .purpose) (c .before .before .before .before .before .before .before .before .before .before .before .before .args .file .now) (c .before .before .before .before .before .before .before .read-input .result) _ _ (c .before .before .before .before .before .before .before .read-input .ensures) (c .before .before .before .kind .given .0 .0) (c .before .before .before .kind .given .0 .1 .0) (c .before .before .before .kind .given .0 .1 .1 .0) (c .before .before .before .kind .given .0 .1 .1 .1 .0) (c .before .before .before .kind .given .0 .1 .1 .1 .1 .0) (c .before .before .before .kind .given .1) .0 in let e = c .before .handed .ensures in let l = c .before .before .before .before .before .before .before .read-input .kept .1 .1 .0 in omega arith
@@ -51,7 +56,7 @@ slice-aggregate-reply-2 : tie.Need-slice-aggregate-reply-2
 slice-aggregate-reply-2 c = let m = input-room (c .before .before .before .before .before .before .before .before .before .before .before .before .before .before .args .purpose) (c .before .before .before .before .before .before .before .before .before .before .before .before .before .before .args .file .now) (c .before .before .before .before .before .before .before .before .before .read-input .result) _ _ (c .before .before .before .before .before .before .before .before .before .read-input .ensures) (c .before .before .before .before .before .kind .given .0 .0) (c .before .before .before .before .before .kind .given .0 .1 .0) (c .before .before .before .before .before .kind .given .0 .1 .1 .0) (c .before .before .before .before .before .kind .given .0 .1 .1 .1 .0) (c .before .before .before .before .before .kind .given .0 .1 .1 .1 .1 .0) (c .before .before .before .before .before .kind .given .1) .1 in let e = c .before .before .handed2 .ensures in let l = c .before .before .before .before .before .before .before .before .before .read-input .kept .1 .1 .1 .0 in sym (length-take-le (c .before .before .handed2 .result) (c .before .before .before .before .before .before .before .before .before .read-input .last .1 .1 .1 .0) (omega arith))
 
 reply-requires : tie.Need-reply-requires
-reply-requires c κs = search needs
+reply-requires c κs = c .before .before .before .before .before .before .before .before .before .before .before .before .before .before .before .pre
 
 same-length : tie.Need-same-length
 same-length c = c .before .before .refused-page .kept .1 .0

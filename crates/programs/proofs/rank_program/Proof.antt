@@ -1,10 +1,9 @@
 -- `programs::rank_program` meets its contract. Assumes nothing.
-use borrow.Author.Needs.{needs}
 use Rattle.programs.proofs.rank_program.Statement.{statement}
 use Rattle.programs.proofs.rank_program.Tie as tie
 
 problem-program-requires : tie.Need-problem-program-requires
-problem-program-requires c κs = search needs
+problem-program-requires c κs = c .before .before .before .pre
 
 same-length : tie.Need-same-length
 same-length c = c .before .before .problem-program .kept .1 .1 .0

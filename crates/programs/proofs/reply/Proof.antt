@@ -3,7 +3,6 @@ use mathlib.Core.Path.{ap, sym, _∙_}
 use Rattle.problem_judging.specs.Judged.{problemOf}
 use Rattle.problem_judging.specs.declared.Purpose.{Purpose}
 use Rattle.programs.specs.Programs.{replyTo}
-use borrow.Author.Needs.{needs}
 use Rattle.programs.proofs.reply.Statement.{statement}
 use Rattle.programs.proofs.reply.Tie as tie
 use Rattle.programs.proofs.reply.Reads as reads
@@ -12,16 +11,16 @@ use Rattle.catalogue_answers.proofs.catalogue_reply.Reads as catalogue-reply-re
 use Rattle.rank_answers.proofs.rank_reply.Reads as rank-reply-reads
 
 enum-told : tie.Need-enum-told
-enum-told c = search needs
+enum-told c = c .match .keys1
 
 catalogue-reply-requires : tie.Need-catalogue-reply-requires
-catalogue-reply-requires c κs = search needs
+catalogue-reply-requires c κs = c .before .before .before .before .before .before .pre
 
 enum-told-2 : tie.Need-enum-told-2
-enum-told-2 c = search needs
+enum-told-2 c = c .match .keys2
 
 rank-reply-requires : tie.Need-rank-reply-requires
-rank-reply-requires c κs = search needs
+rank-reply-requires c κs = c .before .before .before .before .before .before .pre
 
 same-length : tie.Need-same-length
 same-length c = c .before .before .catalogue-reply .kept .1 .1 .1 .1 .1 .1 .1 .0
