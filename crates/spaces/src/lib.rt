@@ -1,4 +1,4 @@
-// The formulae of a space, on numbers.
+// The formulae of a space, on forms.
 use bases::Basis;
 use choice::Choice;
 use records::Tally;
