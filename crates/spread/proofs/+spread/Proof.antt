@@ -2,13 +2,20 @@
 -- final state. Assumes nothing.
 use native.Mathlib.Omega.{arith}
 use mathlib.Core.Path.{_≡_, refl, sym, _∙_}
-use Prim.Native.Nat.{ℕ, _-_, _<_}
+use mathlib.Core.Logic.{_≢_}
+use mathlib.Core.List.{List}
+use Prim.Native.Nat.{ℕ, _+_, _-_, _*_, _^_, _<_, _≤_}
+use mir.Syntax.{w64}
+use mir.Val.{Fits}
 use lib.ListN.{length}
 use Rattle.bases.specs.Basis.{rowsOf}
+use Rattle.bases.specs.declared.Basis.{Basis}
 use Rattle.choice.specs.Choice.{numbersOf}
+use Rattle.choice.specs.declared.Choice.{Choice}
 use Rattle.records.specs.Records.{run}
 use Rattle.records.specs.Keep.{stateOf}
-use Rattle.spread.specs.Spread.{formulaeFrom}
+use Rattle.records.specs.declared.Tally.{Tally}
+use Rattle.spread.specs.Spread.{formulaeFrom, Node}
 use Rattle.spread.proofs.Going.{Going, not-yes, going-leaf, going-full, going-stop, going-end, going-skip, node-down, going-down}
 use borrow.Fn.Kinds.{In}
 use borrow.Fn.PlainCycle.{Measures, is, falls, and}
@@ -55,6 +62,25 @@ spread-Inv-loop gens w targets start missing b c limit out₀ n u₀ j₀ out u 
 abbrev spread-μ-loop : spread-lts.MeasureT-loop
 spread-μ-loop gens w targets start missing b c limit out₀ n u₀ j₀ out u j = length gens - j
 
+-- facts on numbers
+some : {m : ℕ} → m ≢ 0 → 1 ≤ m
+some n = omega arith
+
+falls-one : {m t : ℕ} → m ≡ t → m ≢ 0 → m - 1 < t
+falls-one e n = omega arith
+
+fewer : {j n : ℕ} → j < n → n - (j + 1) < n - j
+fewer l = omega arith
+
+one-fits : {j n : ℕ} → j < n → n * 8 < 2 ^ 63 → Fits w64 (j + 1)
+one-fits l k = record { fits = omega arith }
+
+eight-fits : {j n : ℕ} → j < n → n * 8 < 2 ^ 63 → Fits w64 (j * 8)
+eight-fits l k = record { fits = omega arith }
+
+room-more : {gens w : List ℕ} {missing : ℕ} {b : Basis} {c : Choice} {t : Tally} {limit : ℕ} {out : List ℕ} → Node gens w missing b c t limit out → missing ≢ 0 → c .len < 64
+room-more N n = omega (arith, N .room)
+
 spread-keep-requires : (t : ℕ) → spread-lts.Need-keep-requires (claims t) (spread-at t) spread.Post spread-Inv-loop spread-μ-loop
 spread-keep-requires t c κs = record { whole = c .before .before .before .before .before .before .pre .1 .chose .whole; sane = c .before .before .before .before .before .before .pre .1 .sane }
 
@@ -74,31 +100,31 @@ spread-returns-2 : (t : ℕ) → spread-lts.Need-returns-2 (claims t) (spread-at
 spread-returns-2 t c = going-full (c .before .before .before .before .before .before .before .before .before .args .gens .now) (c .before .before .before .before .before .before .before .before .before .args .w .now) (c .before .before .before .before .before .before .before .before .before .args .targets .now) (c .before .before .before .before .before .before .before .before .before .args .missing) (c .before .before .before .before .before .before .before .before .before .args .b) (c .before .before .before .before .before .before .before .before .before .args .c) (c .before .before .before .before .before .before .before .before .before .args .t) (c .before .before .before .before .before .before .before .before .before .args .limit) (c .before .before .before .before .before .before .before .before .before .args .out .now) (c .before .before .before .before .before .before .before .before .before .pre .1) (c .before .before .before .before .if1 .left) _ _ (c .before .before .before .loop .j) (c .before .before .before .loop .u) (c .before .before .before .loop .out) (c .before .before .before .loop .inv) (c .if2 .taken)
 
 spread-mul-g : (t : ℕ) → spread-lts.Need-mul-g (claims t) (spread-at t) spread.Post spread-Inv-loop spread-μ-loop
-spread-mul-g t c = omega arith
+spread-mul-g t c = eight-fits (c .before .before .loop-test .taken) (c .before .before .before .before .before .before .before .before .before .good .0 .1)
 
 spread-shared-slice-read-g : (t : ℕ) → spread-lts.Need-shared-slice-read-g (claims t) (spread-at t) spread.Post spread-Inv-loop spread-μ-loop
-spread-shared-slice-read-g t c = omega arith
+spread-shared-slice-read-g t c = c .before .before .before .loop-test .taken
 
 spread-is-wanted-requires : (t : ℕ) → spread-lts.Need-is-wanted-requires (claims t) (spread-at t) spread.Post spread-Inv-loop spread-μ-loop
 spread-is-wanted-requires t c κs = c .before .before .before .before .before .before .before .before .before .before .pre .1 .valid
 
 spread-add-spread : (t : ℕ) → spread-lts.Need-add-spread (claims t) (spread-at t) spread.Post spread-Inv-loop spread-μ-loop
-spread-add-spread t c = omega arith
+spread-add-spread t c = one-fits (c .before .before .before .before .before .loop-test .taken) (c .before .before .before .before .before .before .before .before .before .before .before .before .good .0 .1)
 
 spread-sub-spread : (t : ℕ) → spread-lts.Need-sub-spread (claims t) (spread-at t) spread.Post spread-Inv-loop spread-μ-loop
-spread-sub-spread t c = omega arith
+spread-sub-spread t c = some (c .before .before .before .before .before .before .before .if1 .left)
 
 spread-insert-requires : (t : ℕ) → spread-lts.Need-insert-requires (claims t) (spread-at t) spread.Post spread-Inv-loop spread-μ-loop
 spread-insert-requires t c κs = c .before .before .before .before .before .before .before .before .before .before .before .before .pre .1 .valid
 
 spread-add-requires : (t : ℕ) → spread-lts.Need-add-requires (claims t) (spread-at t) spread.Post spread-Inv-loop spread-μ-loop
-spread-add-requires t c κs = let r = c .before .before .before .before .before .before .before .before .before .before .before .before .before .pre .1 .room in let e = c .before .before .before .before .before .before .before .before .if1 .left in (c .before .before .before .before .before .before .before .before .before .before .before .before .before .pre .1 .chose .whole, omega arith)
+spread-add-requires t c κs = (c .before .before .before .before .before .before .before .before .before .before .before .before .before .pre .1 .chose .whole, room-more (c .before .before .before .before .before .before .before .before .before .before .before .before .before .pre .1) (c .before .before .before .before .before .before .before .before .if1 .left))
 
 spread-spread-requires : (t : ℕ) → spread-lts.Need-spread-requires (claims t) (spread-at t) spread.Post spread-Inv-loop spread-μ-loop
-spread-spread-requires t c κs = let d : c .before .before .before .before .before .before .before .before .before .before .before .before .before .before .before .args .missing ≡ t = c .before .before .before .before .before .before .before .before .before .before .before .before .before .before .before .pre .0 in let e = c .before .before .before .before .before .before .before .before .before .before .if1 .left in (omega arith, node-down (c .before .before .before .before .before .before .before .before .before .before .before .before .before .before .before .args .gens .now) (c .before .before .before .before .before .before .before .before .before .before .before .before .before .before .before .args .w .now) (c .before .before .before .before .before .before .before .before .before .before .before .before .before .before .before .args .targets .now) (c .before .before .before .before .before .before .before .before .before .before .before .before .before .before .before .args .missing) (c .before .before .before .before .before .before .before .before .before .before .before .before .before .before .before .args .b) (c .before .before .before .before .before .before .before .before .before .before .before .before .before .before .before .args .c) (c .before .before .before .before .before .before .before .before .before .before .before .before .before .before .before .args .t) (c .before .before .before .before .before .before .before .before .before .before .before .before .before .before .before .args .limit) (c .before .before .before .before .before .before .before .before .before .before .before .before .before .before .before .args .out .now) (c .before .before .before .before .before .before .before .before .before .before .before .before .before .before .before .pre .1) (c .before .before .before .before .before .before .before .before .before .before .if1 .left) _ _ (c .before .before .before .before .before .before .before .before .before .loop .j) (c .before .before .before .before .before .before .before .before .before .loop .u) (c .before .before .before .before .before .before .before .before .before .loop .out) (c .before .before .before .before .before .before .before .before .before .loop .inv) (c .before .before .before .before .before .before .before .before .loop-test .taken) (sym (c .before .before .before .before .is-wanted .ensures) ∙ c .before .before .before .if3 .taken) (c .before .before .insert .result) (c .before .before .insert .ensures) (c .before .add .result) (c .before .add .ensures))
+spread-spread-requires t c κs = let d : c .before .before .before .before .before .before .before .before .before .before .before .before .before .before .before .args .missing ≡ t = c .before .before .before .before .before .before .before .before .before .before .before .before .before .before .before .pre .0 in let e = c .before .before .before .before .before .before .before .before .before .before .if1 .left in (falls-one d e, node-down (c .before .before .before .before .before .before .before .before .before .before .before .before .before .before .before .args .gens .now) (c .before .before .before .before .before .before .before .before .before .before .before .before .before .before .before .args .w .now) (c .before .before .before .before .before .before .before .before .before .before .before .before .before .before .before .args .targets .now) (c .before .before .before .before .before .before .before .before .before .before .before .before .before .before .before .args .missing) (c .before .before .before .before .before .before .before .before .before .before .before .before .before .before .before .args .b) (c .before .before .before .before .before .before .before .before .before .before .before .before .before .before .before .args .c) (c .before .before .before .before .before .before .before .before .before .before .before .before .before .before .before .args .t) (c .before .before .before .before .before .before .before .before .before .before .before .before .before .before .before .args .limit) (c .before .before .before .before .before .before .before .before .before .before .before .before .before .before .before .args .out .now) (c .before .before .before .before .before .before .before .before .before .before .before .before .before .before .before .pre .1) (c .before .before .before .before .before .before .before .before .before .before .if1 .left) _ _ (c .before .before .before .before .before .before .before .before .before .loop .j) (c .before .before .before .before .before .before .before .before .before .loop .u) (c .before .before .before .before .before .before .before .before .before .loop .out) (c .before .before .before .before .before .before .before .before .before .loop .inv) (c .before .before .before .before .before .before .before .before .loop-test .taken) (sym (c .before .before .before .before .is-wanted .ensures) ∙ c .before .before .before .if3 .taken) (c .before .before .insert .result) (c .before .before .insert .ensures) (c .before .add .result) (c .before .add .ensures))
 
 spread-add-completes : (t : ℕ) → spread-lts.Need-add-completes (claims t) (spread-at t) spread.Post spread-Inv-loop spread-μ-loop
-spread-add-completes t c = omega (arith, c .before .before .before .before .before .before .before .before .before .before .before .loop-test .taken, c .before .before .before .before .before .before .before .before .before .before .before .before .before .before .before .before .before .before .good, c .before .before .before .before .before .before .before .before .before .before .before .before .before .before .before .before .before .before .fits)
+spread-add-completes t c = one-fits (c .before .before .before .before .before .before .before .before .before .before .before .loop-test .taken) (c .before .before .before .before .before .before .before .before .before .before .before .before .before .before .before .before .before .before .good .0 .1)
 
 spread-completes-requires : (t : ℕ) → spread-lts.Need-completes-requires (claims t) (spread-at t) spread.Post spread-Inv-loop spread-μ-loop
 spread-completes-requires t c κs = c .before .before .before .before .before .before .before .before .before .before .before .before .before .before .before .before .before .before .pre .1 .valid
@@ -110,19 +136,19 @@ spread-returns-3 : (t : ℕ) → spread-lts.Need-returns-3 (claims t) (spread-at
 spread-returns-3 t c = going-stop (c .before .before .before .before .before .before .before .before .before .before .before .before .before .before .before .before .before .before .before .before .args .gens .now) (c .before .before .before .before .before .before .before .before .before .before .before .before .before .before .before .before .before .before .before .before .args .w .now) (c .before .before .before .before .before .before .before .before .before .before .before .before .before .before .before .before .before .before .before .before .args .targets .now) (c .before .before .before .before .before .before .before .before .before .before .before .before .before .before .before .before .before .before .before .before .args .missing) (c .before .before .before .before .before .before .before .before .before .before .before .before .before .before .before .before .before .before .before .before .args .b) (c .before .before .before .before .before .before .before .before .before .before .before .before .before .before .before .before .before .before .before .before .args .c) (c .before .before .before .before .before .before .before .before .before .before .before .before .before .before .before .before .before .before .before .before .args .limit) (c .before .before .before .before .before .before .before .before .before .before .before .before .before .before .before .before .before .before .before .before .pre .1 .space) (c .before .before .before .before .before .before .before .before .before .before .before .before .before .before .before .before .before .before .before .before .pre .1 .valid) _ _ (c .before .before .before .before .before .before .before .before .before .before .before .before .before .before .loop .j) (c .before .before .before .before .spread .result) _ (going-down (c .before .before .before .before .before .before .before .before .before .before .before .before .before .before .before .before .before .before .before .before .args .gens .now) (c .before .before .before .before .before .before .before .before .before .before .before .before .before .before .before .before .before .before .before .before .args .w .now) (c .before .before .before .before .before .before .before .before .before .before .before .before .before .before .before .before .before .before .before .before .args .targets .now) (c .before .before .before .before .before .before .before .before .before .before .before .before .before .before .before .before .before .before .before .before .args .missing) (c .before .before .before .before .before .before .before .before .before .before .before .before .before .before .before .before .before .before .before .before .args .b) (c .before .before .before .before .before .before .before .before .before .before .before .before .before .before .before .before .before .before .before .before .args .c) (c .before .before .before .before .before .before .before .before .before .before .before .before .before .before .before .before .before .before .before .before .args .t) (c .before .before .before .before .before .before .before .before .before .before .before .before .before .before .before .before .before .before .before .before .args .limit) (c .before .before .before .before .before .before .before .before .before .before .before .before .before .before .before .before .before .before .before .before .args .out .now) (c .before .before .before .before .before .before .before .before .before .before .before .before .before .before .before .before .before .before .before .before .pre .1) (c .before .before .before .before .before .before .before .before .before .before .before .before .before .before .before .if1 .left) _ _ (c .before .before .before .before .before .before .before .before .before .before .before .before .before .before .loop .j) (c .before .before .before .before .before .before .before .before .before .before .before .before .before .before .loop .u) (c .before .before .before .before .before .before .before .before .before .before .before .before .before .before .loop .out) (c .before .before .before .before .before .before .before .before .before .before .before .before .before .before .loop .inv) (c .before .before .before .before .before .before .before .before .before .before .before .before .before .loop-test .taken) (sym (c .before .before .before .before .before .before .before .before .before .is-wanted .ensures) ∙ c .before .before .before .before .before .before .before .before .if3 .taken) (c .before .before .before .before .before .before .before .insert .result) (c .before .before .before .before .before .before .before .insert .ensures) (c .before .before .before .before .before .before .add .result) (c .before .before .before .before .before .before .add .ensures) (c .before .before .before .before .spread .result) _ (c .before .before .before .before .spread .ensures)) (c .before .before .before .before .before .before .before .before .before .before .before .before .before .loop-test .taken) (sym (c .before .completes .ensures) ∙ not-yes (c .before .completes .result) (c .if4 .taken))
 
 spread-add-j : (t : ℕ) → spread-lts.Need-add-j (claims t) (spread-at t) spread.Post spread-Inv-loop spread-μ-loop
-spread-add-j t c = omega (arith, c .before .before .before .before .before .before .before .before .before .before .before .before .before .loop-test .taken, c .before .before .before .before .before .before .before .before .before .before .before .before .before .before .before .before .before .before .before .before .good, c .before .before .before .before .before .before .before .before .before .before .before .before .before .before .before .before .before .before .before .before .fits)
+spread-add-j t c = one-fits (c .before .before .before .before .before .before .before .before .before .before .before .before .before .loop-test .taken) (c .before .before .before .before .before .before .before .before .before .before .before .before .before .before .before .before .before .before .before .before .good .0 .1)
 
 spread-loop-less : (t : ℕ) → spread-lts.Need-loop-less (claims t) (spread-at t) spread.Post spread-Inv-loop spread-μ-loop
-spread-loop-less t c = omega arith
+spread-loop-less t c = fewer (c .before .before .before .before .before .before .before .before .before .before .before .before .before .loop-test .taken)
 
 spread-loop-again : (t : ℕ) → spread-lts.Need-loop-again (claims t) (spread-at t) spread.Post spread-Inv-loop spread-μ-loop
 spread-loop-again t c = going-down (c .before .before .before .before .before .before .before .before .before .before .before .before .before .before .before .before .before .before .before .before .args .gens .now) (c .before .before .before .before .before .before .before .before .before .before .before .before .before .before .before .before .before .before .before .before .args .w .now) (c .before .before .before .before .before .before .before .before .before .before .before .before .before .before .before .before .before .before .before .before .args .targets .now) (c .before .before .before .before .before .before .before .before .before .before .before .before .before .before .before .before .before .before .before .before .args .missing) (c .before .before .before .before .before .before .before .before .before .before .before .before .before .before .before .before .before .before .before .before .args .b) (c .before .before .before .before .before .before .before .before .before .before .before .before .before .before .before .before .before .before .before .before .args .c) (c .before .before .before .before .before .before .before .before .before .before .before .before .before .before .before .before .before .before .before .before .args .t) (c .before .before .before .before .before .before .before .before .before .before .before .before .before .before .before .before .before .before .before .before .args .limit) (c .before .before .before .before .before .before .before .before .before .before .before .before .before .before .before .before .before .before .before .before .args .out .now) (c .before .before .before .before .before .before .before .before .before .before .before .before .before .before .before .before .before .before .before .before .pre .1) (c .before .before .before .before .before .before .before .before .before .before .before .before .before .before .before .if1 .left) _ _ (c .before .before .before .before .before .before .before .before .before .before .before .before .before .before .loop .j) (c .before .before .before .before .before .before .before .before .before .before .before .before .before .before .loop .u) (c .before .before .before .before .before .before .before .before .before .before .before .before .before .before .loop .out) (c .before .before .before .before .before .before .before .before .before .before .before .before .before .before .loop .inv) (c .before .before .before .before .before .before .before .before .before .before .before .before .before .loop-test .taken) (sym (c .before .before .before .before .before .before .before .before .before .is-wanted .ensures) ∙ c .before .before .before .before .before .before .before .before .if3 .taken) (c .before .before .before .before .before .before .before .insert .result) (c .before .before .before .before .before .before .before .insert .ensures) (c .before .before .before .before .before .before .add .result) (c .before .before .before .before .before .before .add .ensures) (c .before .before .before .before .spread .result) _ (c .before .before .before .before .spread .ensures)
 
 spread-add-j-2 : (t : ℕ) → spread-lts.Need-add-j-2 (claims t) (spread-at t) spread.Post spread-Inv-loop spread-μ-loop
-spread-add-j-2 t c = omega arith
+spread-add-j-2 t c = one-fits (c .before .before .before .before .before .loop-test .taken) (c .before .before .before .before .before .before .before .before .before .before .before .before .good .0 .1)
 
 spread-loop-less-2 : (t : ℕ) → spread-lts.Need-loop-less-2 (claims t) (spread-at t) spread.Post spread-Inv-loop spread-μ-loop
-spread-loop-less-2 t c = omega arith
+spread-loop-less-2 t c = fewer (c .before .before .before .before .before .loop-test .taken)
 
 spread-loop-again-2 : (t : ℕ) → spread-lts.Need-loop-again-2 (claims t) (spread-at t) spread.Post spread-Inv-loop spread-μ-loop
 spread-loop-again-2 t c = going-skip (c .before .before .before .before .before .before .before .before .before .before .before .before .args .gens .now) (c .before .before .before .before .before .before .before .before .before .before .before .before .args .w .now) (c .before .before .before .before .before .before .before .before .before .before .before .before .args .targets .now) (c .before .before .before .before .before .before .before .before .before .before .before .before .args .missing) (c .before .before .before .before .before .before .before .before .before .before .before .before .args .b) (c .before .before .before .before .before .before .before .before .before .before .before .before .args .c) (c .before .before .before .before .before .before .before .before .before .before .before .before .args .t) (c .before .before .before .before .before .before .before .before .before .before .before .before .args .limit) (c .before .before .before .before .before .before .before .before .before .before .before .before .args .out .now) (c .before .before .before .before .before .before .before .before .before .before .before .before .pre .1) (c .before .before .before .before .before .before .before .if1 .left) _ _ (c .before .before .before .before .before .before .loop .j) (c .before .before .before .before .before .before .loop .u) (c .before .before .before .before .before .before .loop .out) (c .before .before .before .before .before .before .loop .inv) (c .before .before .before .before .before .loop-test .taken) (sym (c .before .is-wanted .ensures) ∙ c .if3 .left)
