@@ -1,4 +1,3 @@
 -- What the Formulae program prints of an input first.
-pub mod Listed
-pub mod Starts
+pub mod Start
 pub mod laws

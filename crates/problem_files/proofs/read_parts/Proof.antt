@@ -1,6 +1,5 @@
 -- `problem_files::read_parts` meets its contract. Assumes nothing.
 use mathlib.Core.Path.{ap, _∙_}
-use native.Mathlib.Omega.{arith}
 use borrow.Author.Needs.{needs}
 use Rattle.kinds.specs.Kinds.{seenKind}
 use Rattle.kinds.specs.Sizes.{seenSizes}

@@ -5,11 +5,10 @@
 --   room, answer-room the forms handed in fit both the lent buffers and buffers of 4,095 and 64 words
 -- Assumes nothing.
 use Prim.Native.Nat.{ℕ, _+_, _≤_}
-use mathlib.Core.Path.{_≡_, refl, sym, ap, _∙_, subst}
+use mathlib.Core.Path.{_≡_, refl, ap, _∙_, subst}
 use mathlib.Core.List.{List, [], _++_}
 use mathlib.Core.Bool.{Bool, true, false, _||_, true≢false}
-use mathlib.Core.Option.{Option, some}
-use native.Mathlib.Omega.{arith}
+use mathlib.Core.Option.{some}
 use native.Mathlib.Nat.{zero-add}
 use lib.ListN.{length, take, drop}
 use lib.Seq.{paste, take-length}
@@ -17,7 +16,7 @@ use lib.Dec.{ltb}
 use borrow.Author.Tests.{ltb-false}
 use Rattle.kinds.specs.declared.Kind.{Kind}
 use Rattle.kinds.specs.Sizes.{sizes}
-use Rattle.kinds.specs.Refusal.{Answer, accepted, need, follow}
+use Rattle.kinds.specs.Refusal.{Answer, accepted, need}
 use Rattle.kinds.specs.RefusalLaws.{need-inv, follow-inv}
 use Rattle.heads.specs.Head.{Head, headLines}
 use Rattle.problem_lines.specs.ProblemLines.{handed, bodyOf}

@@ -1,6 +1,4 @@
 -- `problem_judging::beyond` meets its contract. Assumes nothing.
-use mathlib.Core.Path.{sym}
-use native.Mathlib.Omega.{arith}
 use borrow.Author.Needs.{needs}
 use Rattle.bases.specs.Basis.{based-dim}
 use Rattle.problem_judging.specs.laws.Judging.{beyond-catalogue, beyond-rank}

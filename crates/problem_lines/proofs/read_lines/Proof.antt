@@ -1,6 +1,5 @@
 -- `problem_lines::read_lines` meets its contract. Assumes nothing.
 use mathlib.Core.Path.{sym, _∙_}
-use native.Mathlib.Omega.{arith}
 use borrow.Author.Needs.{needs}
 use Rattle.problem_lines.specs.laws.Lines.{ready-list, body-list, body-map}
 use Rattle.problem_lines.proofs.read_lines.Statement.{statement}
