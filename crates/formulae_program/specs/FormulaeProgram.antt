@@ -2,7 +2,7 @@
 --   rowsAt L i        == the rows of entry i in the listing
 --   entryPart L i     == what is printed of entry i
 --   entriesPart L i n == of n entries from i on
---   formulaeProgram s == all that is printed: the first lines (`firstPart`, formulae_heads), then the entries
+--   formulaeProgram s == all that is printed: the first lines (`firstPart`, formulae_start), then the entries
 -- What Formulae prints is decided (docs/DECISIONS.md). The program writes it in parts (formulae_start, entry_pages); that these are all: `Theorems`. Assumes nothing.
 use Prim.Native.Nat.{ℕ, zero, suc, _+_, _-_, _*_}
 use mathlib.Core.List.{List, [], _++_}
@@ -11,8 +11,7 @@ use Rattle.kinds.specs.Kinds.{numberOf}
 use Rattle.kinds.specs.Refusal.{accepted, follow}
 use Rattle.pages.specs.Pages.{printed}
 use Rattle.formula_answers.specs.FormulaAnswers.{entryFormulae}
-use Rattle.formulae_heads.specs.Listed.{Listed, firstPart}
-use Rattle.formulae_start.specs.Start.{listedInput}
+use Rattle.formulae_start.specs.Listed.{Listed, listedInput, firstPart}
 
 -- the record of an entry: k − ℓ numbers, then k rows
 abbrev pub rowsAt : Listed → ℕ → List ℕ

@@ -26,9 +26,8 @@ use Rattle.answered.specs.laws.Answered.{file-posed, catalogue-accepted}
 use Rattle.pages.specs.Pages.{listingRoom, printed}
 use Rattle.plans.specs.declared.Plan.{Plan}
 use Rattle.entry_pages.specs.EntryPages.{planText, planTexts}
-use Rattle.formulae_heads.specs.Listed.{Listed, listed, firstPart}
-use Rattle.formulae_heads.specs.Starts.{Follows, Printing, Starts}
-use Rattle.formulae_start.specs.Start.{listedInput}
+use Rattle.formulae_start.specs.Listed.{Listed, listed, listedInput, firstPart}
+use Rattle.formulae_start.specs.Starts.{Follows, Printing, Starts}
 use Rattle.formulae_program.specs.FormulaeProgram.{rowsAt, entryPart, entriesPart, formulaeProgram}
 use Rattle.formulae_program.specs.laws.Shown.{entry-accepted}
 

@@ -36,8 +36,7 @@ use Rattle.roles.specs.Roles.{roleLine, roleLines, listBody}
 use Rattle.inputs.specs.Inputs.{inputOf}
 use Rattle.formula_lines.specs.FormulaLines.{formulaText, formulaeText}
 use Rattle.formula_answers.specs.FormulaAnswers.{entryFormulae}
-use Rattle.formulae_heads.specs.Listed.{headText}
-use Rattle.formulae_start.specs.Start.{listedInput}
+use Rattle.formulae_start.specs.Listed.{listedInput, headText}
 use Rattle.formulae_program.specs.FormulaeProgram.{entriesPart, formulaeProgram}
 
 pub worked-formulae : formulaeProgram ((107 ∷ 105 ∷ 110 ∷ 100 ∷ 44 ∷ 112 ∷ 44 ∷ 113 ∷ 44 ∷ 114 ∷ 44 ∷ 107 ∷ 10 ∷ []) ++ (108 ∷ 105 ∷ 115 ∷ 116 ∷ 44 ∷ 50 ∷ 44 ∷ 51 ∷ 44 ∷ 49 ∷ 44 ∷ 50 ∷ 10 ∷ []) ++ (114 ∷ 111 ∷ 108 ∷ 101 ∷ 44 ∷ 102 ∷ 111 ∷ 114 ∷ 109 ∷ 10 ∷ []) ++ (103 ∷ 44 ∷ 49 ∷ 10 ∷ []) ++ (103 ∷ 44 ∷ 50 ∷ 10 ∷ []) ++ (103 ∷ 44 ∷ 51 ∷ 10 ∷ []) ++ (116 ∷ 44 ∷ 51 ∷ 10 ∷ []))

@@ -1,3 +1,4 @@
 -- What the Formulae program prints of an input first.
-pub mod Start
+pub mod Listed
+pub mod Starts
 pub mod laws

@@ -1,15 +1,15 @@
--- `formulae_heads::plan_problem` meets its contract. Assumes nothing.
+-- `formulae_start::plan_problem` meets its contract. Assumes nothing.
 use mathlib.Core.Path.{refl}
 use native.Mathlib.Omega.{arith}
 use lib.Seq.{take-length}
-use Rattle.formulae_heads.specs.laws.Heads.{starts-refused, starts-listed}
-use Rattle.formulae_heads.proofs.plan_problem.Statement.{statement}
-use Rattle.formulae_heads.proofs.plan_problem.Tie as tie
-use Rattle.formulae_heads.proofs.plan_problem.Reads as reads
-use Rattle.formulae_heads.proofs.plan_problem.Lts as lts
-use Rattle.formulae_heads.proofs.extension_length.Reads as extension-length-reads
-use Rattle.formulae_heads.proofs.plan_refused.Reads as plan-refused-reads
-use Rattle.formulae_heads.proofs.put_head.Reads as put-head-reads
+use Rattle.formulae_start.specs.laws.Start.{starts-refused, starts-listed}
+use Rattle.formulae_start.proofs.plan_problem.Statement.{statement}
+use Rattle.formulae_start.proofs.plan_problem.Tie as tie
+use Rattle.formulae_start.proofs.plan_problem.Reads as reads
+use Rattle.formulae_start.proofs.plan_problem.Lts as lts
+use Rattle.formulae_start.proofs.extension_length.Reads as extension-length-reads
+use Rattle.formulae_start.proofs.plan_refused.Reads as plan-refused-reads
+use Rattle.formulae_start.proofs.put_head.Reads as put-head-reads
 use Rattle.kinds.proofs.number_of.Reads as number-of-reads
 use Rattle.search.proofs.catalogue.Reads as catalogue-reads
 

@@ -1,6 +1,7 @@
 -- A problem with its Catalogue, and what the Formulae program prints of it first.
 --   Listed            == a problem and its Catalogue
 --   listed P          == the problem P of a file with its Catalogue, or its refusal
+--   listedInput s     == those of the input s, or its refusal
 --   headText ..       == Catalogue's first two lines, and the names of a formula's line
 --   firstPart L       == those of a problem with its Catalogue
 -- What Formulae prints is decided (docs/DECISIONS.md). Assumes nothing.
@@ -10,9 +11,11 @@ use Rattle.kinds.specs.declared.Kind.{Kind}
 use Rattle.kinds.specs.Kinds.{numberOf}
 use Rattle.kinds.specs.Refusal.{Answer, accepted, follow}
 use Rattle.problem_judging.specs.Judged.{ProblemFile}
+use Rattle.problem_judging.specs.declared.Purpose.the-variants as purpose
 use Rattle.search.specs.Catalogue.{Catalogued, catalogue}
 use Rattle.catalogue_reports.specs.CatalogueReports.{countsText}
 use Rattle.pages.specs.Pages.{listingRoom}
+use Rattle.inputs.specs.Inputs.{inputOf}
 use Rattle.text.specs.Line.{LF}
 
 pub record Listed : Type 0 where
@@ -23,6 +26,9 @@ abbrev pub listed : ProblemFile → Answer Listed
 listed P =
     follow (catalogue (numberOf (P .kind)) (P .p) (P .q) (P .r) (P .k) (P .generators) (P .targets) listingRoom) λ c.
     accepted (record { problem = P; said = c })
+
+unfoldable pub listedInput : List ℕ → Answer Listed
+listedInput s = follow (inputOf purpose.Catalogue s) listed
 
 -- `entry,formula,products,rows`
 abbrev pub formulaeNames : List ℕ

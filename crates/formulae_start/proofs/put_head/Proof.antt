@@ -1,10 +1,10 @@
--- `formulae_heads::put_head` meets its contract. Assumes nothing.
-use Rattle.formulae_heads.specs.laws.Heads.{head-put}
+-- `formulae_start::put_head` meets its contract. Assumes nothing.
+use Rattle.formulae_start.specs.laws.Start.{head-put}
 use borrow.Author.Needs.{needs}
-use Rattle.formulae_heads.proofs.put_head.Statement.{statement}
-use Rattle.formulae_heads.proofs.put_head.Tie as tie
-use Rattle.formulae_heads.proofs.put_head.Reads as reads
-use Rattle.formulae_heads.proofs.put_head.Lts as lts
+use Rattle.formulae_start.proofs.put_head.Statement.{statement}
+use Rattle.formulae_start.proofs.put_head.Tie as tie
+use Rattle.formulae_start.proofs.put_head.Reads as reads
+use Rattle.formulae_start.proofs.put_head.Lts as lts
 use Rattle.print.proofs.put_bytes.Reads as put-bytes-reads
 use Rattle.catalogue_reports.proofs.put_counts.Reads as put-counts-reads
 

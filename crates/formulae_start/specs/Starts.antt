@@ -1,6 +1,5 @@
 -- The plan and the page after the first lines.
 --   Follows L x g t listing       == the plan x and the buffers hold the problem and its Catalogue
---   Empty n x page                == the refusal n is on the page, and the plan x is empty
 --   Starts o x g t listing page   == of the answer o: its refusal is on the page and there is no entry; or the first lines are, and the plan follows
 -- Assumes nothing.
 use Prim.Native.Nat.{ℕ, _-_, _≤_}
@@ -12,7 +11,7 @@ use Rattle.kinds.specs.Refusal.{Answer, refused, accepted}
 use Rattle.pieces.specs.RefusedText.{refusedText}
 use Rattle.plans.specs.Plans.{Ready}
 use Rattle.plans.specs.declared.Plan.{Plan}
-use Rattle.formulae_heads.specs.Listed.{Listed, firstPart}
+use Rattle.formulae_start.specs.Listed.{Listed, firstPart}
 
 pub record Follows (L : Listed) (x : Plan) (g t listing : List ℕ) : Type 0 where
   pub number : x .number ≡ numberOf (L .problem .kind)
@@ -34,12 +33,3 @@ pub record Starts (o : Answer Listed) (x : Plan) (g t listing page : List ℕ) :
   pub prints : Printing o x g t listing page
   pub room : x .head ≤ 278528
   pub ready : Ready x g t listing
-
-pub record Empty (n : ℕ) (x : Plan) (page : List ℕ) : Type 0 where
-  pub text : take (x .head) page ≡ refusedText n
-  pub head : x .head ≤ 32
-  pub generators : x .generators ≡ 0
-  pub targets : x .targets ≡ 0
-  pub numbers : x .numbers ≡ 0
-  pub rows : x .rows ≡ 0
-  pub shown : x .shown ≡ 0

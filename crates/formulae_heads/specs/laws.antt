@@ -1,2 +1,0 @@
--- The laws behind it.
-pub mod Heads
