@@ -1,18 +1,22 @@
 -- One entry kept, and one number pushed.
 -- pushed: the chain with one number more. chain-length: how many numbers it has.
+-- lengths-fit, found-fits, shown-fits, at-fits, end-fits: no sum is too large.
 -- keep-full, keep-fits, keep-short: the limit is reached; the record fits; it doesn't.
 -- Assumes nothing.
 use mathlib.Core.Path.{_≡_, refl, sym, ap, ap₂, _∙_}
 use mathlib.Core.List.{List, _++_, append-assoc}
-use Prim.Native.Nat.{ℕ, _+_, _<_, _≤_}
+use Prim.Native.Nat.{ℕ, _+_, _-_, _^_, _<_, _≤_}
+use mir.Syntax.{w64}
+use mir.Val.{Fits}
 use native.Mathlib.Omega.{arith}
 use native.Mathlib.Numerals.{add-one}
 use lib.ListN.{length, take, drop, set, length-append, length-set}
 use lib.Seq.{paste, take-paste, drop-paste, take-length, drop-drop, take-suc-set, length-take-le}
+use Rattle.bases.specs.declared.Basis.{Basis}
 use Rattle.records.specs.declared.Chain.{Chain}
 use Rattle.records.specs.declared.Tally.{Tally}
 use Rattle.records.specs.Records.{note}
-use Rattle.records.specs.Keep.{chainOf, stateOf, Tidy, Pushed}
+use Rattle.records.specs.Keep.{chainOf, stateOf, Tidy, Pushed, Keeping}
 use Rattle.records.specs.laws.Records.{note-full, note-fits, note-short}
 
 pub pushed : (c : Chain) (j m : ℕ) → Tidy c m → 0 < m → Pushed c j (record { numbers = set (c .numbers) (c .len) j; len = c .len + 1 })
@@ -25,6 +29,24 @@ pushed c j m T h =
 
 pub chain-length : (c : Chain) (m : ℕ) → Tidy c m → length (chainOf c) ≡ c .len
 chain-length c m T = length-take-le (c .len) (c .numbers) (omega (arith, T .whole, T .room))
+
+module _ {b : Basis} {c : Chain} {t : Tally} {limit : ℕ} {out : List ℕ} (K : Keeping b c t limit out) where
+  pub lengths-fit : Fits w64 (c .len + b .len)
+  lengths-fit = record { fits = omega (arith, K .tidy .room, K .valid .room) }
+
+  pub found-fits : (t .found ≡ limit → ⊥) → Fits w64 limit → Fits w64 (t .found + 1)
+  found-fits n l = record { fits = omega (arith, K .sane .limited, l .fits) }
+
+  pub shown-fits : (t .found ≡ limit → ⊥) → Fits w64 limit → Fits w64 (t .shown + 1)
+  shown-fits n l = record { fits = omega (arith, K .sane .limited, K .sane .fewer, l .fits) }
+
+  -- there is room for the record
+  module _ (r : c .len + b .len ≤ length out - t .at) (l : length out < 2 ^ 64) where
+    pub at-fits : Fits w64 (t .at + c .len)
+    at-fits = record { fits = omega (arith, K .sane .inside) }
+
+    pub end-fits : Fits w64 (t .at + (c .len + b .len))
+    end-fits = record { fits = omega (arith, K .sane .inside) }
 
 paste-paste : (d : List ℕ) (at : ℕ) (p q : List ℕ) → at + length p ≤ length d
     → paste (paste d at p (length p)) (at + length p) q (length q) ≡ paste d at (p ++ q) (length (p ++ q))

@@ -1,11 +1,11 @@
 -- `records::keep` meets its contract: the entry is counted up to the limit, and written where it fits. Assumes nothing.
 use native.Mathlib.Omega.{arith}
-use mathlib.Core.Path.{_≡_, sym}
+use mathlib.Core.Path.{_≡_, sym, _∙_}
 use Prim.Native.Nat.{_+_, _-_, _≤_}
 use lib.ListN.{length}
 use Rattle.bases.specs.Basis.{rowsOf, rows-length}
 use Rattle.records.specs.Keep.{chainOf}
-use Rattle.records.proofs.Keeping.{chain-length, keep-full, keep-fits, keep-short}
+use Rattle.records.proofs.Keeping.{chain-length, lengths-fit, found-fits, shown-fits, at-fits, end-fits, keep-full, keep-fits, keep-short}
 use borrow.Author.Needs.{needs}
 use Rattle.records.proofs.keep.Statement.{statement}
 use Rattle.records.proofs.keep.Tie as tie
@@ -14,13 +14,13 @@ returns : tie.Need-returns
 returns c = keep-full (c .before .before .before .args .limit) (c .before .before .before .args .t) (c .before .before .before .args .out .now) (chainOf (c .before .before .before .args .c)) (rowsOf (c .before .before .before .args .b)) (c .if1 .taken)
 
 sub-if2 : tie.Need-sub-if2
-sub-if2 c = search needs
+sub-if2 c = c .before .before .before .pre .sane .inside
 
 add-if2 : tie.Need-add-if2
-add-if2 c = search needs
+add-if2 c = lengths-fit (c .before .before .before .pre)
 
 add-t15 : tie.Need-add-t15
-add-t15 c = search needs
+add-t15 c = found-fits (c .before .before .before .before .before .pre) (c .before .before .if1 .left) (c .before .before .before .before .before .fits .limit)
 
 returns-2 : tie.Need-returns-2
 returns-2 c =
@@ -60,7 +60,7 @@ slice-aggregate-copy-2 : tie.Need-slice-aggregate-copy-2
 slice-aggregate-copy-2 c = sym (rows-length (c .before .before .before .before .before .before .before .before .before .before .before .before .args .b) (c .before .before .before .before .before .before .before .before .before .before .before .before .pre .valid))
 
 add-copy : tie.Need-add-copy
-add-copy c = search needs
+add-copy c = at-fits (c .before .before .before .before .before .before .before .before .before .before .before .before .before .pre) (c .before .before .before .before .before .before .before .before .before .if2 .left) (c .before .before .before .before .before .before .before .before .before .before .before .before .before .good .1 .1 .1 .1 .0 .0)
 
 copy-requires-2 : tie.Need-copy-requires-2
 copy-requires-2 c κs =
@@ -77,19 +77,19 @@ copy-requires-2 c κs =
     omega (arith, eb, k, i, z)
 
 add-t25 : tie.Need-add-t25
-add-t25 c = search needs
+add-t25 c = found-fits (c .before .before .before .before .before .before .before .before .before .before .before .before .before .before .before .before .before .pre) (c .before .before .before .before .before .before .before .before .before .before .before .before .before .before .if1 .left) (c .before .before .before .before .before .before .before .before .before .before .before .before .before .before .before .before .before .fits .limit)
 
 add-t13 : tie.Need-add-t13
-add-t13 c = search needs
+add-t13 c = shown-fits (c .before .before .before .before .before .before .before .before .before .before .before .before .before .before .before .before .before .before .pre) (c .before .before .before .before .before .before .before .before .before .before .before .before .before .before .before .if1 .left) (c .before .before .before .before .before .before .before .before .before .before .before .before .before .before .before .before .before .before .fits .limit)
 
 add-t12 : tie.Need-add-t12
-add-t12 c = search needs
+add-t12 c = lengths-fit (c .before .before .before .before .before .before .before .before .before .before .before .before .before .before .before .before .before .before .pre)
 
 add-t14 : tie.Need-add-t14
-add-t14 c = search needs
+add-t14 c = end-fits (c .before .before .before .before .before .before .before .before .before .before .before .before .before .before .before .before .before .before .pre) (c .before .before .before .before .before .before .before .before .before .before .before .before .before .before .if2 .left) (c .before .before .before .before .before .before .before .before .before .before .before .before .before .before .before .before .before .before .good .1 .1 .1 .1 .0 .0)
 
 same-length : tie.Need-same-length
-same-length c = search needs
+same-length c = c .before .before .before .before .copy2 .kept .1 .0 ∙ c .before .before .before .before .before .before .before .before .before .before .copy .kept .1 .0
 
 returns-3 : tie.Need-returns-3
 returns-3 c =

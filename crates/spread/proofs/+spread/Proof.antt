@@ -109,7 +109,7 @@ spread-is-wanted-requires : (t : ℕ) → spread-lts.Need-is-wanted-requires (cl
 spread-is-wanted-requires t c κs = c .before .before .before .before .before .before .before .before .before .before .pre .1 .valid
 
 spread-add-spread : (t : ℕ) → spread-lts.Need-add-spread (claims t) (spread-at t) spread.Post spread-Inv-loop spread-μ-loop
-spread-add-spread t c = one-fits (c .before .before .before .before .before .loop-test .taken) (c .before .before .before .before .before .before .before .before .before .before .before .before .good .0 .1)
+spread-add-spread t c = omega arith
 
 spread-sub-spread : (t : ℕ) → spread-lts.Need-sub-spread (claims t) (spread-at t) spread.Post spread-Inv-loop spread-μ-loop
 spread-sub-spread t c = some (c .before .before .before .before .before .before .before .if1 .left)
@@ -124,7 +124,7 @@ spread-spread-requires : (t : ℕ) → spread-lts.Need-spread-requires (claims t
 spread-spread-requires t c κs = let d : c .before .before .before .before .before .before .before .before .before .before .before .before .before .before .before .args .missing ≡ t = c .before .before .before .before .before .before .before .before .before .before .before .before .before .before .before .pre .0 in let e = c .before .before .before .before .before .before .before .before .before .before .if1 .left in (falls-one d e, node-down (c .before .before .before .before .before .before .before .before .before .before .before .before .before .before .before .args .gens .now) (c .before .before .before .before .before .before .before .before .before .before .before .before .before .before .before .args .w .now) (c .before .before .before .before .before .before .before .before .before .before .before .before .before .before .before .args .targets .now) (c .before .before .before .before .before .before .before .before .before .before .before .before .before .before .before .args .missing) (c .before .before .before .before .before .before .before .before .before .before .before .before .before .before .before .args .b) (c .before .before .before .before .before .before .before .before .before .before .before .before .before .before .before .args .c) (c .before .before .before .before .before .before .before .before .before .before .before .before .before .before .before .args .t) (c .before .before .before .before .before .before .before .before .before .before .before .before .before .before .before .args .limit) (c .before .before .before .before .before .before .before .before .before .before .before .before .before .before .before .args .out .now) (c .before .before .before .before .before .before .before .before .before .before .before .before .before .before .before .pre .1) (c .before .before .before .before .before .before .before .before .before .before .if1 .left) _ _ (c .before .before .before .before .before .before .before .before .before .loop .j) (c .before .before .before .before .before .before .before .before .before .loop .u) (c .before .before .before .before .before .before .before .before .before .loop .out) (c .before .before .before .before .before .before .before .before .before .loop .inv) (c .before .before .before .before .before .before .before .before .loop-test .taken) (sym (c .before .before .before .before .is-wanted .ensures) ∙ c .before .before .before .if3 .taken) (c .before .before .insert .result) (c .before .before .insert .ensures) (c .before .add .result) (c .before .add .ensures))
 
 spread-add-completes : (t : ℕ) → spread-lts.Need-add-completes (claims t) (spread-at t) spread.Post spread-Inv-loop spread-μ-loop
-spread-add-completes t c = one-fits (c .before .before .before .before .before .before .before .before .before .before .before .loop-test .taken) (c .before .before .before .before .before .before .before .before .before .before .before .before .before .before .before .before .before .before .good .0 .1)
+spread-add-completes t c = omega (arith, c .before .before .before .before .before .before .before .before .before .before .before .loop-test .taken, c .before .before .before .before .before .before .before .before .before .before .before .before .before .before .before .before .before .before .good, c .before .before .before .before .before .before .before .before .before .before .before .before .before .before .before .before .before .before .fits)
 
 spread-completes-requires : (t : ℕ) → spread-lts.Need-completes-requires (claims t) (spread-at t) spread.Post spread-Inv-loop spread-μ-loop
 spread-completes-requires t c κs = c .before .before .before .before .before .before .before .before .before .before .before .before .before .before .before .before .before .before .pre .1 .valid
