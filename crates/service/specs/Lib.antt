@@ -1,4 +1,4 @@
--- What the exported calls and the Check program answer.
+-- What the exported calls answer.
 pub mod Service
 pub mod Ready
 pub mod laws

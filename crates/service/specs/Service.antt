@@ -1,7 +1,6 @@
--- What the exported calls and the Check program answer.
+-- What the exported calls answer.
 --   checkFile s        == of a byte string that holds a formula's file: a refusal's number, or what the Check program prints
 --   replyOf, bytesOf   == the reply of `gijpsando_check`, and the second string's final content
---   programText s      == all that the Check program prints
 --   numbersReply, numbersLent == the reply of `gijpsando_check_numbers`, and the final content of its lent words
 -- Document 01: "one byte string holds a file as below, a second takes what the Check program would print, and the reply is the count of bytes
 -- written (always above 35) or a refusal's number. Too short a second string is refused by 9." Assumes nothing.
@@ -21,7 +20,6 @@ use Rattle.formula.specs.Formula.{check}
 use Rattle.formula.specs.declared.Verdict.{Verdict}
 use Rattle.formula.specs.declared.Verdict.the-variants as verdict
 use Rattle.replies.specs.CheckText.{checkText}
-use Rattle.pieces.specs.RefusedText.{refusedText}
 use Rattle.pieces.specs.Written.{writtenIn}
 
 abbrev pub verdictOf : Option ℕ → Verdict
@@ -49,14 +47,6 @@ replyOf (accepted t) d = cond (ltb (length d) (length t)) 9 (length t)
 abbrev pub bytesOf : Answer (List ℕ) → List ℕ → List ℕ
 bytesOf (refused e) d = d
 bytesOf (accepted t) d = writtenIn t d
-
--- ---- the Check program: "in a program, also an input of more than 65,536 bytes" is refused by 1
-abbrev pub printed : Answer (List ℕ) → List ℕ
-printed (refused e) = refusedText e
-printed (accepted t) = t
-
-unfoldable pub programText : List ℕ → List ℕ
-programText s = cond (ltb 65536 (length s)) (refusedText 1) (printed (checkFile s))
 
 -- ---- gijpsando_check_numbers, with the lent words d: verdict (0 right, 1 wrong), output, adders
 abbrev pub verdictWords : Option ℕ → ℕ → List ℕ

@@ -1,3 +1,3 @@
 -- The laws behind the exported calls.
 pub mod Reading
-pub mod Program
+pub mod Numbers

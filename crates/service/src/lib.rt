@@ -1,10 +1,10 @@
-// Check for callers in C, and for the program: all refusals are made inside.
+// Check for callers in C: all refusals are made inside.
 ghost use mathlib.Core.Path.{_≡_};
 ghost use lib.ListN.{length, take};
 ghost use Rattle.formula.specs.Formula.{check};
 ghost use Rattle.formula.specs.Replies.{seenReply};
 ghost use Rattle.kinds.specs.Kinds.{numberOf};
-ghost use Rattle.service.specs.Service.{checkFile, replyText, replyOf, bytesOf, programText, numbersReply, numbersLent};
+ghost use Rattle.service.specs.Service.{checkFile, replyText, replyOf, bytesOf, numbersReply, numbersLent};
 ghost use Rattle.words.specs.Buffers.{filled};
 ghost use mathlib.Core.List.{[], _∷_};
 ghost use Prim.Native.Nat.{_≤_};
@@ -86,21 +86,6 @@ pub extern "C" fn gijpsando_check(file: &[u8], out: &mut [u8]) -> usize
         Read::Refused(e) => e as usize,
         Read::Formula(kind, p, q, r, k) => answer(kind, p, q, r, k, &a, &b, &rows, out),
     }
-}
-
-// The text that the Check program prints for an input, from the start of out; its length.
-pub fn check_program(file: &[u8], out: &mut [u8]) -> usize
-    requires { ⌜ length (now out) ≡ 256 ⌝ }
-    ensures { λ n. ⌜ (take n (now (out .exit)) ≡ programText (now (file .entry))) × (n ≤ 256) ⌝ }
-{
-    if 65536 < file.len() {
-        return pieces::refused_text(1, out);
-    }
-    let n = gijpsando_check(file, out);
-    if 35 < n {
-        return n;
-    }
-    pieces::refused_text(n as u64, out)
 }
 
 // Three words from the start.

@@ -12,7 +12,6 @@ use Rattle.replies.specs.CheckText.{checkText}
 use Rattle.service.specs.Service.{replyText, replyOf, bytesOf}
 use Rattle.service.specs.Ready.{outputsOf}
 use Rattle.service.specs.laws.Reading.{verdict-same, text-short, text-whole}
-use borrow.Author.Needs.{needs}
 use Rattle.service.proofs.answer.Statement.{statement}
 use Rattle.service.proofs.answer.Tie as tie
 use Rattle.service.proofs.answer.Reads as reads
@@ -21,16 +20,16 @@ use Rattle.replies.proofs.check_text.Reads as check-text-reads
 use Rattle.service.proofs.check_read.Reads as check-read-reads
 
 check-read-requires : tie.Need-check-read-requires
-check-read-requires c κs = search needs
+check-read-requires c κs = c .before .before .before .before .pre
 
 enum-known-said : tie.Need-enum-known-said
-enum-known-said c = search needs
+enum-known-said c = c .match .keys1
 
 enum-known-said-2 : tie.Need-enum-known-said-2
-enum-known-said-2 c = search needs
+enum-known-said-2 c = c .match .keys2
 
 check-text-requires : tie.Need-check-text-requires
-check-text-requires c κs = search needs
+check-text-requires c κs = tt
 
 returns : tie.Need-returns
 returns c =
@@ -38,7 +37,7 @@ returns c =
     (ap (λ (x : Answer (List ℕ)). replyOf x (c .before .before .before .before .before .before .before .before .args .out .now)) (sym e), ap (λ (x : Answer (List ℕ)). bytesOf x (c .before .before .before .before .before .before .before .before .args .out .now)) (sym e))
 
 same-length : tie.Need-same-length
-same-length c = search needs
+same-length c = c .before .before .before .check-text .kept .1 .1 .1 .1 .1 .1 .1 .0
 
 returns-2 : tie.Need-returns-2
 returns-2 c =
@@ -49,7 +48,7 @@ returns-2 c =
     )
 
 same-length-2 : tie.Need-same-length-2
-same-length-2 c = search needs
+same-length-2 c = c .before .before .before .check-text .kept .1 .1 .1 .1 .1 .1 .1 .0
 
 returns-3 : tie.Need-returns-3
 returns-3 c =

@@ -10,7 +10,6 @@ use Rattle.kinds.specs.Sizes.{sizes, seenSizes}
 use Rattle.formula.specs.Formula.{check}
 use Rattle.service.specs.Ready.{outputsOf}
 use Rattle.service.specs.laws.Reading.{outs}
-use borrow.Author.Needs.{needs}
 use Rattle.service.proofs.check_read.Statement.{statement}
 use Rattle.service.proofs.check_read.Tie as tie
 use Rattle.service.proofs.check_read.Reads as reads
@@ -20,13 +19,13 @@ use Rattle.kinds.proofs.number_of.Reads as number-of-reads
 use Rattle.kinds.proofs.sizes_of.Reads as sizes-of-reads
 
 sizes-of-requires : tie.Need-sizes-of-requires
-sizes-of-requires c κs = search needs
+sizes-of-requires c κs = tt
 
 enum-known-outputs : tie.Need-enum-known-outputs
-enum-known-outputs c = search needs
+enum-known-outputs c = c .match .keys1
 
 enum-told : tie.Need-enum-told
-enum-told c = search needs
+enum-told c = c .match .keys2
 
 returns : tie.Need-returns
 returns c =
@@ -35,7 +34,7 @@ returns c =
     absurd (let z : _≡_ {A = ℕ} 0 1 = cc in omega arith)
 
 number-of-requires : tie.Need-number-of-requires
-number-of-requires c κs = search needs
+number-of-requires c κs = tt
 
 slice-aggregate-check : tie.Need-slice-aggregate-check
 slice-aggregate-check c = sym (length-take-le (c .before .before .before .before .before .before .before .before .before .args .k) (c .before .before .before .before .before .before .before .before .before .args .a .now) (c .before .before .before .before .before .before .before .before .before .pre .firsts))
@@ -50,7 +49,7 @@ slice-aggregate-check-3 c =
     sym (length-take-le (c .before .before .before .before .before .outputs .given .0 .1 .1 .0) (c .before .before .before .before .before .before .before .before .before .before .before .args .rows .now) (let h = c .before .before .before .before .before .before .before .before .before .before .before .pre .outputs in omega arith))
 
 check-requires : tie.Need-check-requires
-check-requires c κs = search needs
+check-requires c κs = tt
 
 returns-2 : tie.Need-returns-2
 returns-2 c =

@@ -6,7 +6,6 @@ use lib.ListN.{replicate}
 use Rattle.kinds.specs.Refusal.{Answer, refused}
 use Rattle.service.specs.Service.{checkFile, replyOf, bytesOf}
 use Rattle.service.specs.laws.Reading.{read-ready, read-checks, refused-checks}
-use borrow.Author.Needs.{needs}
 use Rattle.service.proofs.gijpsando_check.Statement.{statement}
 use Rattle.service.proofs.gijpsando_check.Tie as tie
 use Rattle.service.proofs.gijpsando_check.Reads as reads
@@ -15,31 +14,31 @@ use Rattle.files.proofs.read_formula.Reads as read-formula-reads
 use Rattle.service.proofs.answer.Reads as answer-reads
 
 slice-aggregate-read-formula : tie.Need-slice-aggregate-read-formula
-slice-aggregate-read-formula c = search needs
+slice-aggregate-read-formula c = refl
 
 slice-aggregate-read-formula-2 : tie.Need-slice-aggregate-read-formula-2
-slice-aggregate-read-formula-2 c = search needs
+slice-aggregate-read-formula-2 c = refl
 
 slice-aggregate-read-formula-3 : tie.Need-slice-aggregate-read-formula-3
-slice-aggregate-read-formula-3 c = search needs
+slice-aggregate-read-formula-3 c = refl
 
 read-formula-requires : tie.Need-read-formula-requires
-read-formula-requires c κs = search needs
+read-formula-requires c κs = tt
 
 enum-known-got : tie.Need-enum-known-got
-enum-known-got c = search needs
+enum-known-got c = c .match .keys1
 
 enum-known-got-2 : tie.Need-enum-known-got-2
-enum-known-got-2 c = search needs
+enum-known-got-2 c = c .match .keys2
 
 slice-aggregate-answer : tie.Need-slice-aggregate-answer
-slice-aggregate-answer c = search needs
+slice-aggregate-answer c = sym (c .before .before .before .before .before .before .before .read-formula .kept .1 .0)
 
 slice-aggregate-answer-2 : tie.Need-slice-aggregate-answer-2
-slice-aggregate-answer-2 c = search needs
+slice-aggregate-answer-2 c = sym (c .before .before .before .before .before .before .before .before .read-formula .kept .1 .1 .0)
 
 slice-aggregate-answer-3 : tie.Need-slice-aggregate-answer-3
-slice-aggregate-answer-3 c = search needs
+slice-aggregate-answer-3 c = sym (c .before .before .before .before .before .before .before .before .before .read-formula .kept .1 .1 .1 .0)
 
 answer-requires : tie.Need-answer-requires
 answer-requires c κs = read-ready (c .before .before .before .before .before .before .before .before .before .before .before .before .before .before .before .before .args .file .now) (c .before .before .before .before .before .got2 .given .0 .0) (c .before .before .before .before .before .got2 .given .0 .1 .0) (c .before .before .before .before .before .got2 .given .0 .1 .1 .0) (c .before .before .before .before .before .got2 .given .0 .1 .1 .1 .0) (c .before .before .before .before .before .got2 .given .0 .1 .1 .1 .1 .0) (replicate 64 0) (replicate 64 0) (replicate 64 0) (c .before .before .before .before .before .before .before .before .before .before .read-formula .last .1 .0) (c .before .before .before .before .before .before .before .before .before .before .read-formula .last .1 .1 .0) (c .before .before .before .before .before .before .before .before .before .before .read-formula .last .1 .1 .1 .0) refl refl refl (sym (c .before .before .before .before .before .got2 .given .1) ∙ c .before .before .before .before .before .before .before .before .before .before .read-formula .ensures .0) (c .before .before .before .before .before .before .before .before .before .before .read-formula .ensures .1) (c .before .before .before .before .before .before .before .before .before .before .read-formula .ensures .2) (c .before .before .before .before .before .before .before .before .before .before .read-formula .ensures .3)
@@ -50,7 +49,7 @@ returns c =
     (ap (λ (x : Answer (List ℕ)). replyOf x (c .before .before .before .before .before .before .before .before .before .before .before .before .args .out .now)) (sym e), ap (λ (x : Answer (List ℕ)). bytesOf x (c .before .before .before .before .before .before .before .before .before .before .before .before .args .out .now)) (sym e))
 
 same-length : tie.Need-same-length
-same-length c = search needs
+same-length c = c .before .before .answer .kept .1 .1 .1 .1 .1 .1 .1 .1 .0
 
 returns-2 : tie.Need-returns-2
 returns-2 c =

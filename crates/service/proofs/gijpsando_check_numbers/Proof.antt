@@ -7,7 +7,7 @@ use Rattle.kinds.specs.Refusal.{Answer, refused, accepted}
 use Rattle.formula.specs.Formula.{check}
 use Rattle.formula.specs.Replies.{seenReply, seenVerdict}
 use Rattle.service.specs.Service.{numbersReply, numbersLent}
-use Rattle.service.specs.laws.Program.{numbers-short, numbers-whole}
+use Rattle.service.specs.laws.Numbers.{numbers-short, numbers-whole}
 use borrow.Author.Needs.{needs}
 use Rattle.service.proofs.gijpsando_check_numbers.Statement.{statement}
 use Rattle.service.proofs.gijpsando_check_numbers.Tie as tie
@@ -17,13 +17,13 @@ use Rattle.formula.proofs.check.Reads as check-reads
 use Rattle.service.proofs.put_three.Reads as put-three-reads
 
 check-requires : tie.Need-check-requires
-check-requires c κs = search needs
+check-requires c κs = tt
 
 enum-known-said : tie.Need-enum-known-said
-enum-known-said c = search needs
+enum-known-said c = c .match .keys1
 
 enum-known-said-2 : tie.Need-enum-known-said-2
-enum-known-said-2 c = search needs
+enum-known-said-2 c = c .match .keys2
 
 returns : tie.Need-returns
 returns c =
@@ -32,13 +32,13 @@ returns c =
     (n .0 ∙ ap (λ (x : Answer (Option ℕ × ℕ)). numbersReply x (c .before .before .before .before .before .before .before .before .before .args .reply .now)) (sym e), n .1 ∙ ap (λ (x : Answer (Option ℕ × ℕ)). numbersLent x (c .before .before .before .before .before .before .before .before .before .args .reply .now)) (sym e))
 
 enum-told : tie.Need-enum-told
-enum-told c = search needs
+enum-told c = c .match2 .keys1
 
 put-three-requires : tie.Need-put-three-requires
 put-three-requires c κs = search needs
 
 enum-known-v : tie.Need-enum-known-v
-enum-known-v c = search needs
+enum-known-v c = c .match2 .keys2
 
 put-three-requires-2 : tie.Need-put-three-requires-2
 put-three-requires-2 c κs = search needs
@@ -49,7 +49,7 @@ returns-2 c =
     (ap (λ (x : Answer (Option ℕ × ℕ)). numbersReply x (c .before .before .before .before .before .before .before .before .args .reply .now)) (sym e), ap (λ (x : Answer (Option ℕ × ℕ)). numbersLent x (c .before .before .before .before .before .before .before .before .args .reply .now)) (sym e))
 
 same-length : tie.Need-same-length
-same-length c = search needs
+same-length c = c .before .before .put-three .kept .0
 
 returns-3 : tie.Need-returns-3
 returns-3 c =
@@ -58,7 +58,7 @@ returns-3 c =
     (n .0 ∙ ap (λ (x : Answer (Option ℕ × ℕ)). numbersReply x (c .before .before .before .before .before .before .before .before .before .before .before .before .before .before .before .args .reply .now)) (sym e), c .before .before .put-three .ensures ∙ n .1 ∙ ap (λ (x : Answer (Option ℕ × ℕ)). numbersLent x (c .before .before .before .before .before .before .before .before .before .before .before .before .before .before .before .args .reply .now)) (sym e))
 
 same-length-2 : tie.Need-same-length-2
-same-length-2 c = search needs
+same-length-2 c = c .before .before .put-three2 .kept .0
 
 returns-4 : tie.Need-returns-4
 returns-4 c =

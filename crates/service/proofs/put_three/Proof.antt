@@ -1,7 +1,7 @@
 -- `service::put_three` meets its contract. Assumes nothing.
 use native.Mathlib.Omega.{arith}
 use lib.ListN.{length-set}
-use Rattle.service.specs.laws.Program.{three}
+use Rattle.service.specs.laws.Numbers.{three}
 use native.Mathlib.Omega.{arith}
 use borrow.Author.Needs.{needs}
 use Rattle.service.proofs.put_three.Statement.{statement}

@@ -1,21 +1,16 @@
--- `service::check_program` meets its contract. Assumes nothing.
+-- `check_program::check_program` meets its contract. Assumes nothing.
 use mathlib.Core.Path.{_∙_}
 use native.Mathlib.Omega.{arith}
 use Rattle.pieces.specs.RefusedText.{refusedText}
-use Rattle.service.specs.laws.Program.{bytes-most, reply-most, refused-length, print-text, print-refusal, program-long, program-short}
-use borrow.Author.Needs.{needs}
-use Rattle.service.proofs.check_program.Statement.{statement}
-use Rattle.service.proofs.check_program.Tie as tie
-use Rattle.service.proofs.check_program.Reads as reads
-use Rattle.service.proofs.check_program.Lts as lts
-use Rattle.pieces.proofs.refused_text.Reads as refused-text-reads
-use Rattle.service.proofs.gijpsando_check.Reads as gijpsando-check-reads
+use Rattle.check_program.specs.laws.Program.{bytes-most, reply-most, refused-length, print-text, print-refusal, program-long, program-short}
+use Rattle.check_program.proofs.check_program.Statement.{statement}
+use Rattle.check_program.proofs.check_program.Tie as tie
 
 refused-text-requires : tie.Need-refused-text-requires
-refused-text-requires c κs = search needs
+refused-text-requires c κs = tt
 
 same-length : tie.Need-same-length
-same-length c = search needs
+same-length c = c .before .before .refused-text .kept .1 .0
 
 returns : tie.Need-returns
 returns c = (
@@ -24,10 +19,10 @@ returns c = (
 )
 
 gijpsando-check-requires : tie.Need-gijpsando-check-requires
-gijpsando-check-requires c κs = search needs
+gijpsando-check-requires c κs = tt
 
 same-length-2 : tie.Need-same-length-2
-same-length-2 c = search needs
+same-length-2 c = c .before .before .before .gijpsando-check .kept .1 .0
 
 returns-2 : tie.Need-returns-2
 returns-2 c = (
@@ -36,10 +31,10 @@ returns-2 c = (
 )
 
 refused-text-requires-2 : tie.Need-refused-text-requires-2
-refused-text-requires-2 c κs = search needs
+refused-text-requires-2 c κs = tt
 
 same-length-3 : tie.Need-same-length-3
-same-length-3 c = search needs
+same-length-3 c = c .before .before .refused-text2 .kept .1 .0 ∙ c .before .before .before .before .before .before .before .gijpsando-check .kept .1 .0
 
 returns-3 : tie.Need-returns-3
 returns-3 c = (

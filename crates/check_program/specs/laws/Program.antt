@@ -9,7 +9,7 @@ use mathlib.Core.Option.{Option, none, some}
 use Prim.Native.Nat.{ℕ, _<_, _≤_}
 use native.Mathlib.Omega.{arith}
 use native.Mathlib.Decide.{decLt}
-use lib.ListN.{length, take, drop, set, length-append}
+use lib.ListN.{length, take, drop, length-append}
 use lib.Seq.{take-append-seam}
 use lib.Dec.{ltb}
 use borrow.Author.Tests.{lt-ltb, le-ltb}
@@ -35,7 +35,8 @@ use Rattle.pieces.specs.RefusedText.{refusedName, refusedText}
 use Rattle.replies.specs.CheckTextLong.{check-text-long}
 use Rattle.pieces.specs.Written.{bytesIn, writtenIn}
 use Rattle.pieces.specs.laws.Pieces.{name-short, number-short}
-use Rattle.service.specs.Service.{verdictOf, replyText, checkRead, checkFile, replyOf, bytesOf, printed, programText, verdictWords, numbersReply, numbersLent}
+use Rattle.service.specs.Service.{verdictOf, replyText, checkRead, checkFile, replyOf, bytesOf}
+use Rattle.check_program.specs.CheckProgram.{printed, programText}
 
 -- ---- refusals are at most 9
 abbrev Small : {A : Type 0} → Answer A → Type 0
@@ -217,26 +218,6 @@ program-long s d d₁ e l h x y =
 pub program-short : (s : List ℕ) → length s ≤ 65536 → printed (checkFile s) ≡ programText s
 unfolding programText
 program-short s h = sym (ap (λ (b : Bool). cond b (refusedText 1) (printed (checkFile s))) (le-ltb 65536 (length s) h))
-
--- ---- three words
-pub three : (d : List ℕ) (x y z : ℕ) → 3 ≤ length d → set (set (set d 0 x) 1 y) 2 z ≡ filled (x ∷ y ∷ z ∷ []) d
-three [] x y z h = absurd (omega arith)
-three (a ∷ []) x y z h = absurd (omega arith)
-three (a ∷ b ∷ []) x y z h = absurd (omega arith)
-three (a ∷ b ∷ c ∷ d) x y z h = refl
-
-module _ (v : Option ℕ) (w : ℕ) (d : List ℕ) where
-  pub numbers-short : length d < 3 → (9 ≡ numbersReply (accepted (v, w)) d) × (d ≡ numbersLent (accepted (v, w)) d)
-  numbers-short h = (
-    sym (ap (λ (b : Bool). cond b 9 0) (lt-ltb (length d) 3 h)),
-    sym (ap (λ (b : Bool). cond b d (filled (verdictWords v w) d)) (lt-ltb (length d) 3 h)),
-  )
-
-  pub numbers-whole : 3 ≤ length d → (0 ≡ numbersReply (accepted (v, w)) d) × (filled (verdictWords v w) d ≡ numbersLent (accepted (v, w)) d)
-  numbers-whole h = (
-    sym (ap (λ (b : Bool). cond b 9 0) (le-ltb (length d) 3 h)),
-    sym (ap (λ (b : Bool). cond b d (filled (verdictWords v w) d)) (le-ltb (length d) 3 h)),
-  )
 
 -- ---- what is printed fits 256 bytes
 pub bytes-most : (t d : List ℕ) → length d ≡ 256 → bytesIn t d ≤ 256

@@ -1,0 +1,3 @@
+-- What the Check program prints.
+pub mod CheckProgram
+pub mod laws

@@ -1,0 +1,2 @@
+-- The laws behind the Check program.
+pub mod Program
