@@ -1,11 +1,9 @@
 // Reading a formula's file into lent buffers.
 ghost use mathlib.Core.Path.{_≡_};
-ghost use mathlib.Core.Bool.{_||_};
 ghost use lib.ListN.{length};
-ghost use lib.Dec.{ltb};
 ghost use Rattle.files.specs.Outcome.{isList, outcome};
 ghost use Rattle.files.specs.Lent.{reply, firstOf, secondOf, rowsOf};
-ghost use Rattle.files.specs.laws.Outcome.{number, Left, Under};
+ghost use Rattle.files.specs.laws.Outcome.{Left, Under};
 use heads::HeadRead;
 use kinds::Kind;
 use kinds::Known;
@@ -24,36 +22,6 @@ fn is_list(kind: Kind) -> bool
     }
 }
 
-// Whether a buffer of la, lb or lr words is too short for k products and t rows.
-fn too_short(k: usize, t: usize, la: usize, lb: usize, lr: usize) -> bool
-    ensures { λ r. ⌜ r ≡ (ltb la k || (ltb lb k || ltb lr t)) ⌝ }
-{
-    if la < k {
-        return true;
-    }
-    if lb < k {
-        return true;
-    }
-    lr < t
-}
-
-// The refusal of a formula that is read, 6 to 9, or 0: whether a mask is too wide, whether a factor is zero, its k products and t rows, and
-// the buffers' lengths.
-fn refusal(wide: bool, zero: bool, k: usize, t: usize, la: usize, lb: usize, lr: usize) -> u64
-    ensures { λ e. ⌜ e ≡ number wide zero (ltb 64 k) (ltb la k || (ltb lb k || ltb lr t)) ⌝ }
-{
-    if wide {
-        return 6;
-    }
-    if zero {
-        return 7;
-    }
-    if 64 < k {
-        return 8;
-    }
-    if too_short(k, t, la, lb, lr) { 9 } else { 0 }
-}
-
 // Reads the lines of a formula under the first two: the refusal, 5 to 9, or 0, and the buffers are filled.
 fn read_under(
     s: &[u8],
@@ -70,7 +38,7 @@ fn read_under(
     let BodyRead::Are(wide, zero) = lines::read_body(s, k, n, m, t, a, b, d) else {
         return 5;
     };
-    refusal(wide, zero, k, t, a.len(), b.len(), d.len())
+    formula_refusals::refusal(wide, zero, k, t, a.len(), b.len(), d.len())
 }
 
 // The reply of reading a formula: a refusal's number, or the kind and the four counts.

@@ -1,12 +1,12 @@
 -- The outcome, case by case, in the terms of the code's answers.
 --   under                 5 to 9, of the lines under the first two; rest-2 .. rest-judged: refusals 2, 3, and what is left
---   number, judged-refused, judged-none, judged-is  refusals 6 to 9 by one number, and the formula
+--   judged-refused, judged-none, judged-is  refusals 6 to 9 by one number, and the formula
 --   Left                  what the attempt leaves in the buffers; Under: what the reading of the lines says; final-refused, final-formula: the whole call
 -- Assumes nothing.
 use Prim.Native.Nat.{ℕ, _-_, _<_, _≤_}
 use mathlib.Core.Path.{_≡_, refl, sym, ap, _∙_}
 use mathlib.Core.List.{List}
-use mathlib.Core.Bool.{Bool, true, false, cond, _||_}
+use mathlib.Core.Bool.{Bool, true, false, _||_}
 use mathlib.Core.Option.{Option, none, some}
 use native.Mathlib.Omega.{arith}
 use lib.Dec.{ltb}
@@ -25,6 +25,7 @@ use Rattle.heads.specs.Views.{bytesHead}
 use Rattle.heads.specs.declared.HeadRead.{HeadRead}
 use Rattle.heads.specs.declared.HeadRead.the-variants as hd
 use Rattle.lines.specs.Formula.{body}
+use Rattle.formula_refusals.specs.Number.{number}
 use Rattle.lines.specs.laws.Told.{Told}
 use Rattle.files.specs.Outcome.{Outcome, refused, formula, need, refuse, isList, judged, rest, outcome}
 use Rattle.files.specs.Lent.{reply, firstOf, secondOf, rowsOf}
@@ -70,10 +71,6 @@ module _ (kd : Option Kind) (p q r k : ℕ) (t : List ℕ) (la lb lr : ℕ) wher
       → restOf ≡ judged kind p q r k n m o la lb lr xs ys zs
   unfolding rest
   rest-judged kind n m o xs ys zs e f g i = rw (e, f, g, i)
-
--- the first of 6 to 9 that applies, by the four tests, or 0
-abbrev pub number : (w z many short : Bool) → ℕ
-number w z many short = cond w 6 (cond z 7 (cond many 8 (cond short 9 0)))
 
 abbrev refusals : (w z many short : Bool) → Outcome → Outcome
 refusals w z many short o = refuse 6 w (refuse 7 z (refuse 8 many (refuse 9 short o)))

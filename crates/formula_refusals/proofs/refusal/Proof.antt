@@ -1,9 +1,8 @@
--- `files::refusal` meets its contract. Assumes nothing.
-use borrow.Author.Needs.{needs}
+-- `formula_refusals::refusal` meets its contract. Assumes nothing.
 use mathlib.Core.Path.{sym, _∙_}
 use borrow.Author.Tests.{lt-ltb, le-ltb}
-use Rattle.files.proofs.refusal.Statement.{statement}
-use Rattle.files.proofs.refusal.Tie as tie
+use Rattle.formula_refusals.proofs.refusal.Statement.{statement}
+use Rattle.formula_refusals.proofs.refusal.Tie as tie
 
 returns : tie.Need-returns
 returns c = rw (c .if1 .taken)
@@ -15,7 +14,7 @@ returns-3 : tie.Need-returns-3
 returns-3 c = rw (c .before .before .if1 .left, c .before .if2 .left, lt-ltb 64 (c .before .before .before .args .k) (c .if3 .taken))
 
 too-short-requires : tie.Need-too-short-requires
-too-short-requires c κs = search needs
+too-short-requires c κs = tt
 
 returns-4 : tie.Need-returns-4
 returns-4 c = rw (c .before .before .before .before .if1 .left, c .before .before .before .if2 .left, le-ltb 64 (c .before .before .before .before .before .args .k) (c .before .before .if3 .left), sym (c .before .too-short .ensures) ∙ c .if4 .taken)

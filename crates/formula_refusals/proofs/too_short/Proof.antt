@@ -1,7 +1,7 @@
--- `files::too_short` meets its contract. Assumes nothing.
+-- `formula_refusals::too_short` meets its contract. Assumes nothing.
 use borrow.Author.Tests.{lt-ltb, le-ltb}
-use Rattle.files.proofs.too_short.Statement.{statement}
-use Rattle.files.proofs.too_short.Tie as tie
+use Rattle.formula_refusals.proofs.too_short.Statement.{statement}
+use Rattle.formula_refusals.proofs.too_short.Tie as tie
 
 returns : tie.Need-returns
 returns c = rw (lt-ltb (c .before .args .la) (c .before .args .k) (c .if1 .taken))
