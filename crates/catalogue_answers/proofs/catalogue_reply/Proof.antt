@@ -21,7 +21,7 @@ number-of-requires : tie.Need-number-of-requires
 number-of-requires c κs = tt
 
 slice-aggregate-catalogue : tie.Need-slice-aggregate-catalogue
-slice-aggregate-catalogue c = sym (length-replicate {A = ℕ} 4096 0)
+slice-aggregate-catalogue c = sym (length-replicate {A = ℕ} _ 0)
 
 catalogue-requires : tie.Need-catalogue-requires
 catalogue-requires c κs = tt
@@ -36,7 +36,7 @@ enum-known-said-2 : tie.Need-enum-known-said-2
 enum-known-said-2 c = c .match .keys2
 
 slice-aggregate-catalogue-text : tie.Need-slice-aggregate-catalogue-text
-slice-aggregate-catalogue-text c = sym (c .before .before .before .before .before .catalogue .kept .1 .1 .1 .1 .1 .1 .1 .0 ∙ length-replicate {A = ℕ} 4096 0)
+slice-aggregate-catalogue-text c = sym (c .before .before .before .before .before .catalogue .kept .1 .1 .1 .1 .1 .1 .1 .0 ∙ length-replicate {A = ℕ} _ 0)
 
 catalogue-text-requires : tie.Need-catalogue-text-requires
 catalogue-text-requires c κs = reply-records (c .before .before .before .before .before .before .before .before .before .before .before .before .args .kind) (c .before .before .before .before .before .before .before .before .before .before .before .before .args .p) (c .before .before .before .before .before .before .before .before .before .before .before .before .args .q) (c .before .before .before .before .before .before .before .before .before .before .before .before .args .r) (c .before .before .before .before .before .before .before .before .before .before .before .before .args .k) (c .before .before .before .before .before .before .before .before .before .before .before .before .args .gs .now) (c .before .before .before .before .before .before .before .before .before .before .before .before .args .ts .now) _ (c .before .before .before .before .before .before .catalogue .result) _ (record { named = c .before .before .before .before .before .before .before .before .number-of .ensures; answer = c .before .before .before .before .before .before .catalogue .ensures .0; size = c .before .before .before .before .before .before .catalogue .kept .1 .1 .1 .1 .1 .1 .1 .0 }) (c .before .before .before .said2 .given .0 .0) (c .before .before .before .said2 .given .0 .1 .0) (c .before .before .before .said2 .given .0 .1 .1 .0) (c .before .before .before .said2 .given .1)

@@ -18,7 +18,7 @@ roomy : {n : ℕ} → n ≡ 278528 → 32 ≤ n
 roomy h = omega arith
 
 slice-aggregate-formulae : tie.Need-slice-aggregate-formulae
-slice-aggregate-formulae c = sym (length-replicate {A = ℕ} 4096 0)
+slice-aggregate-formulae c = sym (length-replicate {A = ℕ} _ 0)
 
 formulae-requires : tie.Need-formulae-requires
 formulae-requires c κs = tt
@@ -33,7 +33,7 @@ enum-known-said-2 : tie.Need-enum-known-said-2
 enum-known-said-2 c = c .match .keys2
 
 slice-aggregate-formulae-text : tie.Need-slice-aggregate-formulae-text
-slice-aggregate-formulae-text c = sym (c .before .before .before .before .before .formulae .kept .1 .1 .1 .1 .1 .1 .1 .0 ∙ length-replicate {A = ℕ} 4096 0)
+slice-aggregate-formulae-text c = sym (c .before .before .before .before .before .formulae .kept .1 .1 .1 .1 .1 .1 .1 .0 ∙ length-replicate {A = ℕ} _ 0)
 
 formulae-text-requires : tie.Need-formulae-text-requires
 formulae-text-requires c κs = said-records (c .before .before .before .before .before .before .before .before .before .before .before .before .args .entry) (c .before .before .before .before .before .before .before .before .before .before .before .before .args .number) (c .before .before .before .before .before .before .before .before .before .before .before .before .args .p) (c .before .before .before .before .before .before .before .before .before .before .before .before .args .q) (c .before .before .before .before .before .before .before .before .before .before .before .before .args .r) (c .before .before .before .before .before .before .before .before .before .before .before .before .args .gs .now) (c .before .before .before .before .before .before .before .before .before .before .before .before .args .ts .now) (c .before .before .before .before .before .before .before .before .before .before .before .before .args .rows .now) (c .before .before .before .before .before .before .before .before .before .before .before .before .args .t) (c .before .before .before .before .before .before .formulae .result) _ (record { counts = c .before .before .before .before .before .before .before .before .before .before .before .before .pre .1; answer = c .before .before .before .before .before .before .formulae .ensures .0; size = c .before .before .before .before .before .before .formulae .kept .1 .1 .1 .1 .1 .1 .1 .0 }) (c .before .before .before .said2 .given .0 .0) true (said-all (c .before .before .before .before .before .before .before .before .before .before .before .before .args .entry) (c .before .before .before .before .before .before .before .before .before .before .before .before .args .number) (c .before .before .before .before .before .before .before .before .before .before .before .before .args .p) (c .before .before .before .before .before .before .before .before .before .before .before .before .args .q) (c .before .before .before .before .before .before .before .before .before .before .before .before .args .r) (c .before .before .before .before .before .before .before .before .before .before .before .before .args .gs .now) (c .before .before .before .before .before .before .before .before .before .before .before .before .args .ts .now) (c .before .before .before .before .before .before .before .before .before .before .before .before .args .rows .now) (c .before .before .before .before .before .before .before .before .before .before .before .before .args .t) (c .before .before .before .before .before .before .formulae .result) _ (record { counts = c .before .before .before .before .before .before .before .before .before .before .before .before .pre .1; answer = c .before .before .before .before .before .before .formulae .ensures .0; size = c .before .before .before .before .before .before .formulae .kept .1 .1 .1 .1 .1 .1 .1 .0 }) (c .before .before .before .said2 .given .0 .0) (c .before .before .before .said2 .given .1))
@@ -42,7 +42,7 @@ enum-known-said-3 : tie.Need-enum-known-said-3
 enum-known-said-3 c = c .match .keys3
 
 slice-aggregate-formulae-text-2 : tie.Need-slice-aggregate-formulae-text-2
-slice-aggregate-formulae-text-2 c = sym (c .before .before .before .before .before .formulae .kept .1 .1 .1 .1 .1 .1 .1 .0 ∙ length-replicate {A = ℕ} 4096 0)
+slice-aggregate-formulae-text-2 c = sym (c .before .before .before .before .before .formulae .kept .1 .1 .1 .1 .1 .1 .1 .0 ∙ length-replicate {A = ℕ} _ 0)
 
 formulae-text-requires-2 : tie.Need-formulae-text-requires-2
 formulae-text-requires-2 c κs = said-records (c .before .before .before .before .before .before .before .before .before .before .before .before .args .entry) (c .before .before .before .before .before .before .before .before .before .before .before .before .args .number) (c .before .before .before .before .before .before .before .before .before .before .before .before .args .p) (c .before .before .before .before .before .before .before .before .before .before .before .before .args .q) (c .before .before .before .before .before .before .before .before .before .before .before .before .args .r) (c .before .before .before .before .before .before .before .before .before .before .before .before .args .gs .now) (c .before .before .before .before .before .before .before .before .before .before .before .before .args .ts .now) (c .before .before .before .before .before .before .before .before .before .before .before .before .args .rows .now) (c .before .before .before .before .before .before .before .before .before .before .before .before .args .t) (c .before .before .before .before .before .before .formulae .result) _ (record { counts = c .before .before .before .before .before .before .before .before .before .before .before .before .pre .1; answer = c .before .before .before .before .before .before .formulae .ensures .0; size = c .before .before .before .before .before .before .formulae .kept .1 .1 .1 .1 .1 .1 .1 .0 }) (c .before .before .before .said3 .given .0 .0) false (said-more (c .before .before .before .before .before .before .before .before .before .before .before .before .args .entry) (c .before .before .before .before .before .before .before .before .before .before .before .before .args .number) (c .before .before .before .before .before .before .before .before .before .before .before .before .args .p) (c .before .before .before .before .before .before .before .before .before .before .before .before .args .q) (c .before .before .before .before .before .before .before .before .before .before .before .before .args .r) (c .before .before .before .before .before .before .before .before .before .before .before .before .args .gs .now) (c .before .before .before .before .before .before .before .before .before .before .before .before .args .ts .now) (c .before .before .before .before .before .before .before .before .before .before .before .before .args .rows .now) (c .before .before .before .before .before .before .before .before .before .before .before .before .args .t) (c .before .before .before .before .before .before .formulae .result) _ (record { counts = c .before .before .before .before .before .before .before .before .before .before .before .before .pre .1; answer = c .before .before .before .before .before .before .formulae .ensures .0; size = c .before .before .before .before .before .before .formulae .kept .1 .1 .1 .1 .1 .1 .1 .0 }) (c .before .before .before .said3 .given .0 .0) (c .before .before .before .said3 .given .1))

@@ -20,13 +20,13 @@ roomy : {n : ℕ} → n ≡ 196608 → 32 ≤ n
 roomy h = omega arith
 
 slice-aggregate-read-input : tie.Need-slice-aggregate-read-input
-slice-aggregate-read-input c = sym (length-replicate {A = ℕ} 4096 0)
+slice-aggregate-read-input c = sym (length-replicate {A = ℕ} _ 0)
 
 slice-aggregate-read-input-2 : tie.Need-slice-aggregate-read-input-2
-slice-aggregate-read-input-2 c = sym (length-replicate {A = ℕ} 4096 0)
+slice-aggregate-read-input-2 c = sym (length-replicate {A = ℕ} _ 0)
 
 read-input-requires : tie.Need-read-input-requires
-read-input-requires c κs = (length-replicate {A = ℕ} 4096 0, length-replicate {A = ℕ} 4096 0)
+read-input-requires c κs = (length-replicate {A = ℕ} _ 0, length-replicate {A = ℕ} _ 0)
 
 enum-known-e : tie.Need-enum-known-e
 enum-known-e c = c .match .keys1

@@ -22,7 +22,7 @@ number-of-requires : tie.Need-number-of-requires
 number-of-requires c κs = tt
 
 slice-aggregate-rank : tie.Need-slice-aggregate-rank
-slice-aggregate-rank c = sym (length-replicate {A = ℕ} 4096 0)
+slice-aggregate-rank c = sym (length-replicate {A = ℕ} _ 0)
 
 rank-requires : tie.Need-rank-requires
 rank-requires c κs = tt
@@ -37,7 +37,7 @@ enum-known-said-2 : tie.Need-enum-known-said-2
 enum-known-said-2 c = c .match .keys2
 
 slice-aggregate-put-formula : tie.Need-slice-aggregate-put-formula
-slice-aggregate-put-formula c = sym (c .before .before .before .before .before .rank .kept .1 .1 .1 .1 .1 .1 .1 .0 ∙ length-replicate {A = ℕ} 4096 0)
+slice-aggregate-put-formula c = sym (c .before .before .before .before .before .rank .kept .1 .1 .1 .1 .1 .1 .1 .0 ∙ length-replicate {A = ℕ} _ 0)
 
 put-formula-requires : tie.Need-put-formula-requires
 put-formula-requires c κs = (c .before .before .before .before .before .before .rank .kept .1 .1 .1 .1 .1 .1 .1 .0, said-room (c .before .before .before .before .before .before .before .before .before .before .before .before .args .kind) (c .before .before .before .before .before .before .before .before .before .before .before .before .args .p) (c .before .before .before .before .before .before .before .before .before .before .before .before .args .q) (c .before .before .before .before .before .before .before .before .before .before .before .before .args .r) (c .before .before .before .before .before .before .before .before .before .before .before .before .args .k) (c .before .before .before .before .before .before .before .before .before .before .before .before .args .gs .now) (c .before .before .before .before .before .before .before .before .before .before .before .before .args .ts .now) _ (c .before .before .before .before .before .before .before .before .before .before .before .before .args .t) (c .before .before .before .before .before .before .before .before .before .before .before .before .args .ell) (c .before .before .before .before .before .before .rank .result) _ (record { named = c .before .before .before .before .before .before .before .before .number-of .ensures; measured = c .before .before .before .before .before .before .before .before .before .before .before .before .pre .1; answer = c .before .before .before .before .before .before .rank .ensures .0; size = c .before .before .before .before .before .before .rank .kept .1 .1 .1 .1 .1 .1 .1 .0 }) (c .before .before .before .said2 .given .0 .0) (c .before .before .before .said2 .given .1))
