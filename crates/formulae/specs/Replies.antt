@@ -13,8 +13,7 @@ use native.Mathlib.Omega.{arith}
 use lib.ListN.{length, take}
 use lib.Seq.{length-take-le}
 use lib.Dec.{ltb}
-use borrow.Author.Tests.{lt-ltb, le-ltb}
-use Rattle.kinds.specs.SizeLaws.{not-no}
+use borrow.Author.Tests.{lt-ltb, le-ltb, not-false}
 use Rattle.kinds.specs.Refusal.{Answer, refused, accepted, refuse, follow}
 use Rattle.problems.specs.Problem.{Problem, problem, posed}
 use Rattle.problems.specs.declared.Posed.{Posed}
@@ -81,11 +80,11 @@ module _ (gens targets rows old : List ℕ) where
         no false q z = near false q
 
     pub is-accepted : not t ≡ false → Some targets → Accepted gens targets rows
-    is-accepted e S = record { entry = is-entry gens targets rows .0 (sym (R .is) ∙ not-no t e); few = R .room (not-no t e); some-target = S .some-target; targets-few = S .few }
+    is-accepted e S = record { entry = is-entry gens targets rows .0 (sym (R .is) ∙ not-false t e); few = R .room (not-false t e); some-target = S .some-target; targets-few = S .few }
 
     pub given-yes : not t ≡ false → (r : Reply) (after : List ℕ) → Told gens targets rows old r after → Given gens targets rows old r after
     given-yes e r after T =
-        let q = near true (not-no t e) in
+        let q = near true (not-false t e) in
         record {
           replied = (
             q ∙ T .answer,

@@ -23,14 +23,6 @@ pub is-not : (t : Bool) → (t ≡ true → ⊥) → t ≡ false
 is-not true h = absurd (h refl)
 is-not false h = refl
 
-pub not-yes : (t : Bool) → not t ≡ true → t ≡ false
-not-yes true e = absurd (false≢true e)
-not-yes false e = refl
-
-pub not-no : (t : Bool) → not t ≡ false → t ≡ true
-not-no true e = refl
-not-no false e = absurd (true≢false e)
-
 pub given-yes : {A : Type 0} (t : Bool) (x : A) → t ≡ true → given t x ≡ some x
 given-yes t x e = ap (λ (b : Bool). given b x) e
 

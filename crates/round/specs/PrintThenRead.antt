@@ -7,12 +7,10 @@ use mathlib.Core.List.{List}
 use mathlib.Core.Bool.{false}
 use native.Mathlib.Omega.{arith}
 use lib.ListN.{length}
-use lib.Pow.{pow-mono}
 use borrow.Author.Tests.{le-ltb}
 use Rattle.kinds.specs.declared.Kind.{Kind}
 use Rattle.kinds.specs.SizeLaws.{Bounds, sizes-bounds}
-use Rattle.words.specs.Masks.{wide}
-use Rattle.words.specs.laws.Masks.{Below, wide-below}
+use Rattle.words.specs.laws.Masks.{wide-words}
 use Rattle.files.specs.Outcome.{outcome, formula}
 use Rattle.round.specs.FileText.{fileText}
 use Rattle.files.specs.Sound.{Sound, Room}
@@ -24,7 +22,7 @@ pub print-then-read : (kind : Kind) (p q r k : ℕ) (xs ys zs : List ℕ) (la lb
 print-then-read kind p q r k xs ys zs la lb lr S R =
     ap (λ (j : ℕ). outcome (fileText kind p q r j xs ys zs) la lb lr) (sym (S .firsts))
     ∙ file-back kind p q r (S .n) (S .m) la lb lr xs ys zs (S .not-list) (S .fits) (omega (arith, S .firsts, S .few)) (S .firsts ∙ sym (S .seconds))
-    (words (S .n) xs (B .fits .first-most) (S .narrow-firsts)) (words (S .m) ys (B .fits .second-most) (S .narrow-seconds)) (words k zs (S .few) (S .narrow-rows))
+    (wide-words (S .n) xs (B .fits .first-most) (S .narrow-firsts)) (wide-words (S .m) ys (B .fits .second-most) (S .narrow-seconds)) (wide-words k zs (S .few) (S .narrow-rows))
     ∙ judged-is kind p q r (length xs) (S .n) (S .m) (length zs) la lb lr xs ys zs
     (rw (S .narrow-firsts, S .narrow-seconds, S .firsts, S .narrow-rows)) (rw (S .nonzero-firsts, S .nonzero-seconds)) (omega (arith, S .firsts, S .few))
     (rw (S .firsts, le-ltb la k (R .for-firsts), le-ltb lb k (R .for-seconds), le-ltb lr (length zs) (R .for-rows)))
@@ -32,6 +30,3 @@ print-then-read kind p q r k xs ys zs la lb lr S R =
   where
     B : Bounds (S .n) (S .m) (length zs)
     B = sizes-bounds kind p q r (S .n, S .m, length zs) (S .fits)
-
-    words : (n : ℕ) (l : List ℕ) → n ≤ 64 → wide n l ≡ false → Below (2 ^ 64) l
-    words n l h e = wide-below n (2 ^ 64) l (pow-mono {i = n} h) e

@@ -10,12 +10,11 @@ use mathlib.Core.Option.{some}
 use native.Mathlib.Omega.{arith}
 use lib.ListN.{length}
 use lib.Dec.{eqb}
-use borrow.Author.Tests.{ltb-false, eqb-true}
+use borrow.Author.Tests.{ltb-false, eqb-true, not-false}
 use Rattle.linear.specs.Basis.{dim}
 use Rattle.linear.specs.Word.{word}
 use Rattle.linear.specs.laws.Dimension.{dim-length}
 use Rattle.kinds.specs.declared.Kind.{Kind}
-use Rattle.kinds.specs.SizeLaws.{not-no}
 use Rattle.kinds.specs.Kinds.{numberOf}
 use Rattle.kinds.specs.Refusal.{Answer, accepted, follow}
 use Rattle.problems.specs.Problem.{Problem, posed}
@@ -39,7 +38,7 @@ pub record Sound (a : Purpose) (kd : Kind) (p q r k : ℕ) (gs ts : List ℕ) : 
 -- an allowed k has few digits
 few-count : (a : Purpose) (k : ℕ) (ts : List ℕ) → beyond a k ts ≡ false → length ts ≤ 64 → k < 10000
 few-count purpose.Catalogue k ts e h = omega (arith, ltb-false (dim word ts + 6) k e, dim-length word ts)
-few-count purpose.Rank k ts e h = omega (arith, eqb-true k 0 (not-no (eqb k 0) e))
+few-count purpose.Rank k ts e h = omega (arith, eqb-true k 0 (not-false (eqb k 0) e))
 
 module _ (a : Purpose) (kd : Kind) (p q r k u v : ℕ) (gs ts : List ℕ) (S : Sound a kd p q r k gs ts) (hg : length gs ≤ u) (ht : length ts ≤ v) where
   F : Forms kd p q r gs ts

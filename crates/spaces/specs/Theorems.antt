@@ -10,9 +10,8 @@ use mathlib.Core.Option.{some}
 use Prim.Native.Nat.{ℕ, _+_, _*_, _^_, _<_}
 use lib.ListN.{length, take, drop}
 use lib.Dec.{ltb}
-use borrow.Author.Tests.{eqb-true, eq-eqb}
+use borrow.Author.Tests.{eqb-true, eq-eqb, not-false}
 use Rattle.kinds.specs.Refusal.{accepted, refuse}
-use Rattle.kinds.specs.SizeLaws.{not-no}
 use Rattle.kinds.specs.RefusalLaws.{accepted-inj, follow-inv, refuse-inv}
 use Rattle.forms.specs.Row.{rowForm}
 use Rattle.problems.specs.Problem.{Problem, posed}
@@ -85,7 +84,7 @@ formulae-means number p q r gs ts rows old f e =
     let x : Problem = i .0 in
     let j = refuse-inv 8 (ltb (dim word (x .targets) + 6) (length rows)) (refuse 10 (not (isEntry (x .generators) (x .targets) rows)) (accepted (listing x rows old))) f (i .2) in
     let k = refuse-inv 10 (not (isEntry (x .generators) (x .targets) rows)) (accepted (listing x rows old)) f (j .1) in
-    let E = is-entry (x .generators) (x .targets) rows .0 (not-no (isEntry (x .generators) (x .targets) rows) (k .0)) in
+    let E = is-entry (x .generators) (x .targets) rows .0 (not-false (isEntry (x .generators) (x .targets) rows) (k .0)) in
     (x, i .1, j .0, subst (FormulaeMeans (x .generators) (x .targets) rows old) (accepted-inj (listing x rows old) f (k .1)) (listing-means x rows E old))
 
 -- Rank says the first formula of the first entry's space. The rows of that space are accepted, and the list for them begins with Rank's formula.

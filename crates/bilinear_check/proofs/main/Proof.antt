@@ -1,13 +1,11 @@
 -- `bilinear_check::main`: what is printed is within its buffer. Assumes nothing.
-use mathlib.Core.Path.{_≡_, sym, subst, _∙_}
-use Prim.Native.Nat.{ℕ, _≤_}
-use lib.ListN.{length, replicate, length-replicate}
+use mathlib.Core.Path.{sym, _∙_}
+use Prim.Native.Nat.{ℕ}
+use lib.ListN.{length-replicate}
 use lib.Seq.{length-take-le}
+use Rattle.words.specs.laws.Buffers.{at-most}
 use Rattle.bilinear_check.proofs.main.Statement.{statement}
 use Rattle.bilinear_check.proofs.main.Tie as tie
-
-fits : {m n : ℕ} → m ≡ length (replicate {A = ℕ} 256 0) → n ≤ 256 → n ≤ m
-fits {m} {n} k h = subst (λ (e : ℕ). n ≤ e) (sym (k ∙ length-replicate {A = ℕ} 256 0)) h
 
 slice-aggregate-read-full : tie.Need-slice-aggregate-read-full
 slice-aggregate-read-full c = sym (length-replicate {A = ℕ} 65537 0)
@@ -28,10 +26,10 @@ check-program-requires : tie.Need-check-program-requires
 check-program-requires c κs = length-replicate {A = ℕ} 256 0
 
 array-share-prefix-out : tie.Need-array-share-prefix-out
-array-share-prefix-out c = let p = c .before .check-program in fits (p .kept .1 .0) (p .ensures .1)
+array-share-prefix-out c = let p = c .before .check-program in at-most (p .kept .1 .0 ∙ length-replicate {A = ℕ} 256 0) (p .ensures .1)
 
 slice-aggregate-write-all : tie.Need-slice-aggregate-write-all
-slice-aggregate-write-all c = let p = c .before .before .check-program in sym (length-take-le (p .result) (p .last .1 .0) (fits (p .kept .1 .0) (p .ensures .1)))
+slice-aggregate-write-all c = let p = c .before .before .check-program in sym (length-take-le (p .result) (p .last .1 .0) (at-most (p .kept .1 .0 ∙ length-replicate {A = ℕ} 256 0) (p .ensures .1)))
 
 write-all-requires : tie.Need-write-all-requires
 write-all-requires c κs = tt

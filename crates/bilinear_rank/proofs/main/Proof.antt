@@ -1,13 +1,11 @@
 -- `bilinear_rank::main`: what is printed is within its page. Assumes nothing.
-use mathlib.Core.Path.{_≡_, sym, subst, _∙_}
-use Prim.Native.Nat.{ℕ, _≤_}
-use lib.ListN.{length, replicate, length-replicate}
+use mathlib.Core.Path.{sym, _∙_}
+use Prim.Native.Nat.{ℕ}
+use lib.ListN.{length-replicate}
 use lib.Seq.{length-take-le}
+use Rattle.words.specs.laws.Buffers.{at-most}
 use Rattle.bilinear_rank.proofs.main.Statement.{statement}
 use Rattle.bilinear_rank.proofs.main.Tie as tie
-
-fits : {m n : ℕ} → m ≡ length (replicate {A = ℕ} 196608 0) → n ≤ 196608 → n ≤ m
-fits {m} {n} k h = subst (λ (e : ℕ). n ≤ e) (sym (k ∙ length-replicate {A = ℕ} 196608 0)) h
 
 slice-aggregate-read-full : tie.Need-slice-aggregate-read-full
 slice-aggregate-read-full c = sym (length-replicate {A = ℕ} 65537 0)
@@ -28,10 +26,10 @@ rank-program-requires : tie.Need-rank-program-requires
 rank-program-requires c κs = length-replicate {A = ℕ} 196608 0
 
 array-share-prefix-page : tie.Need-array-share-prefix-page
-array-share-prefix-page c = let p = c .before .rank-program in fits (p .kept .1 .0) (p .ensures .1)
+array-share-prefix-page c = let p = c .before .rank-program in at-most (p .kept .1 .0 ∙ length-replicate {A = ℕ} 196608 0) (p .ensures .1)
 
 slice-aggregate-write-all : tie.Need-slice-aggregate-write-all
-slice-aggregate-write-all c = let p = c .before .before .rank-program in sym (length-take-le (p .result) (p .last .1 .0) (fits (p .kept .1 .0) (p .ensures .1)))
+slice-aggregate-write-all c = let p = c .before .before .rank-program in sym (length-take-le (p .result) (p .last .1 .0) (at-most (p .kept .1 .0 ∙ length-replicate {A = ℕ} 196608 0) (p .ensures .1)))
 
 write-all-requires : tie.Need-write-all-requires
 write-all-requires c κs = tt

@@ -1,13 +1,11 @@
 -- `check_files::run`: what is printed is within its buffer. Assumes nothing.
-use mathlib.Core.Path.{_≡_, refl, sym, subst, _∙_}
-use Prim.Native.Nat.{ℕ, _≤_}
-use lib.ListN.{length, replicate, length-replicate}
+use mathlib.Core.Path.{refl, sym, _∙_}
+use Prim.Native.Nat.{ℕ}
+use lib.ListN.{length-replicate}
 use lib.Seq.{length-take-le}
+use Rattle.words.specs.laws.Buffers.{at-most}
 use Rattle.check_files.proofs.run.Statement.{statement}
 use Rattle.check_files.proofs.run.Tie as tie
-
-fits : {m n : ℕ} → m ≡ length (replicate {A = ℕ} 256 0) → n ≤ 256 → n ≤ m
-fits {m} {n} k h = subst (λ (e : ℕ). n ≤ e) (sym (k ∙ length-replicate {A = ℕ} 256 0)) h
 
 open-read-requires : tie.Need-open-read-requires
 open-read-requires c κs = tt
@@ -49,10 +47,10 @@ write-all-requires-2 : tie.Need-write-all-requires-2
 write-all-requires-2 c κs = tt
 
 array-share-prefix-out : tie.Need-array-share-prefix-out
-array-share-prefix-out c = let p = c .before .before .before .before .check-program in fits (p .kept .1 .0) (p .ensures .1)
+array-share-prefix-out c = let p = c .before .before .before .before .check-program in at-most (p .kept .1 .0 ∙ length-replicate {A = ℕ} 256 0) (p .ensures .1)
 
 slice-aggregate-write-all-2 : tie.Need-slice-aggregate-write-all-2
-slice-aggregate-write-all-2 c = let p = c .before .before .before .before .before .check-program in sym (length-take-le (p .result) (p .last .1 .0) (fits (p .kept .1 .0) (p .ensures .1)))
+slice-aggregate-write-all-2 c = let p = c .before .before .before .before .before .check-program in sym (length-take-le (p .result) (p .last .1 .0) (at-most (p .kept .1 .0 ∙ length-replicate {A = ℕ} 256 0) (p .ensures .1)))
 
 write-all-requires-3 : tie.Need-write-all-requires-3
 write-all-requires-3 c κs = tt

@@ -3,7 +3,8 @@ use mathlib.Core.Path.{_≡_, sym, _∙_}
 use mathlib.Core.Bool.{true, false, true≢false, false≢true}
 use native.Mathlib.Omega.{arith}
 use borrow.Author.Needs.{needs}
-use Rattle.kinds.specs.SizeLaws.{not-yes, not-no, list-is, list-not}
+use borrow.Author.Tests.{not-true, not-false}
+use Rattle.kinds.specs.SizeLaws.{list-is, list-not}
 use Rattle.kinds.proofs.list_sizes.Statement.{statement}
 use Rattle.kinds.proofs.list_sizes.Tie as tie
 use Rattle.kinds.proofs.list_sizes.Reads as reads
@@ -17,13 +18,13 @@ fits-requires : tie.Need-fits-requires
 fits-requires c κs = search needs
 
 returns-2 : tie.Need-returns-2
-returns-2 c = list-not (c .before .before .before .args .p) (c .before .before .before .args .q) (c .before .before .before .args .r) (λ a b d. true≢false (sym b ∙ sym (c .before .fits2 .ensures) ∙ not-yes (c .before .fits2 .result) (c .if2 .taken)))
+returns-2 c = list-not (c .before .before .before .args .p) (c .before .before .before .args .q) (c .before .before .before .args .r) (λ a b d. true≢false (sym b ∙ sym (c .before .fits2 .ensures) ∙ not-true (c .before .fits2 .result) (c .if2 .taken)))
 
 fits-requires-2 : tie.Need-fits-requires-2
 fits-requires-2 c κs = search needs
 
 returns-3 : tie.Need-returns-3
-returns-3 c = list-is (c .before .before .before .before .before .args .p) (c .before .before .before .before .before .args .q) (c .before .before .before .before .before .args .r) (omega arith) (sym (c .before .before .before .fits2 .ensures) ∙ not-no (c .before .before .before .fits2 .result) (c .before .before .if2 .left)) (sym (c .before .fits3 .ensures) ∙ c .if3 .taken)
+returns-3 c = list-is (c .before .before .before .before .before .args .p) (c .before .before .before .before .before .args .q) (c .before .before .before .before .before .args .r) (omega arith) (sym (c .before .before .before .fits2 .ensures) ∙ not-false (c .before .before .before .fits2 .result) (c .before .before .if2 .left)) (sym (c .before .fits3 .ensures) ∙ c .if3 .taken)
 
 returns-4 : tie.Need-returns-4
 returns-4 c = list-not (c .before .before .before .before .before .args .p) (c .before .before .before .before .before .args .q) (c .before .before .before .before .before .args .r) (λ a b d. true≢false (sym d ∙ sym (c .before .fits3 .ensures) ∙ c .if3 .left))

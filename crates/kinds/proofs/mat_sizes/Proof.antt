@@ -4,7 +4,8 @@ use mathlib.Core.Bool.{true, false, true≢false, false≢true}
 use Prim.Native.Nat.{_*_}
 use native.Mathlib.Omega.{arith}
 use borrow.Author.Needs.{needs}
-use Rattle.kinds.specs.SizeLaws.{not-yes, not-no, within-yes, within-of, mat-is, mat-not, mat-within}
+use borrow.Author.Tests.{not-true, not-false}
+use Rattle.kinds.specs.SizeLaws.{within-yes, within-of, mat-is, mat-not, mat-within}
 use Rattle.kinds.proofs.mat_sizes.Statement.{statement}
 use Rattle.kinds.proofs.mat_sizes.Tie as tie
 use Rattle.kinds.proofs.mat_sizes.Reads as reads
@@ -15,19 +16,19 @@ fits-requires : tie.Need-fits-requires
 fits-requires c κs = search needs
 
 returns : tie.Need-returns
-returns c = mat-not (c .before .before .args .p) (c .before .before .args .q) (c .before .before .args .r) (λ M. true≢false (sym (within-of (c .before .before .args .p) (c .before .before .args .q) (M .left)) ∙ sym (c .before .fits2 .ensures) ∙ not-yes (c .before .fits2 .result) (c .if1 .taken)))
+returns c = mat-not (c .before .before .args .p) (c .before .before .args .q) (c .before .before .args .r) (λ M. true≢false (sym (within-of (c .before .before .args .p) (c .before .before .args .q) (M .left)) ∙ sym (c .before .fits2 .ensures) ∙ not-true (c .before .fits2 .result) (c .if1 .taken)))
 
 fits-requires-2 : tie.Need-fits-requires-2
 fits-requires-2 c κs = search needs
 
 returns-2 : tie.Need-returns-2
-returns-2 c = mat-not (c .before .before .before .before .args .p) (c .before .before .before .before .args .q) (c .before .before .before .before .args .r) (λ M. true≢false (sym (within-of (c .before .before .before .before .args .q) (c .before .before .before .before .args .r) (M .right)) ∙ sym (c .before .fits3 .ensures) ∙ not-yes (c .before .fits3 .result) (c .if2 .taken)))
+returns-2 c = mat-not (c .before .before .before .before .args .p) (c .before .before .before .before .args .q) (c .before .before .before .before .args .r) (λ M. true≢false (sym (within-of (c .before .before .before .before .args .q) (c .before .before .before .before .args .r) (M .right)) ∙ sym (c .before .fits3 .ensures) ∙ not-true (c .before .fits3 .result) (c .if2 .taken)))
 
 mul-n : tie.Need-mul-n
-mul-n c = let f = within-yes (c .before .before .before .before .args .p) (c .before .before .before .before .args .q) (sym (c .before .before .before .fits2 .ensures) ∙ not-no (c .before .before .before .fits2 .result) (c .before .before .if1 .left)) in omega arith
+mul-n c = let f = within-yes (c .before .before .before .before .args .p) (c .before .before .before .before .args .q) (sym (c .before .before .before .fits2 .ensures) ∙ not-false (c .before .before .before .fits2 .result) (c .before .before .if1 .left)) in omega arith
 
 mul-m : tie.Need-mul-m
-mul-m c = let f = within-yes (c .before .before .before .before .args .q) (c .before .before .before .before .args .r) (sym (c .before .fits3 .ensures) ∙ not-no (c .before .fits3 .result) (c .if2 .left)) in omega arith
+mul-m c = let f = within-yes (c .before .before .before .before .args .q) (c .before .before .before .before .args .r) (sym (c .before .fits3 .ensures) ∙ not-false (c .before .fits3 .result) (c .if2 .left)) in omega arith
 
 fits-requires-3 : tie.Need-fits-requires-3
 fits-requires-3 c κs = search needs

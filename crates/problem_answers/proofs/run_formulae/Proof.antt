@@ -1,13 +1,11 @@
 -- `problem_answers::run_formulae`: what is written is within its page. Assumes nothing.
-use mathlib.Core.Path.{_≡_, refl, sym, subst, _∙_}
-use Prim.Native.Nat.{ℕ, _≤_}
+use mathlib.Core.Path.{refl, sym, _∙_}
+use Prim.Native.Nat.{ℕ}
 use lib.ListN.{length-replicate}
 use lib.Seq.{length-take-le}
+use Rattle.words.specs.laws.Buffers.{at-most}
 use Rattle.problem_answers.proofs.run_formulae.Statement.{statement}
 use Rattle.problem_answers.proofs.run_formulae.Tie as tie
-
-fits : {k m n : ℕ} → m ≡ k → n ≤ k → n ≤ m
-fits {n = n} e h = subst (λ (k : ℕ). n ≤ k) (sym e) h
 
 slice-aggregate-start : tie.Need-slice-aggregate-start
 slice-aggregate-start c = sym (length-replicate {A = ℕ} 4096 0)
@@ -22,10 +20,10 @@ start-requires : tie.Need-start-requires
 start-requires c κs = let words = length-replicate {A = ℕ} 4096 0 in (words, words, refl, c .before .before .before .before .before .before .pre)
 
 slice-reshare-prefix-write-all : tie.Need-slice-reshare-prefix-write-all
-slice-reshare-prefix-write-all c = let p = c .before .before .before .before .before .start in fits (p .kept .1 .1 .1 .1 .0 ∙ c .before .before .before .before .before .before .before .before .before .before .before .before .pre) (p .ensures .room)
+slice-reshare-prefix-write-all c = let p = c .before .before .before .before .before .start in at-most (p .kept .1 .1 .1 .1 .0 ∙ c .before .before .before .before .before .before .before .before .before .before .before .before .pre) (p .ensures .room)
 
 slice-aggregate-write-all : tie.Need-slice-aggregate-write-all
-slice-aggregate-write-all c = let p = c .before .before .before .before .before .before .start in sym (length-take-le (p .result .head) (p .last .1 .1 .1 .1 .0) (fits (p .kept .1 .1 .1 .1 .0 ∙ c .before .before .before .before .before .before .before .before .before .before .before .before .before .pre) (p .ensures .room)))
+slice-aggregate-write-all c = let p = c .before .before .before .before .before .before .start in sym (length-take-le (p .result .head) (p .last .1 .1 .1 .1 .0) (at-most (p .kept .1 .1 .1 .1 .0 ∙ c .before .before .before .before .before .before .before .before .before .before .before .before .before .pre) (p .ensures .room)))
 
 write-all-requires : tie.Need-write-all-requires
 write-all-requires c κs = tt

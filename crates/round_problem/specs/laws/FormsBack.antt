@@ -10,7 +10,6 @@ use mathlib.Core.Bool.{Bool, true, false, _&&_, true≢false}
 use mathlib.Core.Option.{Option, some}
 use native.Mathlib.Omega.{arith}
 use lib.ListN.{length}
-use lib.Pow.{pow-mono}
 use lib.Dec.{leb}
 use borrow.Author.Tests.{le-leb}
 use Rattle.kinds.specs.declared.Kind.{Kind}
@@ -19,8 +18,7 @@ use Rattle.kinds.specs.Kinds.{numberOf, kindNumbered, kind-numbered}
 use Rattle.kinds.specs.Sizes.{sizes, listSizes, within}
 use Rattle.kinds.specs.SizeLaws.{given-yes, given-some, sizes-bounds}
 use Rattle.kinds.specs.Refusal.{Answer, accepted}
-use Rattle.words.specs.Masks.{wide}
-use Rattle.words.specs.laws.Masks.{Below, wide-below}
+use Rattle.words.specs.laws.Masks.{wide-words}
 use Rattle.maps.specs.Generators.{generatorCount, countOf}
 use Rattle.problems.specs.Problem.{Problem, posed}
 use Rattle.problems.specs.Theorems.{IsMap, posed-map, posed-list}
@@ -78,13 +76,10 @@ list-bits p q r z e =
     let u : p ≡ z .0 = ap (λ (x : ℕ × ℕ × ℕ). x .0) (g .1) in
     (let s = b .fits .first-most in omega arith)
 
-words : (n : ℕ) (l : List ℕ) → n ≤ 64 → wide n l ≡ false → Below (2 ^ 64) l
-words n l h e = wide-below n (2 ^ 64) l (pow-mono {i = n} h) e
-
 list-lines : (p q r : ℕ) (gs ts : List ℕ) (P : Problem) → p ≤ 64 → ListTaken p q r gs ts [] P → listLines q r (listText gs ts) ≡ accepted (gs, ts)
 list-lines p q r gs ts P h T =
     list-taken q r (listText gs ts) gs ts true (T .few)
-    (rw (T .generators, T .targets) at (list-back gs ts (words p gs h (T .generators-fit)) (words p ts h (T .targets-fit)))) refl
+    (rw (T .generators, T .targets) at (list-back gs ts (wide-words p gs h (T .generators-fit)) (wide-words p ts h (T .targets-fit)))) refl
 
 of-list : (p q r : ℕ) (gs ts : List ℕ) (P : Problem) (z : ℕ × ℕ × ℕ) → sizes kind.List p q r ≡ some z → ListTaken p q r gs ts [] P → Forms kind.List p q r gs ts
 of-list p q r gs ts P z s T =

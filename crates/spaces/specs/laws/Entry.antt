@@ -11,8 +11,7 @@ use Prim.Native.Nat.{ℕ, _≤_}
 use native.Mathlib.Omega.{arith}
 use lib.ListN.{length}
 use lib.Dec.{eqb, leb}
-use borrow.Author.Tests.{eq-eqb, eqb-true, eqb-false, le-leb, lt-leb}
-use Rattle.kinds.specs.SizeLaws.{not-yes, not-no}
+use borrow.Author.Tests.{eq-eqb, eqb-true, eqb-false, le-leb, lt-leb, not-true, not-false}
 use Rattle.linear.specs.Basis.{basisOf, Reduced, dim}
 use Rattle.linear.specs.Select.{anyOf}
 use Rattle.linear.specs.Entry.{sameBasis, inside, generatorsIn, fits, Solution}
@@ -51,7 +50,7 @@ module _ (gens targets rows : List ℕ) where
           record {
             reduced = ρ;
             size = refl;
-            holds = (λ t m. inside-yes word rows t (not-no (inside word rows t) (anyOf-no outside targets (not-yes (anyOf outside targets) (b .1)) t m)));
+            holds = (λ t m. inside-yes word rows t (not-false (inside word rows t) (anyOf-no outside targets (not-true (anyOf outside targets) (b .1)) t m)));
             spanned = f .1;
           }
 
@@ -69,7 +68,7 @@ module _ (gens targets rows : List ℕ) where
   pub rows-other : (b : Basis) → Holds (basisOf word rows) b → (s : Bool) → s ≡ sameBasis word (rowsOf b) rows → not s ≡ true → Rows false
   unfolding isEntry
   rows-other b H s q z =
-      let e : sameBasis word (rowsOf b) rows ≡ false = sym q ∙ not-yes s z in
+      let e : sameBasis word (rowsOf b) rows ≡ false = sym q ∙ not-true s z in
       record {
         is = sym (ap (λ (t : Bool). t && (fits word gens (length rows) rows && not (anyOf outside targets))) (ap (λ (B : List ℕ). sameBasis word B rows) (sym (H .is)) ∙ e));
         room = (λ q. absurd (false≢true q));
@@ -78,7 +77,7 @@ module _ (gens targets rows : List ℕ) where
   module _ (b : Basis) (H : Holds (basisOf word rows) b) (s : Bool) (same : s ≡ sameBasis word (rowsOf b) rows) (z : not s ≡ false) (d : Basis) (D : Holds [] d) (r : Bool)
       (full : r ≡ completes word gens rows (rowsOf d) 0) where
     e : sameBasis word (rowsOf b) rows ≡ true
-    e = sym same ∙ not-no s z
+    e = sym same ∙ not-false s z
 
     full-is : completes word gens rows [] 0 ≡ r
     full-is = ap (λ (C : List ℕ). completes word gens rows C 0) (sym (D .is)) ∙ sym full
@@ -112,7 +111,7 @@ module _ (gens targets rows : List ℕ) where
 
     pub rows-short : not r ≡ true → Rows false
     rows-short y =
-        let q : completes word gens rows [] 0 ≡ false = full-is ∙ not-yes r y in
+        let q : completes word gens rows [] 0 ≡ false = full-is ∙ not-true r y in
         record {
           is = sym (test ∙ ap (λ (x : Bool). x && not (anyOf (λ t. not (inside word (rowsOf b) t)) targets)) q);
           room = (λ z. absurd (false≢true z));
@@ -120,7 +119,7 @@ module _ (gens targets rows : List ℕ) where
 
     pub rows-judged : not r ≡ false → (m : Bool) → m ≡ anyOf (λ t. not (inside word (rowsOf b) t)) targets → Rows (not m)
     rows-judged y m f =
-        let q : completes word gens rows [] 0 ≡ true = full-is ∙ not-no r y in
+        let q : completes word gens rows [] 0 ≡ true = full-is ∙ not-false r y in
         record {
           is = ap not f ∙ sym (test ∙ ap (λ (x : Bool). x && not (anyOf (λ t. not (inside word (rowsOf b) t)) targets)) q);
           room = (λ z. few);

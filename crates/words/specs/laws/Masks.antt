@@ -1,6 +1,7 @@
 -- Masks and their widths.
 --   shift-none   a mask shifted by n is zero exactly if it has no bit outside n bits
 --   wide-below   no bit outside n bits: every mask is below 2^n
+--   wide-words   and a word, where n is at most 64
 -- Assumes nothing.
 use Prim.Native.Nat.{ℕ, _*_, _/_, _^_, _<_, _≤_}
 use mathlib.Core.Path.{_≡_, refl}
@@ -8,7 +9,7 @@ use mathlib.Core.List.{List, [], _∷_}
 use mathlib.Core.Bool.{Bool, true, false, _||_, not}
 use native.Mathlib.Omega.{arith}
 use native.Mathlib.Nat.{div-eq-of-lt, div-lt-iff-lt-mul, one-mul}
-use lib.Pow.{pow-pos}
+use lib.Pow.{pow-pos, pow-mono}
 use lib.Dec.{ltb, eqb}
 use borrow.Author.Tests.{eq-eqb, ne-eqb, ltb-true, ltb-false}
 use Rattle.words.specs.Masks.{wide}
@@ -33,3 +34,6 @@ wide-below n b (x ∷ xs) h e = go (ltb x (2 ^ n)) refl (wide-below n b xs h) e
     go : (t : Bool) → ltb x (2 ^ n) ≡ t → (wide n xs ≡ false → Below b xs) → (not t || wide n xs) ≡ false → (x < b) × Below b xs
     go true l ih f = (let k = ltb-true x (2 ^ n) l in omega arith, ih f)
     go false l ih f = absurd (let q : _≡_ {A = ℕ} 0 1 = cc in omega arith)
+
+pub wide-words : (n : ℕ) (xs : List ℕ) → n ≤ 64 → wide n xs ≡ false → Below (2 ^ 64) xs
+wide-words n xs h e = wide-below n (2 ^ 64) xs (pow-mono {i = n} h) e
