@@ -10,7 +10,7 @@ use mathlib.Core.List.{List, [], _∷_, List·Memᴰ}
 use Prim.Native.Nat.{ℕ, _<_}
 use lib.ListN.{length}
 use lib.Dec.{eqb, ltb}
-use borrow.Author.Tests.{eqb-true, ltb-true, not-true, not-false}
+use borrow.Author.Tests.{eqb-true, not-true, not-false}
 use Rattle.kinds.specs.Refusal.{accepted, refuse}
 use Rattle.kinds.specs.RefusalLaws.{accepted-inj, follow-inv, refuse-inv, neither}
 use Rattle.problems.specs.Problem.{Problem, posed}
@@ -24,7 +24,9 @@ use Rattle.linear.specs.Word.{word}
 use Rattle.linear.specs.laws.Insert.{basisOf-reduced, basisOf-span}
 use Rattle.linear.specs.laws.Entry.{inside-yes, yes-inside}
 use Rattle.linear.specs.laws.Select.{anyOf-no, no-anyOf, anyOf-yes}
-use Rattle.selections.specs.Selections.{misfit, without, missedBy, sumAnswer, redundantAnswer, isSum, isRedundant}
+use Rattle.selected.specs.Selected.{misfit, without, missedBy, sumAnswer, redundantAnswer}
+use Rattle.selected.specs.laws.Spanning.{misfit-below}
+use Rattle.selections.specs.Selections.{isSum, isRedundant}
 
 pub record Fits (n : ℕ) (sel : List ℕ) : Type 0 where
   pub numbers : (e : ℕ) → List·Memᴰ e sel → e < n
@@ -46,9 +48,7 @@ not-missed gens targets sel = (
 
 pub fits : (n : ℕ) (sel : List ℕ) → misfit n sel ≡ false → Fits n sel
 unfolding misfit
-fits n sel e =
-    let o = neither (anyOf (λ e. not (ltb e n)) sel) (repeats sel) e in
-    record { numbers = λ x m. ltb-true x n (not-false (ltb x n) (anyOf-no (λ e. not (ltb e n)) sel (o .0) x m)); once = o .1 }
+fits n sel e = record { numbers = misfit-below n sel e; once = neither (anyOf (λ e. not (ltb e n)) sel) (repeats sel) e .1 }
 
 -- ---- the two answers
 pub record SumMeans (x : Problem) (sel : List ℕ) (form : ℕ) (b : Bool) : Type 0 where

@@ -1,3 +1,2 @@
 -- The laws behind the questions on selections.
-pub mod Spanning
 pub mod Replies

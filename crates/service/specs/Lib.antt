@@ -1,4 +1,3 @@
 -- What the exported calls answer.
 pub mod Service
-pub mod Ready
 pub mod laws

@@ -1,7 +1,7 @@
 -- What the exported calls answer.
 --   checkFile s        == of a byte string that holds a formula's file: a refusal's number, or what the Check program prints
---   replyOf, bytesOf   == the reply of `gijpsando_check`, and the second string's final content
 --   numbersReply, numbersLent == the reply of `gijpsando_check_numbers`, and the final content of its lent words
+-- The reply of `gijpsando_check` and the second string's final content, `replyOf` and `bytesOf`, are in crate check_answers.
 -- Document 01: "one byte string holds a file as below, a second takes what the Check program would print, and the reply is the count of bytes
 -- written (always above 35) or a refusal's number. Too short a second string is refused by 9." Assumes nothing.
 use mathlib.Core.Bool.{cond}
@@ -10,26 +10,13 @@ use mathlib.Core.Option.{Option, none, some}
 use Prim.Native.Nat.{ℕ}
 use lib.ListN.{length}
 use lib.Dec.{ltb}
-use Rattle.kinds.specs.declared.Kind.{Kind}
 use Rattle.kinds.specs.Kinds.{numberOf}
 use Rattle.kinds.specs.Refusal.{Answer, refused, accepted}
 use Rattle.words.specs.Buffers.{filled}
 use Rattle.files.specs.Outcome.{Outcome, outcome}
 use Rattle.files.specs.Outcome as file
 use Rattle.formula.specs.Formula.{check}
-use Rattle.formula.specs.declared.Verdict.{Verdict}
-use Rattle.formula.specs.declared.Verdict.the-variants as verdict
-use Rattle.replies.specs.CheckText.{checkText}
-use Rattle.pieces.specs.Written.{writtenIn}
-
-abbrev pub verdictOf : Option ℕ → Verdict
-verdictOf none = verdict.Right
-verdictOf (some t) = verdict.Wrong t
-
--- the text of a verdict and its adders
-abbrev pub replyText : Kind → (p q r k : ℕ) → Answer (Option ℕ × ℕ) → Answer (List ℕ)
-replyText kd p q r k (refused e) = refused e
-replyText kd p q r k (accepted x) = accepted (checkText kd p q r k (verdictOf (x .0)) (x .1))
+use Rattle.check_answers.specs.CheckAnswers.{replyText}
 
 -- the file is read, and the formula that it holds is checked
 abbrev pub checkRead : Outcome → Answer (List ℕ)
@@ -38,15 +25,6 @@ checkRead (file.formula kd p q r k xs ys zs) = replyText kd p q r k (check (numb
 
 unfoldable pub checkFile : List ℕ → Answer (List ℕ)
 checkFile s = checkRead (outcome s 64 64 64)
-
--- ---- gijpsando_check, with the second string d
-abbrev pub replyOf : Answer (List ℕ) → List ℕ → ℕ
-replyOf (refused e) d = e
-replyOf (accepted t) d = cond (ltb (length d) (length t)) 9 (length t)
-
-abbrev pub bytesOf : Answer (List ℕ) → List ℕ → List ℕ
-bytesOf (refused e) d = d
-bytesOf (accepted t) d = writtenIn t d
 
 -- ---- gijpsando_check_numbers, with the lent words d: verdict (0 right, 1 wrong), output, adders
 abbrev pub verdictWords : Option ℕ → ℕ → List ℕ

@@ -1,76 +1,15 @@
 // Check for callers in C: all refusals are made inside.
 ghost use mathlib.Core.Path.{_≡_};
-ghost use lib.ListN.{length, take};
+ghost use lib.ListN.{length};
 ghost use Rattle.formula.specs.Formula.{check};
-ghost use Rattle.formula.specs.Replies.{seenReply};
-ghost use Rattle.kinds.specs.Kinds.{numberOf};
-ghost use Rattle.service.specs.Service.{checkFile, replyText, replyOf, bytesOf, numbersReply, numbersLent};
+ghost use Rattle.check_answers.specs.CheckAnswers.{replyOf, bytesOf};
+ghost use Rattle.service.specs.Service.{checkFile, numbersReply, numbersLent};
 ghost use Rattle.words.specs.Buffers.{filled};
 ghost use mathlib.Core.List.{[], _∷_};
 ghost use Prim.Native.Nat.{_≤_};
-ghost use Rattle.service.specs.Ready.{outputsOf, Ready};
 use files::Read;
 use formula::Reply;
 use formula::Verdict;
-use kinds::Kind;
-use kinds::Sized;
-
-// Check of a formula that was read: the first k words of a and b are its masks, and rows starts with a row for each output.
-fn check_read(
-    kind: Kind,
-    p: u64,
-    q: u64,
-    r: u64,
-    k: u64,
-    a: &[u64],
-    b: &[u64],
-    rows: &[u64],
-) -> Reply
-    requires { ⌜ Ready kind p q r k (now a) (now b) (now rows) ⌝ }
-    ensures { λ x. ⌜ check (numberOf kind) p q r k (take k (now (a .entry))) (take k (now (b .entry))) (take (outputsOf kind p q r) (now (rows .entry))) ≡ seenReply x ⌝ }
-{
-    let Sized::Are(_, _, outputs) = kinds::sizes_of(kind, p, q, r) else {
-        return Reply::Refused(3);
-    };
-    let products = k as usize;
-    let u = outputs as usize;
-    formula::check(
-        kinds::number_of(kind),
-        p,
-        q,
-        r,
-        k,
-        &a[..products],
-        &b[..products],
-        &rows[..u],
-    )
-}
-
-// The reply to such a formula: the bytes of its text, written to out, or a refusal's number.
-fn answer(
-    kind: Kind,
-    p: u64,
-    q: u64,
-    r: u64,
-    k: u64,
-    a: &[u64],
-    b: &[u64],
-    rows: &[u64],
-    out: &mut [u8],
-) -> usize
-    requires { ⌜ Ready kind p q r k (now a) (now b) (now rows) ⌝ }
-    ensures { λ x. ⌜ (x ≡ replyOf (replyText kind p q r k (check (numberOf kind) p q r k (take k (now (a .entry))) (take k (now (b .entry))) (take (outputsOf kind p q r) (now (rows .entry))))) (now (out .entry)))
-        × (now (out .exit) ≡ bytesOf (replyText kind p q r k (check (numberOf kind) p q r k (take k (now (a .entry))) (take k (now (b .entry))) (take (outputsOf kind p q r) (now (rows .entry))))) (now (out .entry))) ⌝ }
-{
-    let said = check_read(kind, p, q, r, k, a, b, rows);
-    match said {
-        Reply::Refused(e) => e as usize,
-        Reply::Judged(v, w) => {
-            let n = replies::check_text(kind, p, q, r, k, v, w, out);
-            if n == 0 { 9 } else { n }
-        }
-    }
-}
 
 // Check of a file: what the Check program would print goes to out, and the reply is its length (above 35); or the refusal's number, and out
 // is as it was. Too short an out is refused by 9.
@@ -84,7 +23,17 @@ pub extern "C" fn gijpsando_check(file: &[u8], out: &mut [u8]) -> usize
     let got = files::read_formula(file, &mut a, &mut b, &mut rows);
     match got {
         Read::Refused(e) => e as usize,
-        Read::Formula(kind, p, q, r, k) => answer(kind, p, q, r, k, &a, &b, &rows, out),
+        Read::Formula(kind, p, q, r, k) => check_answers::check_reply(
+            kind,
+            p,
+            q,
+            r,
+            k,
+            &a,
+            &b,
+            &rows,
+            out,
+        ),
     }
 }
 

@@ -3,7 +3,7 @@ ghost use Prim.Native.Nat.{_≤_};
 ghost use lib.ListN.{length};
 use libc::STDIN_FILENO;
 use libc::STDOUT_FILENO;
-use selections::Said;
+use selected::Said;
 use spaces::Listed;
 
 // What is said of a space's formulae.

@@ -35,7 +35,8 @@ use Rattle.pieces.specs.RefusedText.{refusedName, refusedText}
 use Rattle.replies.specs.CheckTextLong.{check-text-long}
 use Rattle.pieces.specs.Written.{bytesIn, writtenIn}
 use Rattle.pieces.specs.laws.Pieces.{name-short, number-short}
-use Rattle.service.specs.Service.{verdictOf, replyText, checkRead, checkFile, replyOf, bytesOf}
+use Rattle.check_answers.specs.CheckAnswers.{verdictOf, replyText, replyOf, bytesOf}
+use Rattle.service.specs.Service.{checkRead, checkFile}
 use Rattle.check_program.specs.CheckProgram.{printed, programText}
 
 -- ---- refusals are at most 9

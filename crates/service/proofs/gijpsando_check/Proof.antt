@@ -2,16 +2,18 @@
 use mathlib.Core.Path.{_≡_, refl, sym, ap, _∙_}
 use mathlib.Core.List.{List}
 use Prim.Native.Nat.{ℕ}
+use native.Mathlib.Omega.{arith}
 use lib.ListN.{replicate}
 use Rattle.kinds.specs.Refusal.{Answer, refused}
-use Rattle.service.specs.Service.{checkFile, replyOf, bytesOf}
+use Rattle.check_answers.specs.CheckAnswers.{replyOf, bytesOf}
+use Rattle.service.specs.Service.{checkFile}
 use Rattle.service.specs.laws.Reading.{read-ready, read-checks, refused-checks}
 use Rattle.service.proofs.gijpsando_check.Statement.{statement}
 use Rattle.service.proofs.gijpsando_check.Tie as tie
 use Rattle.service.proofs.gijpsando_check.Reads as reads
 use Rattle.service.proofs.gijpsando_check.Lts as lts
 use Rattle.files.proofs.read_formula.Reads as read-formula-reads
-use Rattle.service.proofs.answer.Reads as answer-reads
+use Rattle.check_answers.proofs.check_reply.Reads as check-reply-reads
 
 slice-aggregate-read-formula : tie.Need-slice-aggregate-read-formula
 slice-aggregate-read-formula c = refl
@@ -31,17 +33,17 @@ enum-known-got c = c .match .keys1
 enum-known-got-2 : tie.Need-enum-known-got-2
 enum-known-got-2 c = c .match .keys2
 
-slice-aggregate-answer : tie.Need-slice-aggregate-answer
-slice-aggregate-answer c = sym (c .before .before .before .before .before .before .before .read-formula .kept .1 .0)
+slice-aggregate-check-reply : tie.Need-slice-aggregate-check-reply
+slice-aggregate-check-reply c = let x = c .before .before .before .before .before .before .before .read-formula .kept .1 .0 in let y = c .before .before .before .before .before .before .before .read-formula .kept .1 .1 .0 in let z = c .before .before .before .before .before .before .before .read-formula .kept .1 .1 .1 .0 in omega arith
 
-slice-aggregate-answer-2 : tie.Need-slice-aggregate-answer-2
-slice-aggregate-answer-2 c = sym (c .before .before .before .before .before .before .before .before .read-formula .kept .1 .1 .0)
+slice-aggregate-check-reply-2 : tie.Need-slice-aggregate-check-reply-2
+slice-aggregate-check-reply-2 c = let x = c .before .before .before .before .before .before .before .before .read-formula .kept .1 .0 in let y = c .before .before .before .before .before .before .before .before .read-formula .kept .1 .1 .0 in let z = c .before .before .before .before .before .before .before .before .read-formula .kept .1 .1 .1 .0 in omega arith
 
-slice-aggregate-answer-3 : tie.Need-slice-aggregate-answer-3
-slice-aggregate-answer-3 c = sym (c .before .before .before .before .before .before .before .before .before .read-formula .kept .1 .1 .1 .0)
+slice-aggregate-check-reply-3 : tie.Need-slice-aggregate-check-reply-3
+slice-aggregate-check-reply-3 c = let x = c .before .before .before .before .before .before .before .before .before .read-formula .kept .1 .0 in let y = c .before .before .before .before .before .before .before .before .before .read-formula .kept .1 .1 .0 in let z = c .before .before .before .before .before .before .before .before .before .read-formula .kept .1 .1 .1 .0 in omega arith
 
-answer-requires : tie.Need-answer-requires
-answer-requires c κs = read-ready (c .before .before .before .before .before .before .before .before .before .before .before .before .before .before .before .before .args .file .now) (c .before .before .before .before .before .got2 .given .0 .0) (c .before .before .before .before .before .got2 .given .0 .1 .0) (c .before .before .before .before .before .got2 .given .0 .1 .1 .0) (c .before .before .before .before .before .got2 .given .0 .1 .1 .1 .0) (c .before .before .before .before .before .got2 .given .0 .1 .1 .1 .1 .0) (replicate 64 0) (replicate 64 0) (replicate 64 0) (c .before .before .before .before .before .before .before .before .before .before .read-formula .last .1 .0) (c .before .before .before .before .before .before .before .before .before .before .read-formula .last .1 .1 .0) (c .before .before .before .before .before .before .before .before .before .before .read-formula .last .1 .1 .1 .0) refl refl refl (sym (c .before .before .before .before .before .got2 .given .1) ∙ c .before .before .before .before .before .before .before .before .before .before .read-formula .ensures .0) (c .before .before .before .before .before .before .before .before .before .before .read-formula .ensures .1) (c .before .before .before .before .before .before .before .before .before .before .read-formula .ensures .2) (c .before .before .before .before .before .before .before .before .before .before .read-formula .ensures .3)
+check-reply-requires : tie.Need-check-reply-requires
+check-reply-requires c κs = read-ready (c .before .before .before .before .before .before .before .before .before .before .before .before .before .before .before .before .args .file .now) (c .before .before .before .before .before .got2 .given .0 .0) (c .before .before .before .before .before .got2 .given .0 .1 .0) (c .before .before .before .before .before .got2 .given .0 .1 .1 .0) (c .before .before .before .before .before .got2 .given .0 .1 .1 .1 .0) (c .before .before .before .before .before .got2 .given .0 .1 .1 .1 .1 .0) (replicate 64 0) (replicate 64 0) (replicate 64 0) (c .before .before .before .before .before .before .before .before .before .before .read-formula .last .1 .0) (c .before .before .before .before .before .before .before .before .before .before .read-formula .last .1 .1 .0) (c .before .before .before .before .before .before .before .before .before .before .read-formula .last .1 .1 .1 .0) refl refl refl (sym (c .before .before .before .before .before .got2 .given .1) ∙ c .before .before .before .before .before .before .before .before .before .before .read-formula .ensures .0) (c .before .before .before .before .before .before .before .before .before .before .read-formula .ensures .1) (c .before .before .before .before .before .before .before .before .before .before .read-formula .ensures .2) (c .before .before .before .before .before .before .before .before .before .before .read-formula .ensures .3)
 
 returns : tie.Need-returns
 returns c =
@@ -49,12 +51,12 @@ returns c =
     (ap (λ (x : Answer (List ℕ)). replyOf x (c .before .before .before .before .before .before .before .before .before .before .before .before .args .out .now)) (sym e), ap (λ (x : Answer (List ℕ)). bytesOf x (c .before .before .before .before .before .before .before .before .before .before .before .before .args .out .now)) (sym e))
 
 same-length : tie.Need-same-length
-same-length c = c .before .before .answer .kept .1 .1 .1 .1 .1 .1 .1 .1 .0
+same-length c = c .before .before .check-reply .kept .1 .1 .1 .1 .1 .1 .1 .1 .0
 
 returns-2 : tie.Need-returns-2
 returns-2 c =
     let e = read-checks (c .before .before .before .before .before .before .before .before .before .before .before .before .before .before .before .before .before .before .before .args .file .now) (c .before .before .before .before .before .before .before .before .got2 .given .0 .0) (c .before .before .before .before .before .before .before .before .got2 .given .0 .1 .0) (c .before .before .before .before .before .before .before .before .got2 .given .0 .1 .1 .0) (c .before .before .before .before .before .before .before .before .got2 .given .0 .1 .1 .1 .0) (c .before .before .before .before .before .before .before .before .got2 .given .0 .1 .1 .1 .1 .0) (replicate 64 0) (replicate 64 0) (replicate 64 0) (c .before .before .before .before .before .before .before .before .before .before .before .before .before .read-formula .last .1 .0) (c .before .before .before .before .before .before .before .before .before .before .before .before .before .read-formula .last .1 .1 .0) (c .before .before .before .before .before .before .before .before .before .before .before .before .before .read-formula .last .1 .1 .1 .0) refl refl refl (sym (c .before .before .before .before .before .before .before .before .got2 .given .1) ∙ c .before .before .before .before .before .before .before .before .before .before .before .before .before .read-formula .ensures .0) (c .before .before .before .before .before .before .before .before .before .before .before .before .before .read-formula .ensures .1) (c .before .before .before .before .before .before .before .before .before .before .before .before .before .read-formula .ensures .2) (c .before .before .before .before .before .before .before .before .before .before .before .before .before .read-formula .ensures .3) in
-    (c .before .before .answer .ensures .0 ∙ ap (λ (x : Answer (List ℕ)). replyOf x (c .before .before .before .before .before .before .before .before .before .before .before .before .before .before .before .before .before .before .before .args .out .now)) (sym e), c .before .before .answer .ensures .1 ∙ ap (λ (x : Answer (List ℕ)). bytesOf x (c .before .before .before .before .before .before .before .before .before .before .before .before .before .before .before .before .before .before .before .args .out .now)) (sym e))
+    (c .before .before .check-reply .ensures .0 ∙ ap (λ (x : Answer (List ℕ)). replyOf x (c .before .before .before .before .before .before .before .before .before .before .before .before .before .before .before .before .before .before .before .args .out .now)) (sym e), c .before .before .check-reply .ensures .1 ∙ ap (λ (x : Answer (List ℕ)). bytesOf x (c .before .before .before .before .before .before .before .before .before .before .before .before .before .before .before .before .before .before .before .args .out .now)) (sym e))
 
 pub gijpsando-check-spec : {M : Type 1} → statement M
 gijpsando-check-spec =
@@ -66,10 +68,10 @@ gijpsando-check-spec =
     read-formula-requires
     enum-known-got
     enum-known-got-2
-    slice-aggregate-answer
-    slice-aggregate-answer-2
-    slice-aggregate-answer-3
-    answer-requires
+    slice-aggregate-check-reply
+    slice-aggregate-check-reply-2
+    slice-aggregate-check-reply-3
+    check-reply-requires
     returns
     same-length
     returns-2)

@@ -1,17 +1,13 @@
 -- From the reading of a file to the numbers that are checked. Assumes nothing.
 use mathlib.Core.Path.{_≡_, refl, sym, ap, ap₂, _∙_}
-use mathlib.Core.Bool.{Bool, true, false, cond}
 use mathlib.Core.List.{List}
-use mathlib.Core.Option.{some}
 use Prim.Native.Nat.{ℕ, _≤_}
 use native.Mathlib.Omega.{arith}
 use lib.ListN.{length, take, drop, length-append, length-drop}
 use lib.Seq.{take-append-seam}
-use lib.Dec.{ltb}
 use Rattle.kinds.specs.declared.Kind.{Kind}
 use Rattle.kinds.specs.Kinds.{numberOf}
-use Rattle.kinds.specs.Sizes.{sizes}
-use Rattle.kinds.specs.Refusal.{refused, accepted}
+use Rattle.kinds.specs.Refusal.{refused}
 use Rattle.words.specs.Buffers.{filled}
 use Rattle.files.specs.Outcome.{Outcome, outcome}
 use Rattle.files.specs.Outcome as file
@@ -20,18 +16,10 @@ use Rattle.files.specs.Sound.{Sound, Room}
 use Rattle.files.specs.AcceptedSound.{accepted-sound}
 use Rattle.files.specs.declared.Read.the-variants as read
 use Rattle.formula.specs.Formula.{check}
-use Rattle.formula.specs.Replies.{seenVerdict}
-use Rattle.formula.specs.declared.Verdict.{Verdict}
-use Rattle.formula.specs.declared.Verdict.the-variants as verdict
-use Rattle.replies.specs.CheckText.{checkText}
-use Rattle.replies.specs.CheckTextLong.{check-text-long}
-use Rattle.pieces.specs.Written.{bytesIn}
-use Rattle.service.specs.Service.{verdictOf, replyText, checkRead, checkFile, replyOf}
-use Rattle.service.specs.Ready.{third, outputsOf, Ready}
-
-pub outs : (kd : Kind) (p q r : ℕ) (z : ℕ × ℕ × ℕ) → sizes kd p q r ≡ some z → outputsOf kd p q r ≡ z .2
-unfolding outputsOf
-outs kd p q r z e = ap third e
+use Rattle.check_answers.specs.CheckAnswers.{replyText}
+use Rattle.check_answers.specs.Ready.{outputsOf, Ready}
+use Rattle.check_answers.specs.laws.Replying.{outs}
+use Rattle.service.specs.Service.{checkRead, checkFile}
 
 -- ---- a reply that is a formula
 abbrev Was : Outcome → Kind → (p q r k : ℕ) → Type 0
@@ -115,25 +103,3 @@ pub refused-checks : (s : List ℕ) (a b rows : List ℕ) (e : ℕ) → length a
 unfolding checkFile
 refused-checks s a b rows e la lb lr told =
     ap checkRead (ap₂ (λ (x y : ℕ). outcome s x y 64) (sym la) (sym lb) ∙ ap (outcome s (length a) (length b)) (sym lr) ∙ refused-is (outcome s (length a) (length b) (length rows)) e (sym told))
-
--- ---- the text
-pub verdict-same : (v : Verdict) → verdictOf (seenVerdict v) ≡ v
-verdict-same verdict.Right = refl
-verdict-same (verdict.Wrong t) = refl
-
--- no bytes written: too short
-pub text-short : (kd : Kind) (p q r k : ℕ) (v : Verdict) (w : ℕ) (d : List ℕ) → bytesIn (checkText kd p q r k v w) d ≡ 0 → 9 ≡ replyOf (accepted (checkText kd p q r k v w)) d
-unfolding bytesIn
-text-short kd p q r k v w d = go (ltb (length d) (length (checkText kd p q r k v w)))
-  where
-    go : (t : Bool) → _≡_ {A = ℕ} (cond t 0 (length (checkText kd p q r k v w))) 0 → _≡_ {A = ℕ} 9 (cond t 9 (length (checkText kd p q r k v w)))
-    go true e = refl
-    go false e = absurd (let l = check-text-long kd p q r k v w in omega arith)
-
-pub text-whole : (kd : Kind) (p q r k : ℕ) (v : Verdict) (w : ℕ) (d : List ℕ) → (bytesIn (checkText kd p q r k v w) d ≡ 0 → ⊥) → bytesIn (checkText kd p q r k v w) d ≡ replyOf (accepted (checkText kd p q r k v w)) d
-unfolding bytesIn
-text-whole kd p q r k v w d = go (ltb (length d) (length (checkText kd p q r k v w)))
-  where
-    go : (t : Bool) → (_≡_ {A = ℕ} (cond t 0 (length (checkText kd p q r k v w))) 0 → ⊥) → _≡_ {A = ℕ} (cond t 0 (length (checkText kd p q r k v w))) (cond t 9 (length (checkText kd p q r k v w)))
-    go true h = absurd (h refl)
-    go false h = refl

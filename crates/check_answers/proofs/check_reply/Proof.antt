@@ -1,4 +1,4 @@
--- `service::answer` meets its contract. Assumes nothing.
+-- `check_answers::check_reply` meets its contract. Assumes nothing.
 use mathlib.Core.Path.{_≡_, sym, ap, _∙_}
 use mathlib.Core.List.{List}
 use Prim.Native.Nat.{ℕ}
@@ -9,15 +9,15 @@ use Rattle.formula.specs.Formula.{check}
 use Rattle.formula.specs.declared.Verdict.{Verdict}
 use Rattle.formula.specs.Replies.{seenReply}
 use Rattle.replies.specs.CheckText.{checkText}
-use Rattle.service.specs.Service.{replyText, replyOf, bytesOf}
-use Rattle.service.specs.Ready.{outputsOf}
-use Rattle.service.specs.laws.Reading.{verdict-same, text-short, text-whole}
-use Rattle.service.proofs.answer.Statement.{statement}
-use Rattle.service.proofs.answer.Tie as tie
-use Rattle.service.proofs.answer.Reads as reads
-use Rattle.service.proofs.answer.Lts as lts
+use Rattle.check_answers.specs.CheckAnswers.{replyText, replyOf, bytesOf}
+use Rattle.check_answers.specs.Ready.{outputsOf}
+use Rattle.check_answers.specs.laws.Replying.{verdict-same, text-short, text-whole}
+use Rattle.check_answers.proofs.check_reply.Statement.{statement}
+use Rattle.check_answers.proofs.check_reply.Tie as tie
+use Rattle.check_answers.proofs.check_reply.Reads as reads
+use Rattle.check_answers.proofs.check_reply.Lts as lts
 use Rattle.replies.proofs.check_text.Reads as check-text-reads
-use Rattle.service.proofs.check_read.Reads as check-read-reads
+use Rattle.check_answers.proofs.check_read.Reads as check-read-reads
 
 check-read-requires : tie.Need-check-read-requires
 check-read-requires c κs = c .before .before .before .before .pre
@@ -58,8 +58,8 @@ returns-3 c =
       c .before .before .before .check-text .ensures .1 ∙ ap (λ (x : Answer (List ℕ)). bytesOf x (c .before .before .before .before .before .before .before .before .before .before .before .before .before .args .out .now)) (sym e),
     )
 
-pub answer-spec : {M : Type 1} → statement M
-answer-spec =
+pub check-reply-spec : {M : Type 1} → statement M
+check-reply-spec =
     tie.close
     (tie.spec
     check-read-requires

@@ -1,15 +1,15 @@
--- `selections::say_sum` meets its contract. Assumes nothing.
+-- `selected::say_sum` meets its contract. Assumes nothing.
 use borrow.Author.Needs.{needs}
 use mathlib.Core.Path.{sym, ap, _∙_}
 use Rattle.kinds.specs.Refusal.{accepted}
-use Rattle.selections.specs.laws.Replies.{sum-misfit, sum-said}
-use Rattle.selections.proofs.say_sum.Statement.{statement}
-use Rattle.selections.proofs.say_sum.Tie as tie
-use Rattle.selections.proofs.say_sum.Reads as reads
-use Rattle.selections.proofs.say_sum.Lts as lts
+use Rattle.selected.specs.laws.Replies.{sum-misfit, sum-said}
+use Rattle.selected.proofs.say_sum.Statement.{statement}
+use Rattle.selected.proofs.say_sum.Tie as tie
+use Rattle.selected.proofs.say_sum.Reads as reads
+use Rattle.selected.proofs.say_sum.Lts as lts
 use Rattle.bases.proofs.Basis.contains.Reads as contains-reads
-use Rattle.selections.proofs.misfits.Reads as misfits-reads
-use Rattle.selections.proofs.span_without.Reads as span-without-reads
+use Rattle.selected.proofs.misfits.Reads as misfits-reads
+use Rattle.selected.proofs.span_without.Reads as span-without-reads
 
 misfits-requires : tie.Need-misfits-requires
 misfits-requires c κs = search needs

@@ -1,10 +1,10 @@
--- `selections::misfits` meets its contract. Assumes nothing.
+-- `selected::misfits` meets its contract. Assumes nothing.
 use borrow.Author.Needs.{needs}
-use Rattle.selections.specs.laws.Spanning.{misfit-outside, misfit-twice}
-use Rattle.selections.proofs.misfits.Statement.{statement}
-use Rattle.selections.proofs.misfits.Tie as tie
-use Rattle.selections.proofs.misfits.Reads as reads
-use Rattle.selections.proofs.misfits.Lts as lts
+use Rattle.selected.specs.laws.Spanning.{misfit-outside, misfit-twice}
+use Rattle.selected.proofs.misfits.Statement.{statement}
+use Rattle.selected.proofs.misfits.Tie as tie
+use Rattle.selected.proofs.misfits.Reads as reads
+use Rattle.selected.proofs.misfits.Lts as lts
 use Rattle.lists.proofs.repeats.Reads as repeats-reads
 use Rattle.lists.proofs.any_outside.Reads as any-outside-reads
 

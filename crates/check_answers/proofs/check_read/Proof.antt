@@ -1,4 +1,4 @@
--- `service::check_read` meets its contract. Assumes nothing.
+-- `check_answers::check_read` meets its contract. Assumes nothing.
 use mathlib.Core.Path.{_≡_, sym, ap, _∙_}
 use mathlib.Core.Option.{none}
 use Prim.Native.Nat.{ℕ}
@@ -8,12 +8,12 @@ use lib.Seq.{length-take-le}
 use Rattle.kinds.specs.Kinds.{numberOf}
 use Rattle.kinds.specs.Sizes.{sizes, seenSizes}
 use Rattle.formula.specs.Formula.{check}
-use Rattle.service.specs.Ready.{outputsOf}
-use Rattle.service.specs.laws.Reading.{outs}
-use Rattle.service.proofs.check_read.Statement.{statement}
-use Rattle.service.proofs.check_read.Tie as tie
-use Rattle.service.proofs.check_read.Reads as reads
-use Rattle.service.proofs.check_read.Lts as lts
+use Rattle.check_answers.specs.Ready.{outputsOf}
+use Rattle.check_answers.specs.laws.Replying.{outs}
+use Rattle.check_answers.proofs.check_read.Statement.{statement}
+use Rattle.check_answers.proofs.check_read.Tie as tie
+use Rattle.check_answers.proofs.check_read.Reads as reads
+use Rattle.check_answers.proofs.check_read.Lts as lts
 use Rattle.formula.proofs.check.Reads as check-reads
 use Rattle.kinds.proofs.number_of.Reads as number-of-reads
 use Rattle.kinds.proofs.sizes_of.Reads as sizes-of-reads

@@ -1,13 +1,13 @@
--- `selections::span_without` meets its contract. Assumes nothing.
+-- `selected::span_without` meets its contract. Assumes nothing.
 use native.Mathlib.Omega.{arith}
 use Prim.Native.Nat.{_-_}
 use lib.ListN.{length}
 use borrow.Author.Needs.{needs}
-use Rattle.selections.specs.laws.Spanning.{Spanning, spanning-start, spanning-skip, spanning-take, spanning-end, spanning-number}
-use Rattle.selections.proofs.span_without.Statement.{statement}
-use Rattle.selections.proofs.span_without.Tie as tie
-use Rattle.selections.proofs.span_without.Reads as reads
-use Rattle.selections.proofs.span_without.Lts as lts
+use Rattle.selected.specs.laws.Spanning.{Spanning, spanning-start, spanning-skip, spanning-take, spanning-end, spanning-number}
+use Rattle.selected.proofs.span_without.Statement.{statement}
+use Rattle.selected.proofs.span_without.Tie as tie
+use Rattle.selected.proofs.span_without.Reads as reads
+use Rattle.selected.proofs.span_without.Lts as lts
 use Rattle.bases.proofs.Basis.empty.Reads as empty-reads
 use Rattle.bases.proofs.Basis.insert.Reads as insert-reads
 

@@ -1,16 +1,16 @@
--- `selections::say_redundant` meets its contract. Assumes nothing.
+-- `selected::say_redundant` meets its contract. Assumes nothing.
 use borrow.Author.Needs.{needs}
 use mathlib.Core.Path.{sym, ap, _∙_}
 use mathlib.Core.Bool.{true, false, not}
-use Rattle.selections.specs.laws.Replies.{redundant-misfit, redundant-short, redundant-lacking, redundant-said, missed-all, missed-is}
-use Rattle.selections.proofs.say_redundant.Statement.{statement}
-use Rattle.selections.proofs.say_redundant.Tie as tie
-use Rattle.selections.proofs.say_redundant.Reads as reads
-use Rattle.selections.proofs.say_redundant.Lts as lts
+use Rattle.selected.specs.laws.Replies.{redundant-misfit, redundant-short, redundant-lacking, redundant-said, missed-all, missed-is}
+use Rattle.selected.proofs.say_redundant.Statement.{statement}
+use Rattle.selected.proofs.say_redundant.Tie as tie
+use Rattle.selected.proofs.say_redundant.Reads as reads
+use Rattle.selected.proofs.say_redundant.Lts as lts
 use Rattle.spans.proofs.misses.Reads as misses-reads
 use Rattle.lists.proofs.stands_from.Reads as stands-from-reads
-use Rattle.selections.proofs.misfits.Reads as misfits-reads
-use Rattle.selections.proofs.span_without.Reads as span-without-reads
+use Rattle.selected.proofs.misfits.Reads as misfits-reads
+use Rattle.selected.proofs.span_without.Reads as span-without-reads
 
 misfits-requires : tie.Need-misfits-requires
 misfits-requires c κs = search needs

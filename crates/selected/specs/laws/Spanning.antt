@@ -10,17 +10,18 @@ use native.Mathlib.Omega.{arith}
 use lib.ListN.{length, getD, drop, drop-of-length-le}
 use lib.Seq.{drop-cons}
 use lib.Dec.{eqb, ltb}
-use borrow.Author.Tests.{eq-eqb, ne-eqb}
+use borrow.Author.Tests.{eq-eqb, ne-eqb, ltb-true, not-false}
+use Rattle.kinds.specs.RefusalLaws.{neither}
 use Rattle.linear.specs.Basis.{insert, inserts, basisOf}
 use Rattle.linear.specs.Select.{anyOf, only}
 use Rattle.linear.specs.Entry.{generator, chosen}
 use Rattle.linear.specs.Word.{word}
 use Rattle.linear.specs.laws.Order.{mem-getD}
+use Rattle.linear.specs.laws.Select.{anyOf-no}
 use Rattle.bases.specs.declared.Basis.{Basis}
 use Rattle.bases.specs.Basis.{rowsOf, Valid, Holds}
 use Rattle.lists.specs.Lists.{repeats}
-use Rattle.selections.specs.Selections.{misfit, without}
-use Rattle.selections.specs.Theorems.{fits}
+use Rattle.selected.specs.Selected.{misfit, without}
 
 next : (l : List ℕ) (i : ℕ) → i < length l → drop i l ≡ getD l i 0 ∷ drop (i + 1) l
 next l i h = drop-cons l i 0 h ∙ ap (λ (k : ℕ). getD l i 0 ∷ drop k l) (let e : suc i ≡ i + 1 = omega arith in e)
@@ -34,6 +35,11 @@ module _ (n : ℕ) (sel : List ℕ) where
   pub misfit-twice : (b r : Bool) → b ≡ anyOf (λ e. not (ltb e n)) sel → b ≡ false → r ≡ repeats sel → r ≡ misfit n sel
   unfolding misfit
   misfit-twice b r e f q = q ∙ ap (λ (x : Bool). x || repeats sel) (sym f ∙ e)
+
+  pub misfit-below : misfit n sel ≡ false → (x : ℕ) → List·Memᴰ x sel → x < n
+  unfolding misfit
+  misfit-below e x m =
+      ltb-true x n (not-false (ltb x n) (anyOf-no (λ e. not (ltb e n)) sel (neither (anyOf (λ e. not (ltb e n)) sel) (repeats sel) e .0) x m))
 
 -- ---- the span
 module _ (gens sel : List ℕ) (skip : ℕ) where
@@ -73,7 +79,7 @@ module _ (gens sel : List ℕ) (skip : ℕ) where
   spanning-end b i S h = record { valid = S .valid; is = sym (S .is ∙ ap (λ (l : List ℕ). inserts word (rowsOf b) (chosen word gens (only (λ e. not (eqb skip e)) l))) (drop-of-length-le sel h)) }
 
   pub spanning-number : (i : ℕ) → misfit (length gens) sel ≡ false → i < length sel → getD sel i 0 < length gens
-  spanning-number i m h = fits (length gens) sel m .numbers (getD sel i 0) (mem-getD sel i 0 h)
+  spanning-number i m h = misfit-below (length gens) sel m (getD sel i 0) (mem-getD sel i 0 h)
 
 -- leaving out a number that is not there
 only-all : (p : ℕ → Bool) (l : List ℕ) → ((x : ℕ) → List·Memᴰ x l → p x ≡ true) → only p l ≡ l
@@ -83,4 +89,4 @@ only-all p (x ∷ l) h = ap (λ (t : Bool). cond t (x ∷ only p l) (only p l)) 
 
 pub without-none : (n : ℕ) (sel : List ℕ) → misfit n sel ≡ false → without n sel ≡ sel
 unfolding without
-without-none n sel m = only-all (λ e. not (eqb n e)) sel (λ x k. ap not (ne-eqb n x (λ q. let h = fits n sel m .numbers x k in omega arith)))
+without-none n sel m = only-all (λ e. not (eqb n e)) sel (λ x k. ap not (ne-eqb n x (λ q. let h = misfit-below n sel m x k in omega arith)))

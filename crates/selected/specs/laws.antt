@@ -1,0 +1,3 @@
+-- The laws behind the questions on selections.
+pub mod Spanning
+pub mod Replies
