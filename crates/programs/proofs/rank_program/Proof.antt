@@ -1,11 +1,7 @@
 -- `programs::rank_program` meets its contract. Assumes nothing.
-use Prim.Native.Nat.{ℕ, _≤_}
-use mathlib.Core.Path.{_≡_, refl, ap, _∙_}
-use mathlib.Core.List.{List}
-use lib.ListN.{take}
-use Rattle.problem_judging.specs.declared.Purpose.{Purpose}
+use mathlib.Core.Path.{refl}
 use Rattle.problem_judging.specs.declared.Purpose.the-variants as purpose
-use Rattle.programs.specs.Programs.{problemProgram, rankProgram}
+use Rattle.programs.specs.laws.Steps.{for-purpose}
 use Rattle.programs.proofs.rank_program.Statement.{statement}
 use Rattle.programs.proofs.rank_program.Tie as tie
 
@@ -15,12 +11,8 @@ problem-program-requires c κs = c .before .before .before .pre
 same-length : tie.Need-same-length
 same-length c = c .before .before .problem-program .kept .1 .1 .0
 
--- what is printed for a purpose is the program's if the purpose is its own
-for-rank : (a : Purpose) (s d : List ℕ) (n : ℕ) → (take n d ≡ problemProgram a s) × (n ≤ 196608) → a ≡ purpose.Rank → (take n d ≡ rankProgram s) × (n ≤ 196608)
-for-rank a s d n P e = (P .0 ∙ ap (λ (x : Purpose). problemProgram x s) e, P .1)
-
 returns : tie.Need-returns
-returns c = for-rank _ _ _ _ (c .before .before .problem-program .ensures) refl
+returns c = for-purpose _ purpose.Rank _ _ _ (c .before .before .problem-program .ensures) refl
 
 pub rank-program-spec : {M : Type 1} → statement M
 rank-program-spec = tie.close (tie.spec problem-program-requires same-length returns)

@@ -1,4 +1,5 @@
 -- The steps of a program.
+--   for-purpose                     what is printed for one purpose is what is printed for an equal one
 --   program-refused, program-said   what is printed, from the code's answer to the input
 -- Assumes nothing.
 use Prim.Native.Nat.{ℕ, _≤_}
@@ -18,6 +19,9 @@ use Rattle.problem_judging.specs.declared.ProblemRead.the-variants as read
 use Rattle.inputs.specs.Inputs.{Input}
 use Rattle.pages.specs.Pages.{printed}
 use Rattle.programs.specs.Programs.{replyTo, problemProgram}
+
+pub for-purpose : (a b : Purpose) (s d : List ℕ) (n : ℕ) → (take n d ≡ problemProgram a s) × (n ≤ 196608) → a ≡ b → (take n d ≡ problemProgram b s) × (n ≤ 196608)
+for-purpose a b s d n P e = (P .0 ∙ ap (λ (x : Purpose). problemProgram x s) e, P .1)
 
 module _ (a : Purpose) (s : List ℕ) (x : ProblemRead) (g t : List ℕ) (I : Input a s x g t) where
   program-is : (y : ProblemRead) → x ≡ y → problemProgram a s ≡ printed (follow (seenRead g t y) λ P. accepted (replyTo a P))
