@@ -11,8 +11,8 @@ use lib.ListN.{length}
 use lib.Dec.{ltb}
 use Rattle.kinds.specs.declared.Kind.{Kind}
 use Rattle.kinds.specs.Refusal.{Answer, refused, accepted}
-use Rattle.formula.specs.declared.Verdict.{Verdict}
-use Rattle.formula.specs.declared.Verdict.the-variants as verdict
+use Rattle.verdicts.specs.declared.Verdict.{Verdict}
+use Rattle.verdicts.specs.declared.Verdict.the-variants as verdict
 use Rattle.replies.specs.CheckText.{checkText}
 use Rattle.pieces.specs.Written.{writtenIn}
 

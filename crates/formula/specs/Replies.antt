@@ -1,25 +1,20 @@
 -- The answers of the code, in the definitions' terms, and what the steps of a Check ask.
---   seenVerdict, seenReply   == the verdict and the reply that the code's answer stands for
+--   seenReply ..  == the reply that the code's answer stands for
 --   Judging ..    == rows for the outputs of a map with accepted sizes, and at most 64 forms
 --   Fitting ..    == as many masks on one side as on the other, at most 64, and such rows
 --   Matching ..   == the same with any number of masks
 -- Assumes nothing.
 use mathlib.Core.Path.{_≡_}
 use mathlib.Core.List.{List}
-use mathlib.Core.Option.{Option, none, some}
+use mathlib.Core.Option.{Option, some}
 use Prim.Native.Nat.{ℕ, _≤_}
 use lib.ListN.{length}
 use Rattle.kinds.specs.Sizes.{sizes}
 use Rattle.kinds.specs.Refusal.{Answer, refused, accepted}
 use Rattle.kinds.specs.declared.Kind.{Kind}
-use Rattle.formula.specs.declared.Verdict.{Verdict}
-use Rattle.formula.specs.declared.Verdict.the-variants as verdict
+use Rattle.verdicts.specs.Verdicts.{seenVerdict}
 use Rattle.formula.specs.declared.Reply.{Reply}
 use Rattle.formula.specs.declared.Reply.the-variants as reply
-
-abbrev pub seenVerdict : Verdict → Option ℕ
-seenVerdict verdict.Right = none
-seenVerdict (verdict.Wrong t) = some t
 
 abbrev pub seenReply : Reply → Answer (Option ℕ × ℕ)
 seenReply (reply.Refused e) = refused e

@@ -4,10 +4,12 @@ ghost use lib.ListN.{length};
 ghost use Rattle.kinds.specs.Kinds.{kindNumbered, seenKind};
 ghost use Rattle.formula.specs.Formula.{known, firstWrong, judged, check};
 ghost use Rattle.sums.specs.Sums.{productForms};
-ghost use Rattle.formula.specs.Replies.{seenVerdict, seenReply, Judging, Fitting, Matching};
+ghost use Rattle.formula.specs.Replies.{seenReply, Judging, Fitting, Matching};
+ghost use Rattle.verdicts.specs.Verdicts.{seenVerdict};
 use kinds::Kind;
 use kinds::Known;
 use kinds::Sized;
+use verdicts::Verdict;
 
 // The kind with that number, if it has formulae: list has none.
 fn map_kind(number: u64) -> Known
@@ -23,12 +25,6 @@ fn map_kind(number: u64) -> Known
         Kind::Circ => Known::Is(Kind::Circ),
         Kind::Mat => Known::Is(Kind::Mat),
     }
-}
-
-// The first output whose row does not give the target.
-pub enum Verdict {
-    Right,
-    Wrong(u64),
 }
 
 // Looks at each row of a map with n and m variables, whose products have the forms handed in.

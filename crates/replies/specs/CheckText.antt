@@ -9,8 +9,8 @@ use mathlib.Core.List.{List, [], _∷_, _++_}
 use Rattle.kinds.specs.declared.Kind.{Kind}
 use Rattle.text.specs.Line.{LF}
 use Rattle.pieces.specs.Fields.{fieldText, sizesText}
-use Rattle.formula.specs.declared.Verdict.{Verdict}
-use Rattle.formula.specs.declared.Verdict.the-variants as verdict
+use Rattle.verdicts.specs.declared.Verdict.{Verdict}
+use Rattle.verdicts.specs.declared.Verdict.the-variants as verdict
 
 -- the line of names, with its LF
 abbrev pub checkNames : List ℕ

@@ -7,7 +7,7 @@ use native.Mathlib.Omega.{arith}
 use lib.ListN.{length, length-append}
 use Rattle.kinds.specs.declared.Kind.{Kind}
 use Rattle.text.specs.Line.{LF}
-use Rattle.formula.specs.declared.Verdict.{Verdict}
+use Rattle.verdicts.specs.declared.Verdict.{Verdict}
 use Rattle.replies.specs.CheckText.{checkNames, verdictText, checkText}
 use Rattle.pieces.specs.Fields.{sizesText, fieldText}
 

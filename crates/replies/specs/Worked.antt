@@ -7,7 +7,7 @@ use mathlib.Core.Path.{_≡_, refl}
 use mathlib.Core.List.{[], _∷_, _++_}
 use Rattle.kinds.specs.declared.Kind.the-variants as kind
 use Rattle.print.specs.Print.{printed}
-use Rattle.formula.specs.declared.Verdict.the-variants as verdict
+use Rattle.verdicts.specs.declared.Verdict.the-variants as verdict
 use Rattle.replies.specs.CheckText.{checkNames, checkText}
 use Rattle.pieces.specs.Fields.{sizesText}
 use Rattle.pieces.specs.RefusedText.{refusedText}

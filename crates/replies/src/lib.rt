@@ -4,8 +4,8 @@ ghost use Prim.Native.Nat.{_≤_};
 ghost use Rattle.replies.specs.CheckText.{verdictText, checkText};
 ghost use Rattle.pieces.specs.Piece.{Piece};
 ghost use Rattle.pieces.specs.Written.{bytesIn, writtenIn};
-use formula::Verdict;
 use kinds::Kind;
+use verdicts::Verdict;
 
 // The verdict and the output, likewise.
 fn put_verdict(v: Verdict, out: &mut [u8], at: usize) -> usize

@@ -9,7 +9,7 @@ ghost use mathlib.Core.List.{[], _∷_};
 ghost use Prim.Native.Nat.{_≤_};
 use files::Read;
 use formula::Reply;
-use formula::Verdict;
+use verdicts::Verdict;
 
 // Check of a file: what the Check program would print goes to out, and the reply is its length (above 35); or the refusal's number, and out
 // is as it was. Too short an out is refused by 9.

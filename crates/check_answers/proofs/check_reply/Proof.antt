@@ -6,7 +6,7 @@ use lib.ListN.{take}
 use Rattle.kinds.specs.Kinds.{numberOf}
 use Rattle.kinds.specs.Refusal.{Answer, refused, accepted}
 use Rattle.formula.specs.Formula.{check}
-use Rattle.formula.specs.declared.Verdict.{Verdict}
+use Rattle.verdicts.specs.declared.Verdict.{Verdict}
 use Rattle.formula.specs.Replies.{seenReply}
 use Rattle.replies.specs.CheckText.{checkText}
 use Rattle.check_answers.specs.CheckAnswers.{replyText, replyOf, bytesOf}

@@ -10,9 +10,9 @@ use lib.Dec.{ltb}
 use Rattle.kinds.specs.declared.Kind.{Kind}
 use Rattle.kinds.specs.Sizes.{sizes}
 use Rattle.kinds.specs.Refusal.{accepted}
-use Rattle.formula.specs.Replies.{seenVerdict}
-use Rattle.formula.specs.declared.Verdict.{Verdict}
-use Rattle.formula.specs.declared.Verdict.the-variants as verdict
+use Rattle.verdicts.specs.Verdicts.{seenVerdict}
+use Rattle.verdicts.specs.declared.Verdict.{Verdict}
+use Rattle.verdicts.specs.declared.Verdict.the-variants as verdict
 use Rattle.replies.specs.CheckText.{checkText}
 use Rattle.replies.specs.CheckTextLong.{check-text-long}
 use Rattle.pieces.specs.Written.{bytesIn}

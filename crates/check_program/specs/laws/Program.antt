@@ -27,8 +27,8 @@ use Rattle.files.specs.Outcome.{Outcome, outcome, rest, isList}
 use Rattle.files.specs.Outcome as file
 use Rattle.formula.specs.Formula.{firstWrong, adders, lengths, check, judged, known}
 use Rattle.sums.specs.Sums.{productForms}
-use Rattle.formula.specs.declared.Verdict.{Verdict}
-use Rattle.formula.specs.declared.Verdict.the-variants as verdict
+use Rattle.verdicts.specs.declared.Verdict.{Verdict}
+use Rattle.verdicts.specs.declared.Verdict.the-variants as verdict
 use Rattle.replies.specs.CheckText.{checkNames, verdictText, checkText}
 use Rattle.pieces.specs.Fields.{sizesText, fieldText}
 use Rattle.pieces.specs.RefusedText.{refusedName, refusedText}

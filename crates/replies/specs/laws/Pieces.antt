@@ -10,8 +10,8 @@ use Rattle.replies.specs.CheckText.{checkNames, wrong, verdictText, chec
 use Rattle.pieces.specs.Piece.{Piece}
 use Rattle.pieces.specs.Fields.{fieldText, sizesText}
 use Rattle.pieces.specs.laws.Pieces.{Put, piece, piece-then}
-use Rattle.formula.specs.declared.Verdict.{Verdict}
-use Rattle.formula.specs.declared.Verdict.the-variants as verdict
+use Rattle.verdicts.specs.declared.Verdict.{Verdict}
+use Rattle.verdicts.specs.declared.Verdict.the-variants as verdict
 
 pub right-put : (at e : ℕ) (o o₁ : List ℕ) → Put o at (verdictText verdict.Right) o₁ e → Piece o at (verdictText verdict.Right) 27 o₁ e
 right-put at e o o₁ h = piece o at (verdictText verdict.Right) 27 o₁ e h (omega arith)

@@ -5,7 +5,8 @@ use Prim.Native.Nat.{ℕ}
 use native.Mathlib.Omega.{arith}
 use Rattle.kinds.specs.Refusal.{Answer, refused, accepted}
 use Rattle.formula.specs.Formula.{check}
-use Rattle.formula.specs.Replies.{seenReply, seenVerdict}
+use Rattle.formula.specs.Replies.{seenReply}
+use Rattle.verdicts.specs.Verdicts.{seenVerdict}
 use Rattle.service.specs.Service.{numbersReply, numbersLent}
 use Rattle.service.specs.laws.Numbers.{numbers-short, numbers-whole}
 use borrow.Author.Needs.{needs}

@@ -1,0 +1,2 @@
+-- What Check finds.
+pub mod Verdicts
