@@ -5,7 +5,7 @@
 -- Assumes nothing.
 use mathlib.Core.Path.{_≡_, refl, sym, ap, ap₂, _∙_, subst}
 use mathlib.Core.Logic.{_≢_}
-use mathlib.Core.Bool.{Bool, true, false, not, _&&_}
+use mathlib.Core.Bool.{true, false, not, _&&_}
 use mathlib.Core.List.{List, [], _∷_, _++_}
 use Prim.Native.Nat.{ℕ, _+_, _-_, _<_, _≤_}
 use native.Mathlib.Omega.{arith}
@@ -27,10 +27,6 @@ use Rattle.records.specs.Records.{State, note, run, Sane}
 use Rattle.records.specs.Keep.{stateOf}
 use Rattle.records.specs.laws.Records.{run-append, run-full, run-sane}
 use Rattle.spread.specs.Spread.{formulaeFrom, Node}
-
-pub not-yes : (b : Bool) → not b ≡ true → b ≡ false
-not-yes true e = sym e
-not-yes false e = refl
 
 pub record Going (gens w targets C p : List ℕ) (missing limit : ℕ) (final : State) (size j : ℕ) (t : Tally) (out : List ℕ) : Type 0 where
   pub rest : run limit (stateOf t out) (formulaeFrom gens w targets C p (length gens - j) j missing) ≡ final

@@ -19,7 +19,7 @@ use native.Mathlib.Numerals.{add-one}
 use lib.ListN.{length, getD, drop, length-append, length-drop, drop-of-length-le}
 use lib.Seq.{drop-cons, getD-drop}
 use lib.Dec.{eqb, leb}
-use borrow.Author.Tests.{eq-eqb, eqb-true, le-leb, leb-true}
+use borrow.Author.Tests.{eq-eqb, eqb-true, le-leb, leb-true, not-false}
 use Rattle.linear.specs.Space.{Space}
 use Rattle.linear.specs.Span.{Span, Within}
 use Rattle.linear.specs.Basis.{reduce, insert, inserts, basisOf, Reduced, dim}
@@ -271,11 +271,7 @@ module _ (S : Space) (gens W : List (S .Vec)) where
       g = generator S gens i
 
       spanned : not (inside S C g) ≡ false → reduce S C g ≡ S .nul
-      spanned q = unfold inside in S .isNul-yes (reduce S C g) (not-no (inside S C g) q)
-        where
-          not-no : (b : Bool) → not b ≡ false → b ≡ true
-          not-no true z = refl
-          not-no false z = sym z
+      spanned q = unfold inside in S .isNul-yes (reduce S C g) (not-false (inside S C g) q)
 
       go : (t : Bool) → inside S W (generator S gens i) ≡ t → (t && not (inside S C (generator S gens i))) ≡ false → inserts S C (later S gens W i) ≡ inserts S C (later S gens W (i + 1))
       go true a b = later-in C i l a ∙ ap (λ (D : List Vec). inserts S D (later S gens W (i + 1))) (insert-old S C g (spanned b))
