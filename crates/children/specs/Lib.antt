@@ -1,5 +1,6 @@
 -- Residues of the generators at a space, and children that lead nowhere.
 pub mod Residues
 pub mod Barren
-pub mod Filter
+pub mod Found
+pub mod Weighed
 pub mod laws

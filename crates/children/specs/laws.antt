@@ -1,4 +1,9 @@
 -- The laws of the definitions beside this folder.
 pub mod Known
 pub mod Child
-pub mod Drop
+pub mod Leads
+pub mod Found
+pub mod Weighed
+pub mod Handed
+pub mod Join
+pub mod Blank

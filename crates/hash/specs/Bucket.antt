@@ -1,7 +1,7 @@
 -- The bucket of a residue.
---   bucketOf v == the bucket of the residue v, a number below 65,536; nothing else about it matters
+--   bucketOf v == the bucket of the residue v, a number below 16,384; nothing else about it matters
 -- Assumes nothing.
 use Prim.Native.Nat.{ℕ, _+_, _*_, _/_, _%_}
 
 unfoldable pub bucketOf : ℕ → ℕ
-bucketOf v = (v % 262144 * 2654435769 + v / 262144 % 262144 * 2246822519) / 134217728 % 65536
+bucketOf v = (v % 262144 * 2654435769 + v / 262144 % 262144 * 2246822519) / 134217728 % 16384

@@ -5,9 +5,9 @@ ghost use Rattle.hash.specs.Bucket.{bucketOf};
 
 // The bucket of a residue.
 pub fn bucket(v: u64) -> usize
-    ensures { λ r. ⌜ (r ≡ bucketOf v) × (r < 65536) ⌝ }
+    ensures { λ r. ⌜ (r ≡ bucketOf v) × (r < 16384) ⌝ }
 {
     let lo = v % 262144 * 2654435769;
     let hi = v / 262144 % 262144 * 2246822519;
-    ((lo + hi) / 134217728 % 65536) as usize
+    ((lo + hi) / 134217728 % 16384) as usize
 }

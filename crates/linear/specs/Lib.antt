@@ -7,6 +7,7 @@ pub mod Select
 pub mod Entry
 pub mod Walk
 pub mod Share
+pub mod Heavy
 pub mod Spread
 pub mod Rank
 pub mod Formulae

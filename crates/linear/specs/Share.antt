@@ -1,24 +1,22 @@
--- How the generators inside a larger space are shared out among the residues that they leave at a smaller one. A walk that looks for many generators need
--- not visit a child where no residue has its share.
+-- How the generators inside a larger space are shared out among the residues that they leave at a smaller one. The law that follows from it
+-- is `heavy` (Heavy).
 --   Two              == the field has no element besides 0 and 1
 --   total f l        == the sum of f over the members of l
 --   gather f l       == the lists f u for the members u of l, joined
 --   over B part      == how many dimensions the list part brings in over the reduced basis B
 --   alike C y gs     == the members of gs whose residue at C is y
---   tips C es        == the residues of the generators numbered es, each at C with those before it put in
 --   others xs        == the sums of the nonempty sublists of xs
 --   weight C W y     == the rank of the generators in the space W whose residue at C is y, over those in the space C
---   Share w x need p == besides 0 and x there is a value whose pair {y, x + y} weighs at least need / p, and which alone weighs half of that
 -- Laws: laws/Share. Assumes nothing.
 use mathlib.Core.Path.{_≡_}
-use mathlib.Core.Logic.{_≢_, _⊎_}
+use mathlib.Core.Logic.{_⊎_}
 use mathlib.Core.List.{List, [], _∷_, _++_, map}
-use Prim.Native.Nat.{ℕ, _+_, _-_, _*_, _≤_}
+use Prim.Native.Nat.{ℕ, _+_, _-_}
 use lib.ListN.{length}
 use Rattle.linear.specs.Space.{Field, Space}
-use Rattle.linear.specs.Basis.{reduce, insert, inserts, basisOf}
+use Rattle.linear.specs.Basis.{reduce, inserts, basisOf}
 use Rattle.linear.specs.Select.{only}
-use Rattle.linear.specs.Entry.{sameVec, generator, generatorsIn}
+use Rattle.linear.specs.Entry.{sameVec, generatorsIn}
 
 unfoldable pub total : {A : Type 0} → (A → ℕ) → List A → ℕ
 total f [] = 0
@@ -29,7 +27,7 @@ gather f [] = []
 gather f (u ∷ l) = f u ++ gather f l
 
 module _ (S : Space) where
-  open Space S using (fld, Vec, nul, add)
+  open Space S using (fld, Vec, add)
   open Field fld using (K, 𝟘, 𝟙)
 
   abbrev pub Two : Type 0
@@ -41,20 +39,9 @@ module _ (S : Space) where
   unfoldable pub alike : List Vec → Vec → List Vec → List Vec
   alike C y gs = only (λ g. sameVec S (reduce S C g) y) gs
 
-  unfoldable pub tips : List Vec → List Vec → List ℕ → List Vec
-  tips gens C [] = []
-  tips gens C (e ∷ es) = reduce S C (generator S gens e) ∷ tips gens (insert S C (generator S gens e)) es
-
   unfoldable pub others : List Vec → List Vec
   others [] = []
   others (x ∷ xs) = others xs ++ x ∷ map (add x) (others xs)
 
   abbrev pub weight : List Vec → List Vec → List Vec → Vec → ℕ
   weight gens C W y = over (basisOf S (generatorsIn S gens C)) (alike C y (generatorsIn S gens W))
-
-  pub record Share (w : Vec → ℕ) (x : Vec) (need p : ℕ) : Type 0 where
-    pub value : Vec
-    pub some : value ≢ nul
-    pub other : value ≢ x
-    pub pair : need ≤ p * (w value + w (add x value))
-    pub half : need ≤ 2 * p * w value

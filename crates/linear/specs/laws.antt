@@ -16,6 +16,7 @@ pub mod Pruned
 pub mod Canonical
 pub mod Walk
 pub mod Share
+pub mod Heavy
 pub mod Spread
 pub mod Rank
 pub mod Formulae

@@ -30,22 +30,8 @@ fn tally(gens: &[u64], b: Basis, k: usize, limit: u64, out: &mut [u64]) -> Tally
         shown: 0,
         at: 0,
     };
-    let mut firsts = [0u16; 65536];
     let mut rows = [0u64; 32768];
-    walk::walk(
-        gens,
-        &h[..n],
-        0,
-        missing,
-        k,
-        b,
-        c,
-        t,
-        limit,
-        &mut firsts,
-        &mut rows,
-        out,
-    )
+    walk::walk(gens, &h[..n], 0, missing, k, b, c, t, limit, &mut rows, out)
 }
 
 // The first entries for `k`, at most `limit`: counted, and the records that fit written from the start of `out`.

@@ -1,7 +1,7 @@
 // Marked numbers: those whose mark is not 0.
 ghost use Prim.Native.Nat.{_≤_};
 ghost use lib.ListN.{length};
-ghost use Rattle.marks.specs.Marks.{NextMarked};
+ghost use Rattle.marks.specs.Marks.{NextMarked, NextWith};
 
 // The first marked number from `from` on, or `n` if none below it is.
 pub fn next_marked(marks: &[u8], from: usize, n: usize) -> usize
@@ -14,6 +14,21 @@ pub fn next_marked(marks: &[u8], from: usize, n: usize) -> usize
             return j;
         }
         j += 1;
+    }
+    n
+}
+
+// The first number from `from` on whose mark is `mark`, or `n` if none below it is.
+pub fn next_with(marks: &[u8], mark: usize, from: usize, n: usize) -> usize
+    requires { ⌜ (from ≤ n) × (n ≤ length (now marks)) ⌝ }
+    ensures { λ r. ⌜ NextWith (now (marks .entry)) mark from n r ⌝ }
+{
+    let mut i = from;
+    while i < n {
+        if marks[i] as usize == mark {
+            return i;
+        }
+        i += 1;
     }
     n
 }

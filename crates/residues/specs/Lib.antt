@@ -1,3 +1,4 @@
 -- Residues of the generators.
 pub mod Mapped
+pub mod Taking
 pub mod laws

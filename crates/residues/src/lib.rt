@@ -10,6 +10,7 @@ ghost use Rattle.linear.specs.Word.{word};
 ghost use Rattle.bases.specs.Basis.{rowsOf, Valid, Holds};
 ghost use Rattle.children.specs.Residues.{known, withResidue};
 ghost use Rattle.residues.specs.Mapped.{Mapped};
+ghost use Rattle.residues.specs.Taking.{Took};
 
 // The residues of the generators for the basis `b`.
 pub fn residues(gens: &[u64], b: Basis, out: &mut [u64; 4096])
@@ -24,7 +25,7 @@ pub fn residues(gens: &[u64], b: Basis, out: &mut [u64; 4096])
 }
 
 // The residues after a new row, `x`, from those before.
-pub fn child(h: &[u64], x: u64, out: &mut [u64; 4096])
+pub fn child(h: &[u64], x: u64, out: &mut [u64])
     requires { ⌜ (length (now h) ≤ 4096) × (length (now out) ≡ 4096) ⌝ }
     ensures { λ _. ⌜ Mapped (clear word x) (now (h .entry)) (now (out .exit)) ⌝ }
 {
@@ -76,4 +77,35 @@ pub fn spanned(gens: &[u64], h: &[u64], k: usize) -> bool
     ensures { λ r. ⌜ r ≡ eqb (dim word (withResidue 0 (now (gens .entry)) (now (h .entry)))) k ⌝ }
 {
     with_residue(gens, h, 0, Basis::empty()).len == k
+}
+
+// The basis with the generators of one residue put in, or that a flagged number has the residue.
+pub struct Taken {
+    pub flagged: bool,
+    pub basis: Basis,
+}
+
+// The basis `s` with the generators of residue `x` put in, unless a flagged number has this residue.
+pub fn take(gens: &[u64], h: &[u64], x: u64, s: Basis, flags: &[u8]) -> Taken
+    requires { ⌜ (Valid s) × (length (now gens) ≡ length (now h)) × (length (now h) ≤ length (now flags)) ⌝ }
+    ensures { λ r. ⌜ Took (now (gens .entry)) (now (h .entry)) x s (now (flags .entry)) r ⌝ }
+{
+    let mut b = s;
+    let mut i = 0;
+    while i < gens.len() {
+        if h[i] == x {
+            if flags[i] != 0 {
+                return Taken {
+                    flagged: true,
+                    basis: b,
+                };
+            }
+            b = b.insert(gens[i]);
+        }
+        i += 1;
+    }
+    Taken {
+        flagged: false,
+        basis: b,
+    }
 }

@@ -1,5 +1,6 @@
 -- Which numbers a walk goes on with from a space.
---   Worth .. r            == the mark r is 0 only where the child of j is barren
+--   Sieving gens h start missing ..  == what `sieve` asks: as many residues as generators, the number to start from, the dimensions missing, the length of
+--                                       the lent rows, and no marks
 --   Judged .. r           == the mark r of j is 0 only where j is known or its child barren, and else j is not known
 --   Sieved .. lo hi marks == the numbers from lo on and below hi are so marked
 -- So a sieve never drops a number that is not known and leads to an entry. Laws: laws/Marks. Assumes nothing.
@@ -8,12 +9,18 @@ use mathlib.Core.Logic.{_≢_, _⊎_}
 use mathlib.Core.Bool.{true, false}
 use mathlib.Core.List.{List}
 use Prim.Native.Nat.{ℕ, _<_, _≤_}
-use lib.ListN.{length, getD}
+use lib.ListN.{length, getD, replicate}
 use Rattle.children.specs.Residues.{known}
 use Rattle.children.specs.Barren.{Barren}
 
-pub record Worth (gens h : List ℕ) (j k missing r : ℕ) : Type 0 where
-  pub off : r ≡ 0 → Barren gens h j k missing
+pub record Sieving (gens h : List ℕ) (start missing : ℕ) (rows marks : List ℕ) : Type 0 where
+  pub alike : length gens ≡ length h
+  pub few : length h ≤ 4096
+  pub begin : start ≤ length h
+  pub some : missing ≢ 0
+  pub most : missing ≤ 8
+  pub rows-all : length rows ≡ 32768
+  pub blank : marks ≡ replicate 4096 0
 
 pub record Judged (gens h : List ℕ) (j k missing r : ℕ) : Type 0 where
   pub off : r ≡ 0 → (true ≡ known h j) ⊎ Barren gens h j k missing

@@ -1,3 +1,2 @@
 -- The laws of the definitions beside this folder.
 pub mod Marks
-pub mod Settle

@@ -11,7 +11,7 @@ ghost use Rattle.records.specs.Keep.{chainOf, stateOf};
 ghost use Rattle.walk.specs.Walk.{search, Node};
 
 // Goes on from the space of `b`, reached with the numbers of `c`, by `missing` numbers from `start` on. `h` holds the residues of the generators. What the lent
-// `firsts` and `stretches` hold plays no part.
+// `stretches` hold plays no part.
 pub fn walk(
     gens: &[u64],
     h: &[u64],
@@ -22,11 +22,10 @@ pub fn walk(
     c: Chain,
     t: Tally,
     limit: u64,
-    firsts: &mut [u16],
     stretches: &mut [u64],
     out: &mut [u64],
 ) -> Tally
-    requires { ⌜ Node (now gens) (now h) start missing b c t limit (now out) × (length (now firsts) ≡ 65536) × (length (now stretches) ≡ 32768) ⌝ }
+    requires { ⌜ Node (now gens) (now h) start missing b c t limit (now out) × (length (now stretches) ≡ 32768) ⌝ }
     ensures { λ r. ⌜ stateOf r (now (out .exit)) ≡ run limit (stateOf t (now (out .entry))) (search (now (gens .entry)) k (rowsOf b) (chainOf c) (length (now (gens .entry)) - start) start missing) ⌝ }
 {
     if missing == 0 {
@@ -37,7 +36,7 @@ pub fn walk(
     }
     let n = gens.len();
     let mut marks = [0u8; 4096];
-    sieve::sieve(gens, h, start, k, missing, firsts, stretches, &mut marks);
+    sieve::sieve(gens, h, start, k, missing, stretches, &mut marks);
     let mut j = marks::next_marked(&marks, start, n);
     if j == n {
         return t;
@@ -60,7 +59,6 @@ pub fn walk(
             records::push(c, j),
             u,
             limit,
-            firsts,
             stretches,
             out,
         );

@@ -1,43 +1,41 @@
 -- The child of a space, by a generator that is new there.
 --   reduce-child, child-residues   its residues are those of the space, cleared by the generator's
 --   residue-at, residues-length    the residue with a number; how many there are
---   clear-zero                     the row x clears to 0 only 0 and x
+--   clear-zero, clear-self, zero-clear   the row x clears to 0 only 0 and x, and these it does
+--   clear-at                       the cleared residue with a number
 --   with-zero                      the generators of residue 0 are those in the space
---   with-mem, mem-with             the generators of a residue
---   child-dim                      those in the child span as many dimensions as the generators of residue x make rows on those of residue 0
+--   mem-with                       the generators of a residue
 -- Assumes nothing.
 use mathlib.Core.Path.{_≡_, refl, sym, ap, ap₂, _∙_, subst}
 use mathlib.Core.Logic.{_≢_, _⊎_, inl, inr}
 use mathlib.Core.Bool.{Bool, true, false, cond, true≢false, false≢true}
-use mathlib.Core.List.{List, [], _∷_, _++_, map, List·Memᴰ, List·Memᴰ·append-cases, Memᴰ·append-left, Memᴰ·append-right}
+use mathlib.Core.List.{List, [], _∷_, map, List·Memᴰ}
 use Prim.Native.Nat.{ℕ, zero, suc}
 use native.Mathlib.Omega.{arith}
 use lib.ListN.{length, getD, List·getD-map, length-map}
 use lib.Bits.{bitXor, xor-zero-l, xor-self}
 use lib.Dec.{eqb}
-use borrow.Author.Tests.{eq-eqb, ne-eqb, eqb-true}
-use Rattle.linear.specs.Span.{Span, Within}
+use borrow.Author.Tests.{eq-eqb, ne-eqb}
 use Rattle.linear.specs.Bit.{bit, top}
-use Rattle.linear.specs.Basis.{clear, reduce, insert, inserts, basisOf, Reduced, dim}
+use Rattle.linear.specs.Basis.{clear, reduce, insert, Reduced}
 use Rattle.linear.specs.Select.{only}
 use Rattle.linear.specs.Entry.{sameVec, inside, generator, generatorsIn}
 use Rattle.linear.specs.Word.{word, scaleW, isZero}
 use Rattle.linear.specs.laws.Bit.{bit-zero, top-one}
-use Rattle.linear.specs.laws.Span.{span-mem, span-bind, span-mono}
 use Rattle.linear.specs.laws.Reduce.{clear-done}
-use Rattle.linear.specs.laws.Insert.{inserts-reduced, inserts-span, basisOf-reduced, basisOf-span}
 use Rattle.linear.specs.laws.Residue.{reduce-nul, reduce-insert}
-use Rattle.linear.specs.laws.Select.{only-mem, mem-only}
+use Rattle.linear.specs.laws.Select.{mem-only}
 use Rattle.linear.specs.laws.Entry.{sameVec-yes}
-use Rattle.linear.specs.laws.Dimension.{basisOf-is}
 use Rattle.linear.specs.laws.Word.{norm-word}
 use Rattle.children.specs.Residues.{residues, withResidue}
 
 -- ---- its residues
-pub reduce-child : (C : List ℕ) → Reduced word C → (g m : ℕ) → reduce word C g ≢ 0 → reduce word (insert word C g) m ≡ clear word (reduce word C g) (reduce word C m)
+pub reduce-child : (C : List ℕ) → Reduced word C → (g m : ℕ) → reduce word C g ≢ 0
+    → reduce word (insert word C g) m ≡ clear word (reduce word C g) (reduce word C m)
 reduce-child C ρ g m h = reduce-insert word C ρ g m h ∙ ap (λ (r : ℕ). clear word r (reduce word C m)) (norm-word (reduce word C g) h)
 
-pub child-residues : (gens C : List ℕ) → Reduced word C → (g : ℕ) → reduce word C g ≢ 0 → map (clear word (reduce word C g)) (residues gens C) ≡ residues gens (insert word C g)
+pub child-residues : (gens C : List ℕ) → Reduced word C → (g : ℕ) → reduce word C g ≢ 0
+    → map (clear word (reduce word C g)) (residues gens C) ≡ residues gens (insert word C g)
 unfolding residues
 child-residues [] C ρ g n = refl
 child-residues (m ∷ gens) C ρ g n = ap₂ _∷_ (sym (reduce-child C ρ g m n)) (child-residues gens C ρ g n)
@@ -66,7 +64,7 @@ clear-zero x y = go (bit y (top x))
     go true e = inr (sameVec-yes word x y (ap isZero e))
     go false e = inl (sym (xor-zero-l y) ∙ e)
 
-clear-self : (x : ℕ) → x ≢ 0 → clear word x x ≡ 0
+pub clear-self : (x : ℕ) → x ≢ 0 → clear word x x ≡ 0
 unfolding clear
 clear-self x n = go (bit x (top x)) refl
   where
@@ -74,8 +72,11 @@ clear-self x n = go (bit x (top x)) refl
     go true e = xor-self x
     go false e = absurd (top-one x n e)
 
-zero-clear : (x : ℕ) → clear word x 0 ≡ 0
+pub zero-clear : (x : ℕ) → clear word x 0 ≡ 0
 zero-clear x = clear-done word x 0 (bit-zero (top x))
+
+pub clear-at : (x : ℕ) (d : List ℕ) (i : ℕ) → getD (map (clear word x) d) i 0 ≡ clear word x (getD d i 0)
+clear-at x d i = ap (λ (e : ℕ). getD (map (clear word x) d) i e) (sym (zero-clear x)) ∙ List·getD-map (clear word x) d i 0
 
 -- ---- the generators by residue
 with-only : (x : ℕ) (gens C : List ℕ) → withResidue x gens (residues gens C) ≡ only (λ g. eqb (reduce word C g) x) gens
@@ -93,55 +94,6 @@ with-zero [] C = refl
 with-zero (g ∷ gens) C = ap₂ (λ (t : Bool) (r : List ℕ). cond t (g ∷ r) r) (eqb-zero (reduce word C g)) (with-zero gens C)
 
 module _ (gens C : List ℕ) where
-  pub with-mem : (y m : ℕ) → List·Memᴰ m (withResidue y gens (residues gens C)) → List·Memᴰ m gens × (reduce word C m ≡ y)
-  with-mem y m k =
-      let r = only-mem (λ g. eqb (reduce word C g) y) gens m (subst (λ (l : List ℕ). List·Memᴰ m l) (with-only y gens C) k) in
-      (r .0, eqb-true (reduce word C m) y (r .1))
-
   pub mem-with : (y m : ℕ) → List·Memᴰ m gens → reduce word C m ≡ y → List·Memᴰ m (withResidue y gens (residues gens C))
   mem-with y m k e =
       subst (λ (l : List ℕ). List·Memᴰ m l) (sym (with-only y gens C)) (mem-only (λ g. eqb (reduce word C g) y) gens m k (eq-eqb (reduce word C m) y e))
-
-  module _ (ρ : Reduced word C) (g : ℕ) (n : reduce word C g ≢ 0) where
-    abbrev x : ℕ
-    x = reduce word C g
-
-    abbrev D : List ℕ
-    D = insert word C g
-
-    abbrev X : List ℕ
-    X = withResidue x gens (residues gens C)
-
-    abbrev Z : List ℕ
-    Z = withResidue 0 gens (residues gens C)
-
-    mem-in : (m : ℕ) → List·Memᴰ m gens → clear word x (reduce word C m) ≡ 0 → List·Memᴰ m (generatorsIn word gens D)
-    unfolding generatorsIn inside
-    mem-in m k e = mem-only (inside word D) gens m k (ap isZero (reduce-child C ρ g m n ∙ e))
-
-    in-mem : (m : ℕ) → List·Memᴰ m (generatorsIn word gens D) → List·Memᴰ m gens × (clear word x (reduce word C m) ≡ 0)
-    unfolding generatorsIn inside
-    in-mem m k = let r = only-mem (inside word D) gens m k in (r .0, sym (reduce-child C ρ g m n) ∙ zero-yes (reduce word D m) (r .1))
-
-    rows-in : Within word (inserts word (basisOf word Z) X) (generatorsIn word gens D)
-    rows-in v s = span-bind word (λ m k. go m (List·Memᴰ·append-cases X k)) (inserts-span word X (basisOf word Z) v .0 s)
-      where
-        old : (m : ℕ) → List·Memᴰ m Z → Span word (generatorsIn word gens D) m
-        old m k = let r = with-mem 0 m k in span-mem word (mem-in m (r .0) (ap (clear word x) (r .1) ∙ zero-clear x))
-
-        go : (m : ℕ) → List·Memᴰ m X ⊎ List·Memᴰ m (basisOf word Z) → Span word (generatorsIn word gens D) m
-        go m (inl k) = let r = with-mem x m k in span-mem word (mem-in m (r .0) (ap (clear word x) (r .1) ∙ clear-self x n))
-        go m (inr k) = span-bind word old (basisOf-span word Z m .0 (span-mem word k))
-
-    in-rows : Within word (generatorsIn word gens D) (inserts word (basisOf word Z) X)
-    in-rows v s = span-bind word (λ m k. let r = in-mem m k in inserts-span word X (basisOf word Z) m .1 (go m (r .0) (clear-zero x (reduce word C m) (r .1)))) s
-      where
-        go : (m : ℕ) → List·Memᴰ m gens → (reduce word C m ≡ 0) ⊎ (x ≡ reduce word C m) → Span word (X ++ basisOf word Z) m
-        go m k (inl e) = span-mono word (λ y j. Memᴰ·append-right X j) (basisOf-span word Z m .1 (span-mem word (mem-with 0 m k e)))
-        go m k (inr e) = span-mem word (Memᴰ·append-left (basisOf word Z) (mem-with x m k (sym e)))
-
-    pub child-dim : length (inserts word (basisOf word Z) X) ≡ dim word (generatorsIn word gens D)
-    unfolding dim
-    child-dim =
-        ap length
-        (sym (basisOf-is word (inserts word (basisOf word Z) X) (generatorsIn word gens D) (inserts-reduced word X (basisOf word Z) (basisOf-reduced word Z)) rows-in in-rows))

@@ -51,7 +51,8 @@ known-found h j i n l k e =
     let z : i < length (take j h) = omega (arith, length-take j h) in
     sym
     (ap (λ (t : Bool). t || anyOf (eqb (getD h j 0)) (take j h)) (isZero-of (getD h j 0) n)
-    ∙ any-here (eqb (getD h j 0)) (take j h) (getD (take j h) i 0) (mem-getD (take j h) i 0 z) (eq-eqb (getD h j 0) (getD (take j h) i 0) (sym (getD-take j h i 0 l ∙ e))))
+    ∙ any-here (eqb (getD h j 0)) (take j h) (getD (take j h) i 0) (mem-getD (take j h) i 0 z) (eq-eqb (getD h j 0) (getD (take j h) i 0) (sym
+    (getD-take j h i 0 l ∙ e))))
 
 pub known-none : (h : List ℕ) (j : ℕ) → getD h j 0 ≢ 0 → ((i : ℕ) → i < j → getD h i 0 ≢ getD h j 0) → false ≡ known h j
 unfolding known
@@ -76,7 +77,8 @@ known-ne h j e z = true≢false (sym (ap (λ (x : ℕ). isZero x || anyOf (eqb (
 module _ (gens : List ℕ) where
   pub known-yes : (C : List ℕ) (i : ℕ) → Reduced word C → known (residues gens C) i ≡ true
       → (reduce word C (generator word gens i) ≡ 0)
-      ⊎ ((j : ℕ) × (j < i) × (c : Bool) × (d : Bool) × (reduce word C (generator word gens j) ≡ scaleW c (reduce word C (generator word gens i))) × (reduce word C (generator word gens i) ≡ scaleW d (reduce word C (generator word gens j))))
+      ⊎ ((j : ℕ) × (j < i) × (c : Bool) × (d : Bool) × (reduce word C (generator word gens j) ≡ scaleW c (reduce word C (generator word gens i))) ×
+      (reduce word C (generator word gens i) ≡ scaleW d (reduce word C (generator word gens j))))
   unfolding known
   known-yes C i ρ = go (isZero v) refl
     where
@@ -88,7 +90,8 @@ module _ (gens : List ℕ) where
 
       go : (t : Bool) → isZero v ≡ t → t || anyOf (eqb v) (take i h) ≡ true
           → (reduce word C (generator word gens i) ≡ 0)
-          ⊎ ((j : ℕ) × (j < i) × (c : Bool) × (d : Bool) × (reduce word C (generator word gens j) ≡ scaleW c (reduce word C (generator word gens i))) × (reduce word C (generator word gens i) ≡ scaleW d (reduce word C (generator word gens j))))
+          ⊎ ((j : ℕ) × (j < i) × (c : Bool) × (d : Bool) × (reduce word C (generator word gens j) ≡ scaleW c (reduce word C (generator word gens i))) ×
+          (reduce word C (generator word gens i) ≡ scaleW d (reduce word C (generator word gens j))))
       go true q e = inl (sym (residue-at gens C i) ∙ zero-yes v q)
       go false q e =
           let r = anyOf-yes (eqb v) (take i h) e in
@@ -117,7 +120,8 @@ module _ (gens : List ℕ) where
       go false q e =
           record {
             new = λ s. ne (member word C ρ g .0 s);
-            first = λ j l s. back j l (clear-zero (reduce word C g) (reduce word C (generator word gens j)) (sym (reduce-child C ρ g (generator word gens j) ne) ∙ member word (insert word C g) (insert-reduced word C g ρ) (generator word gens j) .0 s));
+            first = λ j l s. back j l (clear-zero (reduce word C g) (reduce word C (generator word gens j)) (sym (reduce-child C ρ g
+                (generator word gens j) ne) ∙ member word (insert word C g) (insert-reduced word C g ρ) (generator word gens j) .0 s));
           }
         where
           ne : reduce word C g ≢ 0
@@ -130,9 +134,11 @@ module _ (gens : List ℕ) where
               at (yes l) = l
               at (no n) = absurd (zero-no v q (List·getD-eq-default h 0 {n = i} (omega arith)))
 
-          back : (j : ℕ) → j < i → (reduce word C (generator word gens j) ≡ 0) ⊎ (reduce word C g ≡ reduce word C (generator word gens j)) → Span word C (generator word gens j)
+          back : (j : ℕ) → j < i → (reduce word C (generator word gens j) ≡ 0) ⊎ (reduce word C g ≡ reduce word C (generator word gens j))
+              → Span word C (generator word gens j)
           back j l (inl z) = member word C ρ (generator word gens j) .1 z
           back j l (inr z) =
               let k : j < length (take i h) = omega (arith, inside-h, length-take i h) in
               let m : List·Memᴰ (getD (take i h) j 0) (take i h) = mem-getD (take i h) j 0 k in
-              absurd (true≢false (sym (eq-eqb v (getD (take i h) j 0) (residue-at gens C i ∙ z ∙ sym (residue-at gens C j) ∙ sym (getD-take i h j 0 l))) ∙ anyOf-no (eqb v) (take i h) e (getD (take i h) j 0) m))
+              absurd (true≢false (sym (eq-eqb v (getD (take i h) j 0) (residue-at gens C i ∙ z ∙ sym (residue-at gens C j) ∙ sym
+              (getD-take i h j 0 l))) ∙ anyOf-no (eqb v) (take i h) e (getD (take i h) j 0) m))

@@ -33,16 +33,29 @@ module _ (S : Space) (gens : List (S .Vec)) where
 
   pub steps-more : (p : List ℕ) (C : List Vec) (lo hi hi′ : ℕ) → hi ≤ hi′ → Steps C lo hi p → Steps C lo hi′ p
   steps-more [] C lo hi hi′ h s = tt
-  steps-more (e ∷ p) C lo hi hi′ h s = (s .0, (let l : e < hi = s .1 in omega arith), s .2, steps-more p (insert S C (generator S gens e)) (suc e) hi hi′ h (s .3))
+  steps-more (e ∷ p) C lo hi hi′ h s = (
+    s .0,
+    (let l : e < hi = s .1 in omega arith),
+    s .2,
+    steps-more p (insert S C (generator S gens e)) (suc e) hi hi′ h
+        (s .3),
+  )
 
-  pub steps-snoc : (p : List ℕ) (C : List Vec) (lo i : ℕ) → Steps C lo i p → lo ≤ i → Next S gens (inserts S C (chosen S gens p)) i → Steps C lo (suc i) (p ++ i ∷ [])
+  pub steps-snoc : (p : List ℕ) (C : List Vec) (lo i : ℕ) → Steps C lo i p → lo ≤ i → Next S gens (inserts S C (chosen S gens p)) i
+      → Steps C lo (suc i) (p ++ i ∷ [])
   unfolding inserts chosen
   steps-snoc [] C lo i s l n = (l, omega arith, n, tt)
-  steps-snoc (e ∷ p) C lo i s l n =
-      (s .0, (let k : e < i = s .1 in omega arith), s .2, steps-snoc p (insert S C (generator S gens e)) (suc e) i (s .3) (let k : e < i = s .1 in omega arith) n)
+  steps-snoc (e ∷ p) C lo i s l n = (
+    s .0,
+    (let k : e < i = s .1 in omega arith),
+    s .2,
+    steps-snoc p (insert S C (generator S gens e)) (suc e) i (s .3)
+        (let k : e < i = s .1 in omega arith) n,
+  )
 
   -- what stands below all the numbers and is in the space was there before
-  pub steps-low : (p : List ℕ) (C : List Vec) (lo hi j : ℕ) → Steps C lo hi p → j < lo → Span S (inserts S C (chosen S gens p)) (generator S gens j) → Span S C (generator S gens j)
+  pub steps-low : (p : List ℕ) (C : List Vec) (lo hi j : ℕ) → Steps C lo hi p → j < lo → Span S (inserts S C (chosen S gens p)) (generator S gens j)
+      → Span S C (generator S gens j)
   unfolding inserts chosen
   steps-low [] C lo hi j s l t = t
   steps-low (e ∷ p) C lo hi j s l t =
@@ -77,7 +90,8 @@ module _ (S : Space) (gens : List (S .Vec)) where
   steps-greedy zero [] C W i hi q ρ w s = refl
   steps-greedy zero (e ∷ p) C W i hi q ρ w s = absurd (omega (arith, s .0, s .1))
   steps-greedy (suc n) [] C W i hi q ρ w s =
-      ap (λ t. cond t (i ∷ greedy S gens W (cond t (insert S C (generator S gens i)) C) n (suc i)) (greedy S gens W (cond t (insert S C (generator S gens i)) C) n (suc i)))
+      ap (λ t. cond t (i ∷ greedy S gens W (cond t (insert S C (generator S gens i)) C) n (suc i)) (greedy S gens W (cond t (insert S C
+      (generator S gens i)) C) n (suc i)))
       (wanted-false W C (generator S gens i) ρ (λ x. subst (λ X. Span S X (generator S gens i)) w x))
       ∙ steps-greedy n [] C W (suc i) hi (omega arith) ρ w tt
   steps-greedy (suc n) (e ∷ p) C W i hi q ρ w s =
@@ -94,13 +108,16 @@ module _ (S : Space) (gens : List (S .Vec)) where
       σ = subst (Reduced S) (sym w) (inserts-reduced S (chosen S gens p) (insert S C (generator S gens e)) (insert-reduced S C (generator S gens e) ρ))
 
       in-W : Span S W (generator S gens e)
-      in-W = subst (λ X. Span S X (generator S gens e)) (sym w) (inserts-span S (generator S gens e ∷ chosen S gens p) C (generator S gens e) .1 (span-head S (generator S gens e) (chosen S gens p ++ C)))
+      in-W = subst (λ X. Span S X (generator S gens e)) (sym w) (inserts-span S (generator S gens e ∷ chosen S gens p) C (generator S gens e) .1
+          (span-head S (generator S gens e) (chosen S gens p ++ C)))
 
       go : Dec (e ≡ i) → (Steps (insert S C (generator S gens e)) (suc i) hi p → greedy S gens W (insert S C (generator S gens e)) n (suc i) ≡ p)
           → (Steps C (suc i) hi (e ∷ p) → greedy S gens W C n (suc i) ≡ e ∷ p) → run (wanted S gens W C f) ≡ e ∷ p
       go (yes d) a b =
-          ap run (wanted-true W C f σ (subst (λ x. Span S W (generator S gens x)) d in-W) (λ x. s .2 .new (subst (λ y. Span S C (generator S gens y)) (sym d) x)))
-          ∙ ap₂ _∷_ (sym d) (ap (λ x. greedy S gens W (insert S C (generator S gens x)) n (suc i)) (sym d) ∙ a (subst (λ x. Steps (insert S C (generator S gens e)) (suc x) hi p) d (s .3)))
+          ap run (wanted-true W C f σ (subst (λ x. Span S W (generator S gens x)) d in-W) (λ x. s .2 .new (subst (λ y. Span S C (generator S gens y))
+          (sym d) x)))
+          ∙ ap₂ _∷_ (sym d) (ap (λ x. greedy S gens W (insert S C (generator S gens x)) n (suc i)) (sym d) ∙ a (subst (λ x. Steps (insert S C
+          (generator S gens e)) (suc x) hi p) d (s .3)))
       go (no d) a b =
           let l : i ≤ e = s .0 in
           ap run (wanted-false W C f ρ (λ x. steps-low (e ∷ p) C (suc i) hi i (omega arith, s .1, s .2, s .3) (omega arith) (subst (λ X. Span S X f) w x)))

@@ -40,7 +40,8 @@ bernoulli n (suc m) =
     let ih : suc m * A + B ≤ P = bernoulli n m in
     step (suc m * A) B P (suc m * B) (B * n) (P * n) ih
     (let f : (suc m * A + B) * n ≤ P * n = mul-le-mul-right n ih in
-    let g : (suc m * A + B) * n ≡ suc m * B + B * n = add-mul (suc m * A) B n ∙ ap (λ (x : ℕ). x + B * n) (mul-assoc (suc m) A n ∙ ap (λ (x : ℕ). suc m * x) (sym (pow-suc n m))) in
+    let g : (suc m * A + B) * n ≡ suc m * B + B * n = add-mul (suc m * A) B n ∙ ap (λ (x : ℕ). x + B * n) (mul-assoc (suc m) A n ∙ ap (λ (x : ℕ). suc m * x)
+    (sym (pow-suc n m))) in
     subst (λ (x : ℕ). x ≤ P * n) g f)
     (suc-mul (suc m) B) (pow-suc n (suc m)) (pow-suc (suc n) (suc m) ∙ mul-suc P n)
   where
@@ -84,7 +85,8 @@ choose-small n m h k = go m k
     go (suc (suc (suc (suc (suc (suc zero)))))) k = omega (arith, at 6)
     go (suc (suc (suc (suc (suc (suc (suc m))))))) k = absurd (omega arith)
 
-pub entries-count : (S : Space) (gens targets : List (S .Vec)) (k : ℕ) → length gens ≤ 4095 → k ≤ dim S targets + 6 → length (entries S gens targets k) < 2 ^ 64
+pub entries-count : (S : Space) (gens targets : List (S .Vec)) (k : ℕ) → length gens ≤ 4095 → k ≤ dim S targets + 6
+    → length (entries S gens targets k) < 2 ^ 64
 unfolding entries
 entries-count S gens targets k h l =
     let m : ℕ = k - dim S targets in

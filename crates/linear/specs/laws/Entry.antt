@@ -88,10 +88,12 @@ module _ (S : Space) where
     unfolding generatorsIn
     generatorsIn-within B v s = span-bind S (λ x m. inside-yes B x (only-mem (inside S B) gens x m .1)) s
 
-    pub fits-yes : (k : ℕ) (B : List Vec) → Reduced S B → fits S gens k B ≡ true → (length B ≡ k) × ((v : Vec) → Span S B v → Span S (generatorsIn S gens B) v)
+    pub fits-yes : (k : ℕ) (B : List Vec) → Reduced S B → fits S gens k B ≡ true
+        → (length B ≡ k) × ((v : Vec) → Span S B v → Span S (generatorsIn S gens B) v)
     unfolding fits
     fits-yes k B ρ e =
-        let p : (eqb (length B) k ≡ true) × (eqb (dim S (generatorsIn S gens B)) k ≡ true) = and-eq-true-iff (eqb (length B) k) (eqb (dim S (generatorsIn S gens B)) k) .0 e in
+        let p : (eqb (length B) k ≡ true) × (eqb (dim S (generatorsIn S gens B)) k ≡ true) = and-eq-true-iff (eqb (length B) k) (eqb (dim S
+        (generatorsIn S gens B)) k) .0 e in
         let a : length B ≡ k = eqb-true (length B) k (p .0) in
         let b : dim S (generatorsIn S gens B) ≡ k = eqb-true (dim S (generatorsIn S gens B)) k (p .1) in
         (a, same-size S B (generatorsIn S gens B) ρ (generatorsIn-within B) (omega arith))
@@ -99,7 +101,8 @@ module _ (S : Space) where
     pub yes-fits : (k : ℕ) (B : List Vec) → Reduced S B → length B ≡ k → ((v : Vec) → Span S B v → Span S (generatorsIn S gens B) v) → fits S gens k B ≡ true
     unfolding fits
     yes-fits k B ρ e h =
-        ap₂ _&&_ (eq-eqb (length B) k e) (eq-eqb (dim S (generatorsIn S gens B)) k (unfold dim in ap length (basisOf-is S B (generatorsIn S gens B) ρ h (generatorsIn-within B)) ∙ e))
+        ap₂ _&&_ (eq-eqb (length B) k e) (eq-eqb (dim S (generatorsIn S gens B)) k (unfold dim in ap length (basisOf-is S B (generatorsIn S gens B) ρ h
+        (generatorsIn-within B)) ∙ e))
 
   module _ (gens targets : List Vec) where
     pub space-reduced : (es : List ℕ) → Reduced S (space S gens targets es)
@@ -108,19 +111,23 @@ module _ (S : Space) where
 
     pub space-holds : (es : List ℕ) (t : Vec) → List·Memᴰ t targets → Span S (space S gens targets es) t
     unfolding space
-    space-holds es t m = inserts-span S (chosen S gens es) (basisOf S targets) t .1 (span-mono S (λ x k. Memᴰ·append-right (chosen S gens es) k) (basisOf-span S targets t .1 (span-mem S m)))
+    space-holds es t m = inserts-span S (chosen S gens es) (basisOf S targets) t .1 (span-mono S (λ x k. Memᴰ·append-right (chosen S gens es) k)
+        (basisOf-span S targets t .1 (span-mem S m)))
 
     pub entries-sound : (k : ℕ) (es : List ℕ) → List·Memᴰ es (entries S gens targets k) → Solution S gens targets k (space S gens targets es)
     unfolding entries
     entries-sound k es m =
-        let r = first-mem (space S gens targets) (fits S gens k) (sameBasis S) sameBasis-yes sameBasis-no (risingLists (length gens) 0 (k - dim S targets)) [] es m in
+        let r = first-mem (space S gens targets) (fits S gens k) (sameBasis S) sameBasis-yes sameBasis-no (risingLists (length gens) 0
+        (k - dim S targets)) [] es m in
         let f = fits-yes gens k (space S gens targets es) (space-reduced es) (r .1) in
         record { reduced = space-reduced es; size = f .0; holds = space-holds es; spanned = f .1 }
 
     pub entries-once : (k : ℕ) → Once (space S gens targets) (entries S gens targets k)
     unfolding entries
-    entries-once k = first-once (space S gens targets) (fits S gens k) (sameBasis S) sameBasis-yes sameBasis-no (risingLists (length gens) 0 (k - dim S targets)) []
+    entries-once k = first-once (space S gens targets) (fits S gens k) (sameBasis S) sameBasis-yes sameBasis-no (risingLists (length gens) 0
+        (k - dim S targets)) []
 
     pub entries-ordered : (k : ℕ) → Ordered Before (entries S gens targets k)
     unfolding entries
-    entries-ordered k = first-ordered (space S gens targets) (fits S gens k) (sameBasis S) sameBasis-yes sameBasis-no Before (risingLists (length gens) 0 (k - dim S targets)) [] (rising-ordered (length gens) 0 (k - dim S targets))
+    entries-ordered k = first-ordered (space S gens targets) (fits S gens k) (sameBasis S) sameBasis-yes sameBasis-no Before (risingLists (length gens) 0
+        (k - dim S targets)) [] (rising-ordered (length gens) 0 (k - dim S targets))

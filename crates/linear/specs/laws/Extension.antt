@@ -108,21 +108,24 @@ module _ (S : Space) (gens targets : List (S .Vec)) where
   unfolding entries
   entries-complete k W E =
       let q : space S gens targets (extension W) ≡ W = extension-space k W E in
-      let r = first-some (space S gens targets) (fits S gens k) (sameBasis S) (sameBasis-yes S) (sameBasis-no S) (risingLists (length gens) 0 (k - dim S targets)) []
+      let r = first-some (space S gens targets) (fits S gens k) (sameBasis S) (sameBasis-yes S) (sameBasis-no S) (risingLists (length gens) 0
+      (k - dim S targets)) []
       (extension W) (extension-rising k W E)
       (ap (fits S gens k) q ∙ yes-fits S gens k W (E .reduced) (E .size) (E .spanned)) (λ y m. absurd (List·Memᴰ·not-nil m)) in
       (r .0, r .1, r .2 ∙ q)
 
   pub entries-unique : (k : ℕ) (es fs : List ℕ) → List·Memᴰ es (entries S gens targets k) → List·Memᴰ fs (entries S gens targets k)
       → space S gens targets es ≡ space S gens targets fs → es ≡ fs
-  entries-unique k = once-eq (space S gens targets) (fits S gens k) (sameBasis S) (sameBasis-yes S) (sameBasis-no S) (entries S gens targets k) (entries-once S gens targets k)
+  entries-unique k = once-eq (space S gens targets) (fits S gens k) (sameBasis S) (sameBasis-yes S) (sameBasis-no S) (entries S gens targets k)
+      (entries-once S gens targets k)
 
   -- ---- an entry is the first of all rising lists with its space
   pub entries-first : (k : ℕ) (es fs : List ℕ) → List·Memᴰ es (entries S gens targets k) → length fs ≡ k - dim S targets → Rising 0 (length gens) fs
       → space S gens targets fs ≡ space S gens targets es → (es ≡ fs) ⊎ Before es fs
   unfolding entries
   entries-first k es fs m l r e =
-      first-first (space S gens targets) (fits S gens k) (sameBasis S) (sameBasis-yes S) (sameBasis-no S) Before (risingLists (length gens) 0 (k - dim S targets)) []
+      first-first (space S gens targets) (fits S gens k) (sameBasis S) (sameBasis-yes S) (sameBasis-no S) Before (risingLists (length gens) 0
+      (k - dim S targets)) []
       (rising-ordered (length gens) 0 (k - dim S targets)) es m fs (rising-complete (length gens) 0 (k - dim S targets) (length gens) (omega arith) fs l r) e
 
   -- ---- the extension listed is the greedy one
@@ -136,15 +139,18 @@ module _ (S : Space) (gens targets : List (S .Vec)) where
       E : Solution S gens targets k W
       E = entries-sound S gens targets k es m
 
-      picked : List·Memᴰ es (risingLists (length gens) 0 (k - dim S targets)) × (fits S gens k W ≡ true) × ((y : List ℕ) → List·Memᴰ y [] → space S gens targets y ≢ W)
-      picked = first-mem (space S gens targets) (fits S gens k) (sameBasis S) (sameBasis-yes S) (sameBasis-no S) (risingLists (length gens) 0 (k - dim S targets)) [] es m
+      picked : List·Memᴰ es (risingLists (length gens) 0 (k - dim S targets)) × (fits S gens k W ≡ true) ×
+          ((y : List ℕ) → List·Memᴰ y [] → space S gens targets y ≢ W)
+      picked = first-mem (space S gens targets) (fits S gens k) (sameBasis S) (sameBasis-yes S) (sameBasis-no S) (risingLists (length gens) 0
+          (k - dim S targets)) [] es m
 
       combo : RisingList (k - dim S targets) 0 (length gens) es
       combo = rising-sound (length gens) 0 (k - dim S targets) (length gens) (omega arith) es (picked .0)
 
       first : (es ≡ extension W) ⊎ Before es (extension W)
       first =
-          first-first (space S gens targets) (fits S gens k) (sameBasis S) (sameBasis-yes S) (sameBasis-no S) Before (risingLists (length gens) 0 (k - dim S targets)) []
+          first-first (space S gens targets) (fits S gens k) (sameBasis S) (sameBasis-yes S) (sameBasis-no S) Before (risingLists (length gens) 0
+          (k - dim S targets)) []
           (rising-ordered (length gens) 0 (k - dim S targets)) es m (extension W) (extension-rising k W E) (extension-space k W E)
 
       el : dim S targets + length (extension W) ≡ k
@@ -166,7 +172,8 @@ module _ (S : Space) (gens targets : List (S .Vec)) where
       go (inr a) (inr b) = absurd (before-asym es (extension W) a b)
 
   -- and back: a combination that spans an entry and is its greedy extension is listed
-  pub greedy-listed : (k : ℕ) (es : List ℕ) → Solution S gens targets k (space S gens targets es) → extension (space S gens targets es) ≡ es → List·Memᴰ es (entries S gens targets k)
+  pub greedy-listed : (k : ℕ) (es : List ℕ) → Solution S gens targets k (space S gens targets es) → extension (space S gens targets es) ≡ es
+      → List·Memᴰ es (entries S gens targets k)
   greedy-listed k es E q =
       let r = entries-complete k (space S gens targets es) E in
       let e : r .0 ≡ es = sym (entries-greedy k (r .0) (r .1)) ∙ ap extension (r .2) ∙ q in

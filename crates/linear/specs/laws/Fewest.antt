@@ -98,11 +98,13 @@ module _ (S : Space) (gens targets : List (S .Vec)) where
         reduced = basisOf-reduced S gens;
         size = refl;
         holds = λ t m. basisOf-span S gens t .1 (h t m);
-        spanned = λ v s. span-mono S (λ x m. generatorsIn-mem S gens targets (basisOf S gens) (basisOf-reduced S gens) x m (basisOf-span S gens x .1 (span-mem S m))) (basisOf-span S gens v .0 s);
+        spanned = λ v s. span-mono S (λ x m. generatorsIn-mem S gens targets (basisOf S gens) (basisOf-reduced S gens) x m (basisOf-span S gens x .1
+            (span-mem S m))) (basisOf-span S gens v .0 s);
       }
 
   -- few generators that compute the targets: some entry has at most as many dimensions
-  some-entry : (xs : List Vec) → Chosen S gens xs → Computes S targets xs → (k : ℕ) × (dim S targets ≤ k) × (k ≤ length xs) × (W : List Vec) × Solution S gens targets k W
+  some-entry : (xs : List Vec) → Chosen S gens xs → Computes S targets xs
+      → (k : ℕ) × (dim S targets ≤ k) × (k ≤ length xs) × (W : List Vec) × Solution S gens targets k W
   some-entry xs h c = go (decLe (length xs) (dim S gens))
     where
       all : Computes S targets gens
@@ -120,7 +122,11 @@ module _ (S : Space) (gens targets : List (S .Vec)) where
   -- ---- Rank
   pub fewest-beyond : (fewest S gens targets ≡ beyond) ↔ ((Computes S targets gens) → ⊥)
   unfolding fewest
-  fewest-beyond = (λ e h. go (missed S gens targets) (no-missed h) e, λ n. ap (λ b. cond b beyond (ofEntry S gens targets (leastFrom S gens targets 7 (dim S targets)))) (out n))
+  fewest-beyond = (
+    λ e h. go (missed S gens targets) (no-missed h) e,
+    λ n. ap (λ b. cond b beyond (ofEntry S gens targets (leastFrom S gens targets 7
+        (dim S targets)))) (out n),
+  )
     where
       other : (o : Option (List ℕ)) → firstFormula S gens targets o ≡ beyond → ⊥
       other none e = let z : _≡_ {A = ℕ} 0 1 = cc in omega arith
@@ -166,7 +172,8 @@ module _ (S : Space) (gens targets : List (S .Vec)) where
   pub data Came : Fewest → Type 0 where
     far : missed S gens targets ≡ true → Came beyond
     high : missed S gens targets ≡ false → leastFrom S gens targets 7 (dim S targets) ≡ none → Came above
-    here : (es : List ℕ) → missed S gens targets ≡ false → leastFrom S gens targets 7 (dim S targets) ≡ some es → Came (formula (extension S gens [] (space S gens targets es)))
+    here : (es : List ℕ) → missed S gens targets ≡ false → leastFrom S gens targets 7 (dim S targets) ≡ some es
+        → Came (formula (extension S gens [] (space S gens targets es)))
 
   pub came : Came (fewest S gens targets)
   came = go (missed S gens targets) refl (leastFrom S gens targets 7 (dim S targets)) refl
@@ -213,7 +220,8 @@ module _ (S : Space) (gens targets : List (S .Vec)) where
       ff = first-formula S gens targets (L .dims) (space S gens targets es) E
 
       F : Formula S gens (space S gens targets es) fs
-      F = formulae-are S gens (space S gens targets es) (E .reduced) fs .0 (let r = first-some (formulae S gens (space S gens targets es)) fs ff in subst (List·Memᴰ fs) (sym (r .1)) (List·Memᴰ·head refl))
+      F = formulae-are S gens (space S gens targets es) (E .reduced) fs .0 (let r = first-some (formulae S gens (space S gens targets es)) fs ff in subst
+          (List·Memᴰ fs) (sym (r .1)) (List·Memᴰ·head refl))
 
       size : length fs ≡ L .dims
       size = F .number ∙ E .size
@@ -230,11 +238,18 @@ module _ (S : Space) (gens targets : List (S .Vec)) where
       go (formula gs) (here es q r) e = subst RankFormula (let z : extension S gens [] (space S gens targets es) ≡ fs = cc in z) (rank-formula es r)
 
   -- it is said exactly if ℓ + 6 or fewer generators compute the targets
-  pub fewest-exactly : ((fs : List ℕ) × (fewest S gens targets ≡ formula fs)) ↔ ((xs : List Vec) × Chosen S gens xs × (length xs ≤ dim S targets + 6) × Computes S targets xs)
+  pub fewest-exactly : ((fs : List ℕ) × (fewest S gens targets ≡ formula fs)) ↔ ((xs : List Vec) × Chosen S gens xs ×
+      (length xs ≤ dim S targets + 6) × Computes S targets xs)
   fewest-exactly = (λ (fs, e). from fs (fewest-formula fs e), λ (xs, h, l, c). to xs h l c)
     where
       from : (fs : List ℕ) → RankFormula fs → (xs : List Vec) × Chosen S gens xs × (length xs ≤ dim S targets + 6) × Computes S targets xs
-      from fs R = (chosen S gens fs, chosen-gens S gens targets 0 fs (R .rising), (let a = R .near in omega (arith, a, chosen-length S gens [] fs)), R .computes)
+      from fs R = (
+        chosen S gens fs,
+        chosen-gens S gens targets 0 fs (R .rising),
+        (let a = R .near in omega
+            (arith, a, chosen-length S gens [] fs)),
+        R .computes,
+      )
 
       to : (xs : List Vec) → Chosen S gens xs → length xs ≤ dim S targets + 6 → Computes S targets xs → (fs : List ℕ) × (fewest S gens targets ≡ formula fs)
       to xs h l c = go (leastFrom S gens targets 7 (dim S targets)) refl
@@ -247,17 +262,21 @@ module _ (S : Space) (gens targets : List (S .Vec)) where
           go none e =
               let s = some-entry xs h c in
               let m = entries-complete S gens targets (s .0) (s .3) (s .4) in
-              absurd (List·Memᴰ·not-nil (subst (List·Memᴰ (m .0)) (least-none 7 (dim S targets) e (s .0) (s .1) (let a : s .0 ≤ length xs = s .2 in omega arith)) (m .1)))
+              absurd (List·Memᴰ·not-nil (subst (List·Memᴰ (m .0)) (least-none 7 (dim S targets) e (s .0) (s .1)
+              (let a : s .0 ≤ length xs = s .2 in omega arith)) (m .1)))
 
-  pub fewest-above : (fewest S gens targets ≡ above) ↔ (Computes S targets gens × ((k : ℕ) → dim S targets ≤ k → k ≤ dim S targets + 6 → entries S gens targets k ≡ []))
+  pub fewest-above : (fewest S gens targets ≡ above) ↔ (Computes S targets gens ×
+      ((k : ℕ) → dim S targets ≤ k → k ≤ dim S targets + 6 → entries S gens targets k ≡ []))
   fewest-above = (λ e. from (fewest S gens targets) came e, λ (h, n). to h n (leastFrom S gens targets 7 (dim S targets)) refl)
     where
-      from : (a : Fewest) → Came a → a ≡ above → Computes S targets gens × ((k : ℕ) → dim S targets ≤ k → k ≤ dim S targets + 6 → entries S gens targets k ≡ [])
+      from : (a : Fewest) → Came a → a ≡ above
+          → Computes S targets gens × ((k : ℕ) → dim S targets ≤ k → k ≤ dim S targets + 6 → entries S gens targets k ≡ [])
       from beyond (far q) e = absurd (let z : _≡_ {A = ℕ} 0 1 = cc in omega arith)
       from above (high q r) e = (missed-no q, λ k a b. least-none 7 (dim S targets) r k a (omega arith))
       from (formula gs) (here es q r) e = absurd (let z : _≡_ {A = ℕ} 0 1 = cc in omega arith)
 
-      to : Computes S targets gens → ((k : ℕ) → dim S targets ≤ k → k ≤ dim S targets + 6 → entries S gens targets k ≡ []) → (o : Option (List ℕ)) → leastFrom S gens targets 7 (dim S targets) ≡ o
+      to : Computes S targets gens → ((k : ℕ) → dim S targets ≤ k → k ≤ dim S targets + 6 → entries S gens targets k ≡ []) → (o : Option (List ℕ))
+          → leastFrom S gens targets 7 (dim S targets) ≡ o
           → fewest S gens targets ≡ above
       to h n none e = fewest-none (no-missed h) e
       to h n (some es) e =

@@ -82,7 +82,8 @@ module _ (S : Space) (gens : List (S .Vec)) where
     greedy-inside (suc n) i C σ = go (wanted W C (gen i)) refl (λ D. greedy-inside n (suc i) D)
       where
         go : (t : Bool) → wanted W C (gen i) ≡ t → ((D : List Vec) → Reduced S D → (x : Vec) → List·Memᴰ x (gensAt (greedy W D n (suc i))) → Span S W x)
-            → (x : Vec) → List·Memᴰ x (gensAt (cond t (i ∷ greedy W (cond t (insert S C (gen i)) C) n (suc i)) (greedy W (cond t (insert S C (gen i)) C) n (suc i)))) → Span S W x
+            → (x : Vec) → List·Memᴰ x (gensAt (cond t (i ∷ greedy W (cond t (insert S C (gen i)) C) n (suc i)) (greedy W (cond t (insert S C (gen i)) C) n
+            (suc i)))) → Span S W x
         go true q ih = mem-cons {P = Span S W} (wanted-yes W C σ (gen i) q .0) (ih (insert S C (gen i)) (insert-reduced S C (gen i) σ))
         go false q ih = ih C σ
 
@@ -108,10 +109,12 @@ module _ (S : Space) (gens : List (S .Vec)) where
       where
         go : (t : Bool) → wanted W C (gen i) ≡ t → Dec (j ≡ i)
             → ((D : List Vec) → suc i ≤ j → Span S (inserts S D (gensAt (greedy W D n (suc i)))) (gen j))
-            → Span S (inserts S C (gensAt (cond t (i ∷ greedy W (cond t (insert S C (gen i)) C) n (suc i)) (greedy W (cond t (insert S C (gen i)) C) n (suc i))))) (gen j)
+            → Span S (inserts S C (gensAt (cond t (i ∷ greedy W (cond t (insert S C (gen i)) C) n (suc i)) (greedy W (cond t (insert S C (gen i)) C) n
+            (suc i))))) (gen j)
         go true q (yes e) ih =
             subst (λ x. Span S (inserts S (insert S C (gen i)) (gensAt (greedy W (insert S C (gen i)) n (suc i)))) (gen x)) (sym e)
-            (inserts-within (gensAt (greedy W (insert S C (gen i)) n (suc i))) (insert S C (gen i)) (gen i) (insert-span S C (gen i) (gen i) .1 (span-head S (gen i) C)))
+            (inserts-within (gensAt (greedy W (insert S C (gen i)) n (suc i))) (insert S C (gen i)) (gen i) (insert-span S C (gen i) (gen i) .1 (span-head S
+            (gen i) C)))
         go true q (no e) ih = ih (insert S C (gen i)) (omega arith)
         go false q (yes e) ih =
             inserts-within (gensAt (greedy W C n (suc i))) C (gen j)
@@ -125,7 +128,8 @@ module _ (S : Space) (gens : List (S .Vec)) where
     unfolding greedy chosen
     greedy-first zero i hi C q σ [] r f h l = inl refl
     greedy-first zero i hi C q σ (e ∷ fs) r f h l = absurd (omega arith)
-    greedy-first (suc n) i hi C q σ [] r f h l = go (wanted W C (gen i)) l (greedy-first n (suc i) hi C (omega arith) σ [] tt tt (λ x m. absurd (List·Memᴰ·not-nil m)))
+    greedy-first (suc n) i hi C q σ [] r f h l = go (wanted W C (gen i)) l (greedy-first n (suc i) hi C (omega arith) σ [] tt tt (λ x m. absurd
+        (List·Memᴰ·not-nil m)))
       where
         gs : Bool → List ℕ
         gs t = cond t (i ∷ greedy W (cond t (insert S C (gen i)) C) n (suc i)) (greedy W (cond t (insert S C (gen i)) C) n (suc i))
@@ -150,8 +154,10 @@ module _ (S : Space) (gens : List (S .Vec)) where
         join p (inr b) = inr (inr (sym p, b))
 
         go : (t : Bool) → wanted W C (gen i) ≡ t → Dec (e ≡ i) → length (gs t) ≡ suc (length fs)
-            → (Rising (suc i) hi fs → Fresh S D (gensAt fs) → length (greedy W D n (suc i)) ≡ length fs → (greedy W D n (suc i) ≡ fs) ⊎ Before (greedy W D n (suc i)) fs)
-            → (Rising (suc i) hi (e ∷ fs) → length (greedy W C n (suc i)) ≡ suc (length fs) → (greedy W C n (suc i) ≡ e ∷ fs) ⊎ Before (greedy W C n (suc i)) (e ∷ fs))
+            → (Rising (suc i) hi fs → Fresh S D (gensAt fs) → length (greedy W D n (suc i)) ≡ length fs → (greedy W D n (suc i) ≡ fs) ⊎ Before (greedy W D n
+            (suc i)) fs)
+            → (Rising (suc i) hi (e ∷ fs) → length (greedy W C n (suc i)) ≡ suc (length fs) → (greedy W C n (suc i) ≡ e ∷ fs) ⊎ Before (greedy W C n
+            (suc i)) (e ∷ fs))
             → (gs t ≡ e ∷ fs) ⊎ Before (gs t) (e ∷ fs)
         go true w (yes p) k ih₁ ih₂ =
             join p
@@ -159,7 +165,8 @@ module _ (S : Space) (gens : List (S .Vec)) where
             (fresh-sub S (gensAt fs) D (gen e ∷ C) (λ v s. subst (λ x. Span S (gen x ∷ C) v) (sym p) (insert-span S C (gen i) v .0 s)) (f .1)) (suc-inj k))
         go true w (no p) k ih₁ ih₂ = inr (inl (let a : i ≤ e = r .0 in omega arith))
         go false w (yes p) k ih₁ ih₂ =
-            absurd (f .0 (subst (λ x. Span S C (gen x)) (sym p) (wanted-no W C ρ (gen i) w (subst (λ x. Span S W (gen x)) p (h (gen e) (List·Memᴰ·head refl))))))
+            absurd (f .0 (subst (λ x. Span S C (gen x)) (sym p) (wanted-no W C ρ (gen i) w (subst (λ x. Span S W (gen x)) p (h (gen e)
+            (List·Memᴰ·head refl))))))
         go false w (no p) k ih₁ ih₂ = ih₂ (let a : i ≤ e = r .0 in omega arith, r .1, r .2) k
 
     -- a generator inside W that is passed over is in the span of what was taken before
@@ -174,7 +181,8 @@ module _ (S : Space) (gens : List (S .Vec)) where
         gs : Bool → List ℕ
         gs t = cond t (i ∷ greedy W (cond t (insert S C (gen i)) C) n (suc i)) (greedy W (cond t (insert S C (gen i)) C) n (suc i))
 
-        go : (t : Bool) → wanted W C (gen i) ≡ t → gs t ≡ e ∷ r → Dec (j ≡ i) → (greedy W C n (suc i) ≡ e ∷ r → suc i ≤ j → Span S C (gen j)) → Span S C (gen j)
+        go : (t : Bool) → wanted W C (gen i) ≡ t → gs t ≡ e ∷ r → Dec (j ≡ i) → (greedy W C n (suc i) ≡ e ∷ r → suc i ≤ j → Span S C (gen j))
+            → Span S C (gen j)
         go true w k d ih = absurd (let z : i ≡ e = head-eq-of-cons-eq k in omega arith)
         go false w k (yes d) ih = subst (λ x. Span S C (gen x)) (sym d) (wanted-no W C ρ (gen i) w (subst (λ x. Span S W (gen x)) d s))
         go false w k (no d) ih = ih k (omega arith)

@@ -35,10 +35,12 @@ module _ (S : Space) where
   combination-zero [] xs h = refl
   combination-zero (c ∷ cs) [] h = refl
   combination-zero (c ∷ cs) (x ∷ xs) h =
-      ap₂ (λ a v. add (scale a x) v) (h c (List·Memᴰ·head refl)) (combination-zero cs xs (λ d m. h d (List·Memᴰ·tail m))) ∙ add-nul S (scale 𝟘 x) ∙ zero-scale S x
+      ap₂ (λ a v. add (scale a x) v) (h c (List·Memᴰ·head refl)) (combination-zero cs xs (λ d m. h d (List·Memᴰ·tail m))) ∙ add-nul S
+      (scale 𝟘 x) ∙ zero-scale S x
 
   -- no combination but that of zeros vanishes
-  trivial : (xs B : List Vec) → Fresh S B xs → (cs : List K) → length cs ≡ length xs → (w : Vec) → Span S B w → add (combination S cs xs) w ≡ nul → AllZero S cs
+  trivial : (xs B : List Vec) → Fresh S B xs → (cs : List K) → length cs ≡ length xs → (w : Vec) → Span S B w → add (combination S cs xs) w ≡ nul
+      → AllZero S cs
   unfolding combination
   trivial xs B f [] l w s e = λ c m. absurd (List·Memᴰ·not-nil m)
   trivial [] B f (c ∷ cs) l w s e = absurd (omega arith)
@@ -75,7 +77,8 @@ module _ (S : Space) where
   zeros-zero [] = λ c m. absurd (List·Memᴰ·not-nil m)
   zeros-zero (x ∷ xs) = mem-cons {P = λ d. d ≡ 𝟘} refl (zeros-zero xs)
 
-  fresh-of : (xs B : List Vec) → ((cs : List K) → length cs ≡ length xs → (w : Vec) → Span S B w → add (combination S cs xs) w ≡ nul → AllZero S cs) → Fresh S B xs
+  fresh-of : (xs B : List Vec) → ((cs : List K) → length cs ≡ length xs → (w : Vec) → Span S B w → add (combination S cs xs) w ≡ nul → AllZero S cs)
+      → Fresh S B xs
   unfolding combination
   fresh-of [] B h = tt
   fresh-of (x ∷ xs) B h = (new, fresh-of xs (x ∷ B) (λ cs l w s e. down cs l w (span-uncons S s) e))
@@ -88,10 +91,12 @@ module _ (S : Space) where
           ∙ put-take S 𝟙 x (combination S (zeros xs) xs) ∙ combination-zero (zeros xs) xs (zeros-zero xs))
           𝟙 (List·Memᴰ·head refl))
 
-      down : (cs : List K) → length cs ≡ length xs → (w : Vec) → (c : K) × (u : Vec) × Span S B u × (w ≡ add (scale c x) u) → add (combination S cs xs) w ≡ nul → AllZero S cs
+      down : (cs : List K) → length cs ≡ length xs → (w : Vec) → (c : K) × (u : Vec) × Span S B u × (w ≡ add (scale c x) u)
+          → add (combination S cs xs) w ≡ nul → AllZero S cs
       down cs l w (c, u, t, q) e d m =
           h (c ∷ cs) (ap suc l) u t
-          (add-assoc S (scale c x) (combination S cs xs) u ∙ add-left-comm S (scale c x) (combination S cs xs) u ∙ ap (add (combination S cs xs)) (sym q) ∙ e) d (List·Memᴰ·tail m)
+          (add-assoc S (scale c x) (combination S cs xs) u ∙ add-left-comm S (scale c x) (combination S cs xs) u ∙ ap (add (combination S cs xs))
+          (sym q) ∙ e) d (List·Memᴰ·tail m)
 
   pub independent-fresh : (xs : List Vec) → Independent S xs ↔ Fresh S [] xs
   independent-fresh xs = (

@@ -49,7 +49,8 @@ rising-sound n i zero hi q = mem-cons {P = RisingList zero i hi} (refl, tt) (λ 
 rising-sound zero i (suc m) hi q = λ es k. absurd (List·Memᴰ·not-nil k)
 rising-sound (suc n) i (suc m) hi q =
     let ih₁ : (es : List ℕ) → List·Memᴰ es (risingLists n (suc i) m) → RisingList m (suc i) hi es = rising-sound n (suc i) m hi (omega arith) in
-    let ih₂ : (es : List ℕ) → List·Memᴰ es (risingLists n (suc i) (suc m)) → RisingList (suc m) (suc i) hi es = rising-sound n (suc i) (suc m) hi (omega arith) in
+    let ih₂ : (es : List ℕ) → List·Memᴰ es (risingLists n (suc i) (suc m)) → RisingList (suc m) (suc i) hi es = rising-sound n (suc i) (suc m) hi
+    (omega arith) in
     mem-append (RisingList (suc m) i hi) (map (λ es. i ∷ es) (risingLists n (suc i) m))
     (mem-map-inv (λ es. i ∷ es) (RisingList (suc m) i hi) (risingLists n (suc i) m)
     (λ es k. let r : RisingList m (suc i) hi es = ih₁ es k in (ap suc (r .0), (omega arith, omega arith, r .1))))
@@ -86,7 +87,8 @@ mem-getD (x ∷ l) (suc j) d h = List·Memᴰ·tail (mem-getD l j d (omega arith
 
 -- ---- lists in order
 module _ {A : Type 0} (_≺_ : A → A → Type 0) where
-  pub ordered-append : (xs ys : List A) → Ordered _≺_ xs → Ordered _≺_ ys → ((x : A) → List·Memᴰ x xs → (y : A) → List·Memᴰ y ys → _≺_ x y) → Ordered _≺_ (xs ++ ys)
+  pub ordered-append : (xs ys : List A) → Ordered _≺_ xs → Ordered _≺_ ys → ((x : A) → List·Memᴰ x xs → (y : A) → List·Memᴰ y ys → _≺_ x y)
+      → Ordered _≺_ (xs ++ ys)
   ordered-append [] ys h k r = k
   ordered-append (x ∷ xs) ys h k r =
       (mem-append (_≺_ x) xs (h .0) (r x (List·Memᴰ·head refl)), ordered-append xs ys (h .1) k (λ x m. r x (List·Memᴰ·tail m)))

@@ -97,7 +97,8 @@ unfolding sumTwos
 bit-twos a b c d i = simp (bit-xor, bit-and, bit-or)
 
 pub sum-within : (u v : Planes)
-    → bitAnd (sumNonzero (u .0 .0) (u .0 .1) (v .0 .0) (v .0 .1)) (sumTwos (u .0 .0) (u .0 .1) (v .0 .0) (v .0 .1)) ≡ sumTwos (u .0 .0) (u .0 .1) (v .0 .0) (v .0 .1)
+    → bitAnd (sumNonzero (u .0 .0) (u .0 .1) (v .0 .0) (v .0 .1)) (sumTwos (u .0 .0) (u .0 .1) (v .0 .0) (v .0 .1)) ≡ sumTwos (u .0 .0) (u .0 .1) (v .0 .0)
+    (v .0 .1)
 sum-within u v = bit-ext (bitAnd n t) t (λ i. bit-and n t i ∙ ap₂ _&&_ (at-n i) (at-t i) ∙ here i ∙ sym (at-t i))
   where
     n : ℕ
@@ -112,7 +113,8 @@ sum-within u v = bit-ext (bitAnd n t) t (λ i. bit-and n t i ∙ ap₂ _&&_ (at-
     at-t : (i : ℕ) → bit t i ≡ twosB (bit (u .0 .0) i) (bit (u .0 .1) i) (bit (v .0 .0) i) (bit (v .0 .1) i)
     at-t i = bit-twos (u .0 .0) (u .0 .1) (v .0 .0) (v .0 .1) i
 
-    here : (i : ℕ) → nonzeroB (bit (u .0 .0) i) (bit (u .0 .1) i) (bit (v .0 .0) i) (bit (v .0 .1) i) && twosB (bit (u .0 .0) i) (bit (u .0 .1) i) (bit (v .0 .0) i) (bit (v .0 .1) i)
+    here : (i : ℕ) → nonzeroB (bit (u .0 .0) i) (bit (u .0 .1) i) (bit (v .0 .0) i) (bit (v .0 .1) i) && twosB (bit (u .0 .0) i) (bit (u .0 .1) i) (bit
+        (v .0 .0) i) (bit (v .0 .1) i)
         ≡ twosB (bit (u .0 .0) i) (bit (u .0 .1) i) (bit (v .0 .0) i) (bit (v .0 .1) i)
     here i =
         sameBit-yes _ _
@@ -163,12 +165,14 @@ at-scale n2 v i =
 nonzero-bit : (v : Planes) (i : ℕ) → nonzero (coord3 v i) ≡ bit (v .0 .0) i
 nonzero-bit v i =
     sameBit-yes _ _
-    (valid-law (λ a b c d. sameBit (nonzero (digit a b)) a) refl (bit (v .0 .0) i) (bit (v .0 .1) i) (bit (v .0 .0) i) (bit (v .0 .1) i) (within v i) (within v i))
+    (valid-law (λ a b c d. sameBit (nonzero (digit a b)) a) refl (bit (v .0 .0) i) (bit (v .0 .1) i) (bit (v .0 .0) i) (bit (v .0 .1) i) (within v i)
+    (within v i))
 
 two-bit : (v : Planes) (i : ℕ) → isTwo (coord3 v i) ≡ bit (v .0 .1) i
 two-bit v i =
     sameBit-yes _ _
-    (valid-law (λ a b c d. sameBit (isTwo (digit a b)) b) refl (bit (v .0 .0) i) (bit (v .0 .1) i) (bit (v .0 .0) i) (bit (v .0 .1) i) (within v i) (within v i))
+    (valid-law (λ a b c d. sameBit (isTwo (digit a b)) b) refl (bit (v .0 .0) i) (bit (v .0 .1) i) (bit (v .0 .0) i) (bit (v .0 .1) i) (within v i)
+    (within v i))
 
 pub planes-ext : (u v : Planes) → ((i : ℕ) → coord3 u i ≡ coord3 v i) → u ≡ v
 planes-ext u v h =

@@ -32,7 +32,8 @@ use Rattle.linear.specs.laws.Extension.{extension, entries-greedy, greed
 
 -- ---- lists in order with the same members are equal
 module _ {A : Type 0} (_≺_ : A → A → Type 0) (asym : (x y : A) → _≺_ x y → _≺_ y x → ⊥) where
-  pub ordered-ext : (l m : List A) → Ordered _≺_ l → Ordered _≺_ m → ((x : A) → List·Memᴰ x l → List·Memᴰ x m) → ((x : A) → List·Memᴰ x m → List·Memᴰ x l) → l ≡ m
+  pub ordered-ext : (l m : List A) → Ordered _≺_ l → Ordered _≺_ m → ((x : A) → List·Memᴰ x l → List·Memᴰ x m)
+      → ((x : A) → List·Memᴰ x m → List·Memᴰ x l) → l ≡ m
   ordered-ext [] [] o p f g = refl
   ordered-ext [] (y ∷ m) o p f g = absurd (List·Memᴰ·not-nil (g y (List·Memᴰ·head refl)))
   ordered-ext (x ∷ l) [] o p f g = absurd (List·Memᴰ·not-nil (f x (List·Memᴰ·head refl)))
@@ -40,8 +41,10 @@ module _ {A : Type 0} (_≺_ : A → A → Type 0) (asym : (x y : A) → _≺_ x
       let e : x ≡ y = heads (List·Memᴰ·cases-cons (f x (List·Memᴰ·head refl))) (List·Memᴰ·cases-cons (g y (List·Memᴰ·head refl))) in
       ap₂ _∷_ e
       (ordered-ext l m (o .1) (p .1)
-      (λ z k. tails z (λ q. asym x z (o .0 z k) (subst (λ w. _≺_ w x) (sym (q ∙ sym e)) (subst (λ w. _≺_ x w) (q ∙ sym e) (o .0 z k)))) (List·Memᴰ·cases-cons (f z (List·Memᴰ·tail k))))
-      (λ z k. tails z (λ q. asym y z (p .0 z k) (subst (λ w. _≺_ w y) (sym (q ∙ e)) (subst (λ w. _≺_ y w) (q ∙ e) (p .0 z k)))) (List·Memᴰ·cases-cons (g z (List·Memᴰ·tail k)))))
+      (λ z k. tails z (λ q. asym x z (o .0 z k) (subst (λ w. _≺_ w x) (sym (q ∙ sym e)) (subst (λ w. _≺_ x w) (q ∙ sym e) (o .0 z k))))
+      (List·Memᴰ·cases-cons (f z (List·Memᴰ·tail k))))
+      (λ z k. tails z (λ q. asym y z (p .0 z k) (subst (λ w. _≺_ w y) (sym (q ∙ e)) (subst (λ w. _≺_ y w) (q ∙ e) (p .0 z k)))) (List·Memᴰ·cases-cons (g z
+      (List·Memᴰ·tail k)))))
     where
       heads : (x ≡ y) ⊎ List·Memᴰ x m → (y ≡ x) ⊎ List·Memᴰ y l → x ≡ y
       heads (inl e) b = e
@@ -73,7 +76,8 @@ unfolding sameNumbers
 sameNumbers-yes [] [] e = refl
 sameNumbers-yes [] (f ∷ fs) e = absurd (false≢true e)
 sameNumbers-yes (e ∷ es) [] q = absurd (false≢true q)
-sameNumbers-yes (e ∷ es) (f ∷ fs) q = let r = and-eq-true-iff (eqb e f) (sameNumbers es fs) .0 q in ap₂ _∷_ (eqb-true e f (r .0)) (sameNumbers-yes es fs (r .1))
+sameNumbers-yes (e ∷ es) (f ∷ fs) q = let r = and-eq-true-iff (eqb e f) (sameNumbers es fs) .0 q in ap₂ _∷_ (eqb-true e f (r .0)) (sameNumbers-yes es fs
+    (r .1))
 
 pub sameNumbers-refl : (es : List ℕ) → sameNumbers es es ≡ true
 unfolding sameNumbers
@@ -108,8 +112,13 @@ module _ (stop : List ℕ → ℕ → Bool) (q : List ℕ → Bool) (sound : (p 
       split : only Q (map (λ es. i ∷ es) here ++ there) ≡ map (λ es. i ∷ es) (only (λ es. q (p ++ i ∷ es)) here) ++ only Q there
       split = only-append Q (map (λ es. i ∷ es) here) there ∙ ap (λ r. r ++ only Q there) (only-map Q (λ es. i ∷ es) here)
 
-      go : (t : Bool) → stop p i ≡ t → pruned stop q (p ++ i ∷ []) n (suc i) m ≡ only (λ es. q ((p ++ i ∷ []) ++ es)) here → pruned stop q p n (suc i) (suc m) ≡ only Q there
-          → elim t [ true ↦ pruned stop q p n (suc i) (suc m) | false ↦ map (λ es. i ∷ es) (pruned stop q (p ++ i ∷ []) n (suc i) m) ++ pruned stop q p n (suc i) (suc m) ]
+      go : (t : Bool) → stop p i ≡ t → pruned stop q (p ++ i ∷ []) n (suc i) m ≡ only (λ es. q ((p ++ i ∷ []) ++ es)) here
+          → pruned stop q p n (suc i) (suc m) ≡ only Q there
+          → elim t [
+            | true ↦ pruned stop q p n (suc i) (suc m)
+            | false ↦ map (λ es. i ∷ es) (pruned stop q (p ++ i ∷ []) n (suc i) m) ++ pruned stop q p n
+                (suc i) (suc m)
+          ]
           ≡ only Q (map (λ es. i ∷ es) here ++ there)
       go true s a b = b ∙ sym (split ∙ ap (λ r. map (λ es. i ∷ es) r ++ only Q there) (only-none (λ es. q (p ++ i ∷ es)) here (λ x m. sound p i x s)))
       go false s a b =
@@ -148,7 +157,8 @@ module _ (S : Space) (gens targets : List (S .Vec)) where
       (entries-ordered S gens targets k)
       (only-ordered Before before-asym (canonical k) (risingLists (length gens) 0 (k - dim S targets)) (rising-ordered (length gens) 0 (k - dim S targets)))
       (λ es m. mem-only (canonical k) (risingLists (length gens) 0 (k - dim S targets)) es
-      (unfold entries in first-mem (space S gens targets) (fits S gens k) (sameBasis S) (sameBasis-yes S) (sameBasis-no S) (risingLists (length gens) 0 (k - dim S targets)) [] es m .0)
+      (unfold entries in first-mem (space S gens targets) (fits S gens k) (sameBasis S) (sameBasis-yes S) (sameBasis-no S) (risingLists (length gens) 0
+      (k - dim S targets)) [] es m .0)
       (listed-canonical k es m))
       (λ es m. canonical-listed k es (only-mem (canonical k) (risingLists (length gens) 0 (k - dim S targets)) es m .1))
 
@@ -156,7 +166,8 @@ module _ (S : Space) (gens targets : List (S .Vec)) where
   unfolding inserts
   fresh-append [] ys B y ρ f = f .0
   fresh-append (x ∷ xs) ys B y ρ f =
-      fresh-append xs ys (insert S B x) y (insert-reduced S B x ρ) (fresh-sub S (xs ++ y ∷ ys) (insert S B x) (x ∷ B) (λ v s. insert-span S B x v .0 s) (f .1))
+      fresh-append xs ys (insert S B x) y (insert-reduced S B x ρ) (fresh-sub S (xs ++ y ∷ ys) (insert S B x) (x ∷ B) (λ v s. insert-span S B x v .0 s)
+      (f .1))
 
   -- in an entry each generator is new
   pub listed-new : (k : ℕ) (p : List ℕ) (i : ℕ) (es : List ℕ) → List·Memᴰ (p ++ i ∷ es) (entries S gens targets k) → ¬ Span S (sp p) (generator S gens i)

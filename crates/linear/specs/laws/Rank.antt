@@ -60,7 +60,8 @@ module _ (S : Space) (gens targets : List (S .Vec)) where
       σ = insert-reduced S C g ρ
 
       up : (y : Vec) → List·Memᴰ y (generatorsIn S gens C) → Span S (generatorsIn S gens D) y
-      up y k = span-mem S (generatorsIn-mem D σ y (generatorsIn-gens C y k) (insert-span S C g y .1 (span-weak S (generatorsIn-within S gens C y (span-mem S k)))))
+      up y k = span-mem S (generatorsIn-mem D σ y (generatorsIn-gens C y k) (insert-span S C g y .1 (span-weak S (generatorsIn-within S gens C y
+          (span-mem S k)))))
 
   insert-le : (C : List Vec) (g : Vec) → length (insert S C g) ≤ suc (length C)
   insert-le C g = go (decNul S (reduce S C g))
@@ -94,7 +95,8 @@ module _ (S : Space) (gens targets : List (S .Vec)) where
       → Computes S targets xs → (W : List Vec) × Solution S gens targets k W
   unfolding dim basisOf
   solution-from k a xs h l t =
-      let r = climb k gens C (λ g m. m) (basisOf-reduced S xs) (spanned-inserts xs [] h tt spanned-nil) (omega (arith, dim-length S xs)) (omega (arith, more)) in
+      let r = climb k gens C (λ g m. m) (basisOf-reduced S xs) (spanned-inserts xs [] h tt spanned-nil) (omega (arith, dim-length S xs)) (omega
+      (arith, more)) in
       (r .0, record { reduced = r .1; size = r .2; holds = (λ x m. r .3 x (basisOf-span S xs x .1 (t x m))); spanned = r .4 })
     where
       C : List Vec
@@ -151,7 +153,8 @@ module _ (S : Space) (gens targets : List (S .Vec)) where
       short es m = unfold dim in
           let E = entries-sound S gens targets k es m in
           let a : length (basisOf S targets) ≤ length (space S gens targets es) =
-          sub-length S (space S gens targets es) (basisOf S targets) (basisOf-reduced S targets) (E .reduced) (λ v s. span-bind S (E .holds) (basisOf-span S targets v .0 s)) in
+          sub-length S (space S gens targets es) (basisOf S targets) (basisOf-reduced S targets) (E .reduced) (λ v s. span-bind S (E .holds)
+          (basisOf-span S targets v .0 s)) in
           omega (arith, a, E .size, h)
 
       go : (l : List (List ℕ)) → entries S gens targets k ≡ l → entries S gens targets k ≡ []

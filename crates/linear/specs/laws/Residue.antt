@@ -48,7 +48,8 @@ module _ (S : Space) where
           sym (plus-zero (coord d (lead x))) ∙ ap (plus (coord d (lead x))) (sym (z x k)) ∙ sym (coord-add d w (lead x))
           ∙ ap (λ y. coord y (lead x)) (sym split) ∙ reduce-zeroed S D m ρ x k
 
-  pub reduce-insert : (C : List Vec) → Reduced S C → (g m : Vec) → reduce S C g ≢ nul → reduce S (insert S C g) m ≡ clear S (norm S (reduce S C g)) (reduce S C m)
+  pub reduce-insert : (C : List Vec) → Reduced S C → (g m : Vec) → reduce S C g ≢ nul
+      → reduce S (insert S C g) m ≡ clear S (norm S (reduce S C g)) (reduce S C m)
   reduce-insert C ρ g m h =
       reduce-same D (insert-reduced S C g ρ) m (add (q .0) (scale c r)) w w-zero
       (q .2 ∙ ap (add (q .0)) (clear-back S r (reduce S C m)) ∙ sym (add-assoc S (q .0) (scale c r) w))

@@ -52,7 +52,8 @@ unfolding anyOf
 anyOf-yes p [] e = absurd (false≢true e)
 anyOf-yes {A} p (y ∷ l) e = go (p y) refl e (anyOf-yes p l)
   where
-    go : (t : Bool) → p y ≡ t → t || anyOf p l ≡ true → (anyOf p l ≡ true → (x : A) × List·Memᴰ x l × (p x ≡ true)) → (x : A) × List·Memᴰ x (y ∷ l) × (p x ≡ true)
+    go : (t : Bool) → p y ≡ t → t || anyOf p l ≡ true → (anyOf p l ≡ true → (x : A) × List·Memᴰ x l × (p x ≡ true))
+        → (x : A) × List·Memᴰ x (y ∷ l) × (p x ≡ true)
     go true q e ih = (y, List·Memᴰ·head refl, q)
     go false q e ih = let r = ih e in (r .0, List·Memᴰ·tail (r .1), r .2)
 
@@ -61,7 +62,8 @@ unfolding only
 only-append q [] ys = refl
 only-append {A} q (x ∷ xs) ys = go (q x) (only-append q xs ys)
   where
-    go : (t : Bool) → only q (xs ++ ys) ≡ only q xs ++ only q ys → cond t (x ∷ only q (xs ++ ys)) (only q (xs ++ ys)) ≡ cond t (x ∷ only q xs) (only q xs) ++ only q ys
+    go : (t : Bool) → only q (xs ++ ys) ≡ only q xs ++ only q ys
+        → cond t (x ∷ only q (xs ++ ys)) (only q (xs ++ ys)) ≡ cond t (x ∷ only q xs) (only q xs) ++ only q ys
     go true e = ap {B = List A} (λ r. x ∷ r) e
     go false e = e
 
@@ -125,7 +127,8 @@ module _ {A B : Type 0} (key : A → B) (ok : B → Bool) (same : B → B → Bo
     first-once [] earlier = tt
     first-once (z ∷ l) earlier = go (ok (key z) && not (anyOf (λ y. same (key y) (key z)) earlier)) (first-once l (z ∷ earlier))
       where
-        go : (t : Bool) → Once key (firstOfEach key ok same (z ∷ earlier) l) → Once key (cond t (z ∷ firstOfEach key ok same (z ∷ earlier) l) (firstOfEach key ok same (z ∷ earlier) l))
+        go : (t : Bool) → Once key (firstOfEach key ok same (z ∷ earlier) l)
+            → Once key (cond t (z ∷ firstOfEach key ok same (z ∷ earlier) l) (firstOfEach key ok same (z ∷ earlier) l))
         go true ih = (λ y m. first-mem l (z ∷ earlier) y m .2 z (List·Memᴰ·head refl), ih)
         go false ih = ih
 
@@ -149,13 +152,15 @@ module _ {A B : Type 0} (key : A → B) (ok : B → Bool) (same : B → B → Bo
         Found : List A → Type 0
         Found r = (y : A) × List·Memᴰ y r × (key y ≡ key x)
 
-        later : (t : Bool) → Found (firstOfEach key ok same (z ∷ earlier) l) → Found (cond t (z ∷ firstOfEach key ok same (z ∷ earlier) l) (firstOfEach key ok same (z ∷ earlier) l))
+        later : (t : Bool) → Found (firstOfEach key ok same (z ∷ earlier) l)
+            → Found (cond t (z ∷ firstOfEach key ok same (z ∷ earlier) l) (firstOfEach key ok same (z ∷ earlier) l))
         later true f = (f .0, List·Memᴰ·tail (f .1), f .2)
         later false f = f
 
         go : (t : Bool) → same (key z) (key x) ≡ t
             → (List·Memᴰ x l → ((y : A) → List·Memᴰ y (z ∷ earlier) → key y ≢ key x) → Found (firstOfEach key ok same (z ∷ earlier) l))
-            → Found (cond (ok (key z) && not (anyOf (λ y. same (key y) (key z)) earlier)) (z ∷ firstOfEach key ok same (z ∷ earlier) l) (firstOfEach key ok same (z ∷ earlier) l))
+            → Found (cond (ok (key z) && not (anyOf (λ y. same (key y) (key z)) earlier)) (z ∷ firstOfEach key ok same (z ∷ earlier) l)
+            (firstOfEach key ok same (z ∷ earlier) l))
         go true q ih =
             let e : key z ≡ key x = same-yes (key z) (key x) q in
             subst (λ t. Found (cond t (z ∷ firstOfEach key ok same (z ∷ earlier) l) (firstOfEach key ok same (z ∷ earlier) l)))
@@ -171,7 +176,8 @@ module _ {A B : Type 0} (key : A → B) (ok : B → Bool) (same : B → B → Bo
 
     -- in a list in order a picked one stands before all others of its key, and the picked ones are in order
     module _ (_≺_ : A → A → Type 0) where
-      pub first-first : (l earlier : List A) → Ordered _≺_ l → (x : A) → List·Memᴰ x (firstOfEach key ok same earlier l) → (y : A) → List·Memᴰ y l → key y ≡ key x → (x ≡ y) ⊎ (_≺_ x y)
+      pub first-first : (l earlier : List A) → Ordered _≺_ l → (x : A) → List·Memᴰ x (firstOfEach key ok same earlier l) → (y : A) → List·Memᴰ y l
+          → key y ≡ key x → (x ≡ y) ⊎ (_≺_ x y)
       unfolding firstOfEach
       first-first [] earlier o = λ x m. absurd (List·Memᴰ·not-nil m)
       first-first (z ∷ l) earlier o = go (ok (key z) && not (anyOf (λ y. same (key y) (key z)) earlier)) (first-first l (z ∷ earlier) (o .1))
@@ -179,12 +185,15 @@ module _ {A B : Type 0} (key : A → B) (ok : B → Bool) (same : B → B → Bo
           First : List A → A → Type 0
           First l x = (y : A) → List·Memᴰ y l → key y ≡ key x → (x ≡ y) ⊎ (_≺_ x y)
 
-          after : ((x : A) → List·Memᴰ x (firstOfEach key ok same (z ∷ earlier) l) → First l x) → (x : A) → List·Memᴰ x (firstOfEach key ok same (z ∷ earlier) l) → First (z ∷ l) x
-          after ih x m = mem-cons {P = λ y. key y ≡ key x → (x ≡ y) ⊎ (_≺_ x y)} (λ e. absurd (first-mem l (z ∷ earlier) x m .2 z (List·Memᴰ·head refl) e)) (ih x m)
+          after : ((x : A) → List·Memᴰ x (firstOfEach key ok same (z ∷ earlier) l) → First l x) → (x : A)
+              → List·Memᴰ x (firstOfEach key ok same (z ∷ earlier) l) → First (z ∷ l) x
+          after ih x m = mem-cons {P = λ y. key y ≡ key x → (x ≡ y) ⊎ (_≺_ x y)} (λ e. absurd (first-mem l (z ∷ earlier) x m .2 z (List·Memᴰ·head refl) e))
+              (ih x m)
 
           go : (t : Bool) → ((x : A) → List·Memᴰ x (firstOfEach key ok same (z ∷ earlier) l) → First l x)
               → (x : A) → List·Memᴰ x (cond t (z ∷ firstOfEach key ok same (z ∷ earlier) l) (firstOfEach key ok same (z ∷ earlier) l)) → First (z ∷ l) x
-          go true ih = mem-cons {P = First (z ∷ l)} (mem-cons {P = λ y. key y ≡ key z → (z ≡ y) ⊎ (_≺_ z y)} (λ e. inl refl) (λ y k e. inr (o .0 y k))) (after ih)
+          go true ih = mem-cons {P = First (z ∷ l)} (mem-cons {P = λ y. key y ≡ key z → (z ≡ y) ⊎ (_≺_ z y)} (λ e. inl refl) (λ y k e. inr (o .0 y k)))
+              (after ih)
           go false ih = after ih
 
       pub first-ordered : (l earlier : List A) → Ordered _≺_ l → Ordered _≺_ (firstOfEach key ok same earlier l)
@@ -192,7 +201,8 @@ module _ {A B : Type 0} (key : A → B) (ok : B → Bool) (same : B → B → Bo
       first-ordered [] earlier o = tt
       first-ordered (z ∷ l) earlier o = go (ok (key z) && not (anyOf (λ y. same (key y) (key z)) earlier)) (first-ordered l (z ∷ earlier) (o .1))
         where
-          go : (t : Bool) → Ordered _≺_ (firstOfEach key ok same (z ∷ earlier) l) → Ordered _≺_ (cond t (z ∷ firstOfEach key ok same (z ∷ earlier) l) (firstOfEach key ok same (z ∷ earlier) l))
+          go : (t : Bool) → Ordered _≺_ (firstOfEach key ok same (z ∷ earlier) l)
+              → Ordered _≺_ (cond t (z ∷ firstOfEach key ok same (z ∷ earlier) l) (firstOfEach key ok same (z ∷ earlier) l))
           go true ih = (λ y m. o .0 y (first-mem l (z ∷ earlier) y m .0), ih)
           go false ih = ih
 

@@ -108,7 +108,8 @@ module _ (S : Space) (gens W : List (S .Vec)) (ρ : Reduced S W) where
       ap (λ X. spread S gens W emit X [] (length gens) 0 (length W)) start
       ∙ pruned-pruned S gens (passed S gens W) (λ C. sameBasis S C W) (λ p C. emit p) [] [] (length gens) 0 (length W)
       ∙ ap (map emit)
-      (sym (pruned-same stop good (λ p. sameBasis S (sp p) W) (λ p n i m. length p + m ≡ length W) (λ p n i m e. e) longer last [] (length gens) 0 (length W) (omega arith))
+      (sym (pruned-same stop good (λ p. sameBasis S (sp p) W) (λ p n i m. length p + m ≡ length W) (λ p n i m e. e) longer last [] (length gens) 0
+      (length W) (omega arith))
       ∙ pruned-is stop good passed-sound [] (length gens) 0 (length W)
       ∙ only-same good (λ es. sameBasis S (basisOf S (chosen S gens es)) W) (risingLists (length gens) 0 (length W)) plain)
     where
@@ -127,7 +128,8 @@ module _ (S : Space) (gens W : List (S .Vec)) (ρ : Reduced S W) where
           ap₂ (λ (t : Bool) (X : List Vec). t && sameBasis S X W) (eq-eqb (length es) (length W) (r .0)) (sp-basis es)
 
   -- ---- leaving at once
-  mem-later : (i : ℕ) (es : List ℕ) (lo : ℕ) → i ≤ lo → Rising lo (length gens) es → (x : Vec) → List·Memᴰ x (chosen S gens es) → Span S W x → List·Memᴰ x (later S gens W i)
+  mem-later : (i : ℕ) (es : List ℕ) (lo : ℕ) → i ≤ lo → Rising lo (length gens) es → (x : Vec) → List·Memᴰ x (chosen S gens es) → Span S W x
+      → List·Memᴰ x (later S gens W i)
   unfolding chosen later generator
   mem-later i [] lo h r = λ x m s. absurd (List·Memᴰ·not-nil m)
   mem-later i (e ∷ es) lo h r =
@@ -138,13 +140,15 @@ module _ (S : Space) (gens W : List (S .Vec)) (ρ : Reduced S W) where
           let a : lo ≤ e = r .0 in
           let b : e < length gens = r .1 in
           let j : e - i < length (drop i gens) = omega (arith, length-drop i gens) in
-          subst (λ (x : Vec). List·Memᴰ x (drop i gens)) (getD-drop i gens (e - i) (S .nul) ∙ ap (λ (k : ℕ). getD gens k (S .nul)) (let z : i + (e - i) ≡ e = omega arith in z))
+          subst (λ (x : Vec). List·Memᴰ x (drop i gens)) (getD-drop i gens (e - i) (S .nul) ∙ ap (λ (k : ℕ). getD gens k (S .nul)) (let z : i +
+          (e - i) ≡ e = omega arith in z))
           (mem-getD (drop i gens) (e - i) (S .nul) j)
 
       here : Span S W (gen e) → List·Memᴰ (gen e) (later S gens W i)
       here s = mem-only (inside S W) (drop i gens) (gen e) at (yes-inside S W ρ (gen e) s)
 
-  pub spread-none : {A : Type 0} (emit : List ℕ → A) (C : List Vec) (p : List ℕ) (n i m : ℕ) → Reduced S C → i + n ≡ length gens → completes S gens W C i ≡ false
+  pub spread-none : {A : Type 0} (emit : List ℕ → A) (C : List Vec) (p : List ℕ) (n i m : ℕ) → Reduced S C → i + n ≡ length gens
+      → completes S gens W C i ≡ false
       → spread S gens W emit C p n i m ≡ []
   spread-none {A} emit C p n i m σ q b = walk-none S gens (passed S gens W) (λ D. sameBasis S D W) (λ x D. emit x) C p n i m (length gens) q none
     where
@@ -166,7 +170,8 @@ module _ (S : Space) (gens W : List (S .Vec)) (ρ : Reduced S W) where
           within : Within S W (inserts S C (later S gens W i))
           within v s =
               inserts-span S (later S gens W i) C v .1
-              (span-bind S (λ x k. low x (List·Memᴰ·append-cases (chosen S gens es) k)) (inserts-span S (chosen S gens es) C v .0 (subst (λ (X : List Vec). Span S X v) (sym is) s)))
+              (span-bind S (λ x k. low x (List·Memᴰ·append-cases (chosen S gens es) k)) (inserts-span S (chosen S gens es) C v .0 (subst (λ
+              (X : List Vec). Span S X v) (sym is) s)))
 
           full : completes S gens W C i ≡ true
           full =
@@ -182,7 +187,8 @@ module _ (S : Space) (gens W : List (S .Vec)) (ρ : Reduced S W) where
       go true q p = absurd (false≢true (ap not (sym q) ∙ p .1))
       go false q p = (inside-yes S W (gen i) (p .0), λ s. true≢false (sym (yes-inside S C σ (gen i) s) ∙ q))
 
-  pub inner-down : (C : List Vec) (i m : ℕ) → m ≢ 0 → Inner S W C m → (inside S W (gen i) && not (inside S C (gen i))) ≡ true → Inner S W (insert S C (gen i)) (m - 1)
+  pub inner-down : (C : List Vec) (i m : ℕ) → m ≢ 0 → Inner S W C m → (inside S W (gen i) && not (inside S C (gen i))) ≡ true
+      → Inner S W (insert S C (gen i)) (m - 1)
   inner-down C i m ne I e =
       let a = passed-no C i (I .reduced) e in
       record {
@@ -212,10 +218,18 @@ module _ (S : Space) (gens W : List (S .Vec)) (ρ : Reduced S W) where
 
     turn : (n j m : ℕ) (t : Bool) → passed S gens W C j ≡ t
         → spread S gens W emit C p (suc n) j (suc m)
-        ≡ elim t [ true ↦ spread S gens W emit C p n (suc j) (suc m) | false ↦ spread S gens W emit (insert S C (gen j)) (p ++ j ∷ []) n (suc j) m ++ spread S gens W emit C p n (suc j) (suc m) ]
+        ≡ elim t [
+          | true ↦ spread S gens W emit C p n (suc j) (suc m)
+          | false ↦ spread S gens W emit (insert S C (gen j)) (p ++ j ∷ []) n
+              (suc j) m ++ spread S gens W emit C p n (suc j) (suc m)
+        ]
     unfolding walk
     turn n j m t e =
-        ap (λ (u : Bool). elim u [ true ↦ spread S gens W emit C p n (suc j) (suc m) | false ↦ spread S gens W emit (insert S C (gen j)) (p ++ j ∷ []) n (suc j) m ++ spread S gens W emit C p n (suc j) (suc m) ]) e
+        ap (λ (u : Bool). elim u [
+          | true ↦ spread S gens W emit C p n (suc j) (suc m)
+          | false ↦ spread S gens W emit (insert S C (gen j)) (p ++ j ∷ []) n
+              (suc j) m ++ spread S gens W emit C p n (suc j) (suc m)
+        ]) e
 
     module _ (j m : ℕ) (ne : m ≢ 0) where
       pub spread-end : length gens ≤ j → spread S gens W emit C p (length gens - j) j m ≡ []
@@ -227,12 +241,14 @@ module _ (S : Space) (gens W : List (S .Vec)) (ρ : Reduced S W) where
       back : spread S gens W emit C p (length gens - (j + 1)) (suc j) (suc (m - 1)) ≡ spread S gens W emit C p (length gens - (j + 1)) (j + 1) m
       back = ap₂ (λ (a b : ℕ). spread S gens W emit C p (length gens - (j + 1)) a b) (sym (add-one j)) (omega arith)
 
-      pub spread-skip : j < length gens → (inside S W (gen j) && not (inside S C (gen j))) ≡ false → spread S gens W emit C p (length gens - j) j m ≡ spread S gens W emit C p (length gens - (j + 1)) (j + 1) m
+      pub spread-skip : j < length gens → (inside S W (gen j) && not (inside S C (gen j))) ≡ false
+          → spread S gens W emit C p (length gens - j) j m ≡ spread S gens W emit C p (length gens - (j + 1)) (j + 1) m
       spread-skip g e = counts g ∙ turn (length gens - (j + 1)) j (m - 1) true (ap not e) ∙ back
 
       pub spread-down : j < length gens → (inside S W (gen j) && not (inside S C (gen j))) ≡ true
           → spread S gens W emit C p (length gens - j) j m
-          ≡ spread S gens W emit (insert S C (gen j)) (p ++ j ∷ []) (length gens - (j + 1)) (j + 1) (m - 1) ++ spread S gens W emit C p (length gens - (j + 1)) (j + 1) m
+          ≡ spread S gens W emit (insert S C (gen j)) (p ++ j ∷ []) (length gens - (j + 1)) (j + 1) (m - 1) ++ spread S gens W emit C p (length gens -
+          (j + 1)) (j + 1) m
       spread-down g e =
           counts g ∙ turn (length gens - (j + 1)) j (m - 1) false (ap not e)
           ∙ ap₂ _++_ (ap (λ (a : ℕ). spread S gens W emit (insert S C (gen j)) (p ++ j ∷ []) (length gens - (j + 1)) a (m - 1)) (sym (add-one j))) back
@@ -248,11 +264,13 @@ module _ (S : Space) (gens W : List (S .Vec)) where
       ap (only (inside S W)) (drop-cons gens i (S .nul) l)
       ∙ ap₂ (λ (u : Bool) (k : ℕ). cond u (getD gens i (S .nul) ∷ only (inside S W) (drop k gens)) (only (inside S W) (drop k gens))) e (sym (add-one i))
 
-  pub later-in : (C : List Vec) (i : ℕ) → i < length gens → inside S W (generator S gens i) ≡ true → inserts S C (later S gens W i) ≡ inserts S (insert S C (generator S gens i)) (later S gens W (i + 1))
+  pub later-in : (C : List Vec) (i : ℕ) → i < length gens → inside S W (generator S gens i) ≡ true
+      → inserts S C (later S gens W i) ≡ inserts S (insert S C (generator S gens i)) (later S gens W (i + 1))
   unfolding inserts
   later-in C i l e = ap (inserts S C) (later-step i true l e)
 
-  pub later-out : (C : List Vec) (i : ℕ) → i < length gens → inside S W (generator S gens i) ≡ false → inserts S C (later S gens W i) ≡ inserts S C (later S gens W (i + 1))
+  pub later-out : (C : List Vec) (i : ℕ) → i < length gens → inside S W (generator S gens i) ≡ false
+      → inserts S C (later S gens W i) ≡ inserts S C (later S gens W (i + 1))
   later-out C i l e = ap (inserts S C) (later-step i false l e)
 
   pub completes-down : (C : List Vec) (i : ℕ) → i < length gens → (inside S W (generator S gens i) && not (inside S C (generator S gens i))) ≡ true
@@ -273,7 +291,8 @@ module _ (S : Space) (gens W : List (S .Vec)) where
       spanned : not (inside S C g) ≡ false → reduce S C g ≡ S .nul
       spanned q = unfold inside in S .isNul-yes (reduce S C g) (not-false (inside S C g) q)
 
-      go : (t : Bool) → inside S W (generator S gens i) ≡ t → (t && not (inside S C (generator S gens i))) ≡ false → inserts S C (later S gens W i) ≡ inserts S C (later S gens W (i + 1))
+      go : (t : Bool) → inside S W (generator S gens i) ≡ t → (t && not (inside S C (generator S gens i))) ≡ false
+          → inserts S C (later S gens W i) ≡ inserts S C (later S gens W (i + 1))
       go true a b = later-in C i l a ∙ ap (λ (D : List Vec). inserts S D (later S gens W (i + 1))) (insert-old S C g (spanned b))
       go false a b = later-out C i l a
 
@@ -285,7 +304,8 @@ module _ (S : Space) (gens W : List (S .Vec)) where
 module _ (S : Space) (gens W : List (S .Vec)) (ρ : Reduced S W) {A : Type 0} (emit : List ℕ → A) where
   open Space S using (Vec)
 
-  pub spread-some : (C : List Vec) (p : List ℕ) (n i m : ℕ) → Inner S W C m → i + n ≡ length gens → completes S gens W C i ≡ true → 0 < length (spread S gens W emit C p n i m)
+  pub spread-some : (C : List Vec) (p : List ℕ) (n i m : ℕ) → Inner S W C m → i + n ≡ length gens → completes S gens W C i ≡ true
+      → 0 < length (spread S gens W emit C p n i m)
   spread-some C p n i zero I q b = omega (arith, ap length (spread-leaf S gens W ρ emit C p n i zero refl I))
   spread-some C p zero i (suc m) I q b = absurd (let l = completes-end S gens W C i (omega arith) b in let z = I .size in omega arith)
   spread-some C p (suc n) i (suc m) I q b =

@@ -38,17 +38,27 @@ module _ (stop : List ℕ → ℕ → Bool) (q q′ : List ℕ → Bool) (R : Li
   unfolding pruned
   pruned-same p n i zero r = ap (λ t. cond t ([] ∷ []) []) (end p n i r)
   pruned-same p zero i (suc m) r = refl
-  pruned-same p (suc n) i (suc m) r = go (stop p i) refl (λ e. pruned-same (p ++ i ∷ []) n (suc i) m (take p n i m r e)) (pruned-same p n (suc i) (suc m) (skip p n i m r))
+  pruned-same p (suc n) i (suc m) r = go (stop p i) refl (λ e. pruned-same (p ++ i ∷ []) n (suc i) m (take p n i m r e)) (pruned-same p n (suc i) (suc m)
+      (skip p n i m r))
     where
       go : (t : Bool) → stop p i ≡ t → (stop p i ≡ false → pruned stop q (p ++ i ∷ []) n (suc i) m ≡ pruned stop q′ (p ++ i ∷ []) n (suc i) m)
           → pruned stop q p n (suc i) (suc m) ≡ pruned stop q′ p n (suc i) (suc m)
-          → _≡_ {A = List (List ℕ)} (elim t [ true ↦ pruned stop q p n (suc i) (suc m) | false ↦ map (λ es. i ∷ es) (pruned stop q (p ++ i ∷ []) n (suc i) m) ++ pruned stop q p n (suc i) (suc m) ])
-          (elim t [ true ↦ pruned stop q′ p n (suc i) (suc m) | false ↦ map (λ es. i ∷ es) (pruned stop q′ (p ++ i ∷ []) n (suc i) m) ++ pruned stop q′ p n (suc i) (suc m) ])
+          → _≡_ {A = List (List ℕ)} (elim t [
+            | true ↦ pruned stop q p n (suc i) (suc m)
+            | false ↦ map (λ es. i ∷ es) (pruned stop q (p ++ i ∷ []) n
+                (suc i) m) ++ pruned stop q p n (suc i) (suc m)
+          ])
+          (elim t [
+            | true ↦ pruned stop q′ p n (suc i) (suc m)
+            | false ↦ map (λ es. i ∷ es) (pruned stop q′ (p ++ i ∷ []) n (suc i) m) ++ pruned stop q′ p n
+                (suc i) (suc m)
+          ])
       go true e a b = b
       go false e a b = ap₂ (λ u v. map (λ es. i ∷ es) u ++ v) (a e) b
 
 -- ---- the walk goes as the pruning does
-module _ (S : Space) (gens : List (S .Vec)) (stop : List (S .Vec) → ℕ → Bool) (leaf : List (S .Vec) → Bool) {A : Type 0} (emit : List ℕ → List (S .Vec) → A) where
+module _ (S : Space) (gens : List (S .Vec)) (stop : List (S .Vec) → ℕ → Bool) (leaf : List (S .Vec) → Bool) {A : Type 0} (emit : List ℕ → List
+    (S .Vec) → A) where
   open Space S using (Vec)
 
   module _ (targets : List Vec) where
@@ -91,8 +101,13 @@ module _ (S : Space) (gens : List (S .Vec)) (stop : List (S .Vec) → ℕ → Bo
             shifts [] = refl
             shifts (x ∷ l) = ap₂ _∷_ (ap (λ y. emit y (sp y)) (append-assoc p (i ∷ []) x)) (shifts l)
 
-        go : (t : Bool) → walk S gens stop leaf emit (sp (p ++ i ∷ [])) (p ++ i ∷ []) n (suc i) m ≡ map (em (p ++ i ∷ [])) here → walk S gens stop leaf emit (sp p) p n (suc i) (suc m) ≡ map (em p) there
-            → elim t [ true ↦ walk S gens stop leaf emit (sp p) p n (suc i) (suc m) | false ↦ walk S gens stop leaf emit (insert S (sp p) (generator S gens i)) (p ++ i ∷ []) n (suc i) m ++ walk S gens stop leaf emit (sp p) p n (suc i) (suc m) ]
+        go : (t : Bool) → walk S gens stop leaf emit (sp (p ++ i ∷ [])) (p ++ i ∷ []) n (suc i) m ≡ map (em (p ++ i ∷ [])) here
+            → walk S gens stop leaf emit (sp p) p n (suc i) (suc m) ≡ map (em p) there
+            → elim t [
+              | true ↦ walk S gens stop leaf emit (sp p) p n (suc i) (suc m)
+              | false ↦ walk S gens stop leaf emit (insert S (sp p)
+                  (generator S gens i)) (p ++ i ∷ []) n (suc i) m ++ walk S gens stop leaf emit (sp p) p n (suc i) (suc m)
+            ]
             ≡ map (em p) (elim t [ true ↦ there | false ↦ map (λ es. i ∷ es) here ++ there ])
         go true a b = b
         go false a b =
@@ -103,7 +118,8 @@ module _ (S : Space) (gens : List (S .Vec)) (stop : List (S .Vec) → ℕ → Bo
 module _ (S : Space) (gens targets : List (S .Vec)) (stop : List (S .Vec) → ℕ → Bool)
     (stop-yes : (C : List (S .Vec)) (i : ℕ) → Reduced S C → stop C i ≡ true
     → (reduce S C (generator S gens i) ≡ S .nul)
-    ⊎ ((j : ℕ) × (j < i) × (c : S .fld .K) × (d : S .fld .K) × (reduce S C (generator S gens j) ≡ S .scale c (reduce S C (generator S gens i))) × (reduce S C (generator S gens i) ≡ S .scale d (reduce S C (generator S gens j)))))
+    ⊎ ((j : ℕ) × (j < i) × (c : S .fld .K) × (d : S .fld .K) × (reduce S C (generator S gens j) ≡ S .scale c (reduce S C (generator S gens i))) ×
+    (reduce S C (generator S gens i) ≡ S .scale d (reduce S C (generator S gens j)))))
     (stop-no : (C : List (S .Vec)) (i : ℕ) → Reduced S C → stop C i ≡ false → Next S gens C i) where
   open Space S using (fld, Vec, nul, scale)
   open Field fld using (K)
@@ -117,12 +133,14 @@ module _ (S : Space) (gens targets : List (S .Vec)) (stop : List (S .Vec) → �
   mem-chosen : (p : List ℕ) (j : ℕ) → List·Memᴰ j p → List·Memᴰ (generator S gens j) (chosen S gens p)
   unfolding chosen
   mem-chosen [] = λ j m. absurd (List·Memᴰ·not-nil m)
-  mem-chosen (e ∷ p) = mem-cons {P = λ j. List·Memᴰ (generator S gens j) (generator S gens e ∷ chosen S gens p)} (List·Memᴰ·head refl) (λ j m. List·Memᴰ·tail (mem-chosen p j m))
+  mem-chosen (e ∷ p) = mem-cons {P = λ j. List·Memᴰ (generator S gens j) (generator S gens e ∷ chosen S gens p)} (List·Memᴰ·head refl)
+      (λ j m. List·Memᴰ·tail (mem-chosen p j m))
 
   taken-in : (p : List ℕ) (j : ℕ) → List·Memᴰ j p → reduce S (spc p) (generator S gens j) ≡ nul
   taken-in p j m =
       member S (spc p) (space-reduced S gens targets p) (generator S gens j) .0
-      (unfold space in inserts-span S (chosen S gens p) (basisOf S targets) (generator S gens j) .1 (span-mem S (Memᴰ·append-left (basisOf S targets) (mem-chosen p j m))))
+      (unfold space in inserts-span S (chosen S gens p) (basisOf S targets) (generator S gens j) .1 (span-mem S (Memᴰ·append-left (basisOf S targets)
+      (mem-chosen p j m))))
 
   -- is j among the numbers
   decIn : (j : ℕ) (p : List ℕ) → Dec (List·Memᴰ j p)
@@ -152,7 +170,8 @@ module _ (S : Space) (gens targets : List (S .Vec)) (stop : List (S .Vec) → �
 
       listed : List·Memᴰ (p ++ i ∷ es) (entries S gens targets k)
           → (reduce S C (generator S gens i) ≡ nul)
-          ⊎ ((j : ℕ) × (j < i) × (c : K) × (d : K) × (reduce S C (generator S gens j) ≡ scale c (reduce S C (generator S gens i))) × (reduce S C (generator S gens i) ≡ scale d (reduce S C (generator S gens j))))
+          ⊎ ((j : ℕ) × (j < i) × (c : K) × (d : K) × (reduce S C (generator S gens j) ≡ scale c (reduce S C (generator S gens i))) × (reduce S C
+          (generator S gens i) ≡ scale d (reduce S C (generator S gens j))))
           → ⊥
       listed m (inl z) = old m z
       listed m (inr (j, l, c, d, e, f)) = old m (f ∙ ap (scale d) (gone (decIn j p)) ∙ scale-nul S d)
@@ -193,24 +212,32 @@ module _ (S : Space) (gens targets : List (S .Vec)) (stop : List (S .Vec) → �
         and-true false = refl
 
     pub walk-is : dim S targets ≤ k → {A : Type 0} (emit : List ℕ → List Vec → A)
-        → walk S gens stop (spans S gens k) emit (basisOf S targets) [] (length gens) 0 (k - dim S targets) ≡ map (λ es. emit es (spc es)) (entries S gens targets k)
+        → walk S gens stop (spans S gens k) emit (basisOf S targets) [] (length gens) 0 (k - dim S targets) ≡ map (λ es. emit es (spc es))
+        (entries S gens targets k)
     walk-is h emit =
         ap (λ X. walk S gens stop (spans S gens k) emit X [] (length gens) 0 (k - dim S targets)) start
         ∙ pruned-pruned S gens stop (spans S gens k) emit targets [] (length gens) 0 (k - dim S targets)
         ∙ ap (map (λ es. emit es (spc es)))
-        (sym (pruned-same st (canonical S gens targets k) (λ p. spans S gens k (spc p)) At skip take at-end [] (length gens) 0 (k - dim S targets) (record { steps = tt; range = omega arith; size = omega arith }))
+        (sym (pruned-same st (canonical S gens targets k) (λ p. spans S gens k (spc p)) At skip take at-end [] (length gens) 0 (k - dim S targets)
+        (record { steps = tt; range = omega arith; size = omega arith }))
         ∙ pruned-is st (canonical S gens targets k) (stop-sound k) [] (length gens) 0 (k - dim S targets) ∙ sym (entries-canonical S gens targets k))
       where
         start : basisOf S targets ≡ spc []
         start = unfold space inserts chosen in refl
 
         skip : (p : List ℕ) (n i m : ℕ) → At p (suc n) i (suc m) → At p n (suc i) (suc m)
-        skip p n i m a = record { steps = steps-more S gens p (basisOf S targets) 0 i (suc i) (omega arith) (a .steps); range = (let r = a .range in omega arith); size = a .size }
+        skip p n i m a = record {
+          steps = steps-more S gens p (basisOf S targets) 0 i (suc i) (omega arith) (a .steps);
+          range =
+              (let r = a .range in omega arith);
+          size = a .size;
+        }
 
         take : (p : List ℕ) (n i m : ℕ) → At p (suc n) i (suc m) → st p i ≡ false → At (p ++ i ∷ []) n (suc i) m
         take p n i m a e =
             record {
-              steps = unfold space in steps-snoc S gens p (basisOf S targets) 0 i (a .steps) (omega arith) (stop-no (spc p) i (space-reduced S gens targets p) e);
+              steps = unfold space in steps-snoc S gens p (basisOf S targets) 0 i (a .steps) (omega arith) (stop-no (spc p) i
+                  (space-reduced S gens targets p) e);
               range = (let r = a .range in omega arith);
               size = omega (arith, a .size, length-append p (i ∷ []));
             }
@@ -224,7 +251,8 @@ module _ (S : Space) (gens : List (S .Vec)) (stop : List (S .Vec) → ℕ → Bo
   Free C [] = Unit {0}
   Free C (e ∷ es) = (stop C e ≡ false) × Free (insert S C (generator S gens e)) es
 
-module _ (S : Space) (gens : List (S .Vec)) (stop : List (S .Vec) → ℕ → Bool) (leaf : List (S .Vec) → Bool) {A : Type 0} (emit : List ℕ → List (S .Vec) → A) where
+module _ (S : Space) (gens : List (S .Vec)) (stop : List (S .Vec) → ℕ → Bool) (leaf : List (S .Vec) → Bool) {A : Type 0} (emit : List ℕ → List
+    (S .Vec) → A) where
   open Space S using (Vec)
 
   -- m rising numbers from i on and below hi, none of them stopped, that lead from C to a space that passes
@@ -243,13 +271,29 @@ module _ (S : Space) (gens : List (S .Vec)) (stop : List (S .Vec) → ℕ → Bo
       go false e m = absurd (List·Memᴰ·not-nil m)
   walk-some C p zero i (suc m) hi q x = λ k. absurd (List·Memᴰ·not-nil k)
   walk-some C p (suc n) i (suc m) hi q x =
-      go (stop C i) refl (λ b k. up b (walk-some (insert S C (generator S gens i)) (p ++ i ∷ []) n (suc i) m hi (omega arith) x k)) (λ k. on (walk-some C p n (suc i) (suc m) hi (omega arith) x k))
+      go (stop C i) refl (λ b k. up b (walk-some (insert S C (generator S gens i)) (p ++ i ∷ []) n (suc i) m hi (omega arith) x k)) (λ k. on
+      (walk-some C p n (suc i) (suc m) hi (omega arith) x k))
     where
       up : stop C i ≡ false → Further (insert S C (generator S gens i)) (suc i) hi m → Further C i hi (suc m)
-      up b f = record { numbers = i ∷ f .numbers; rising = (ap suc (f .rising .0), (omega arith, omega arith, f .rising .1)); free = (b, f .free); good = f .good }
+      up b f = record {
+        numbers = i ∷ f .numbers;
+        rising = (ap suc (f .rising .0), (omega arith, omega arith, f .rising .1));
+        free =
+            (b, f .free);
+        good = f .good;
+      }
 
       on : Further C (suc i) hi (suc m) → Further C i hi (suc m)
-      on f = record { numbers = f .numbers; rising = (f .rising .0, rising-from i (suc i) hi (f .numbers) (omega arith) (f .rising .1)); free = f .free; good = f .good }
+      on f = record {
+        numbers = f .numbers;
+        rising = (
+          f .rising .0,
+          rising-from i (suc i) hi (f .numbers) (omega arith)
+              (f .rising .1),
+        );
+        free = f .free;
+        good = f .good;
+      }
 
       here : List A
       here = walk S gens stop leaf emit (insert S C (generator S gens i)) (p ++ i ∷ []) n (suc i) m
@@ -257,7 +301,8 @@ module _ (S : Space) (gens : List (S .Vec)) (stop : List (S .Vec) → ℕ → Bo
       there : List A
       there = walk S gens stop leaf emit C p n (suc i) (suc m)
 
-      cases : (List·Memᴰ x here → Further C i hi (suc m)) → (List·Memᴰ x there → Further C i hi (suc m)) → List·Memᴰ x here ⊎ List·Memᴰ x there → Further C i hi (suc m)
+      cases : (List·Memᴰ x here → Further C i hi (suc m)) → (List·Memᴰ x there → Further C i hi (suc m)) → List·Memᴰ x here ⊎ List·Memᴰ x there
+          → Further C i hi (suc m)
       cases f g (inl k) = f k
       cases f g (inr k) = g k
 
@@ -274,8 +319,14 @@ module _ (S : Space) (gens : List (S .Vec)) (stop : List (S .Vec) → ℕ → Bo
       go (x ∷ l) e = absurd (h (walk-some C p n i m hi q x (subst (λ (y : List A). List·Memᴰ x y) (sym e) (List·Memᴰ·head refl))))
 
 -- such numbers are next ones, each in its turn
-pub free-steps : (S : Space) (gens : List (S .Vec)) (stop : List (S .Vec) → ℕ → Bool) → ((C : List (S .Vec)) (i : ℕ) → Reduced S C → stop C i ≡ false → Next S gens C i)
+pub free-steps : (S : Space) (gens : List (S .Vec)) (stop : List (S .Vec) → ℕ → Bool)
+    → ((C : List (S .Vec)) (i : ℕ) → Reduced S C → stop C i ≡ false → Next S gens C i)
     → (es : List ℕ) (C : List (S .Vec)) (lo hi : ℕ) → Reduced S C → Rising lo hi es → Free S gens stop C es → Steps S gens C lo hi es
 free-steps S gens stop nx [] C lo hi ρ r f = tt
-free-steps S gens stop nx (e ∷ es) C lo hi ρ r f =
-    (r .0, r .1, nx C e ρ (f .0), free-steps S gens stop nx es (insert S C (generator S gens e)) (suc e) hi (insert-reduced S C (generator S gens e) ρ) (r .2) (f .1))
+free-steps S gens stop nx (e ∷ es) C lo hi ρ r f = (
+  r .0,
+  r .1,
+  nx C e ρ (f .0),
+  free-steps S gens stop nx es (insert S C (generator S gens e)) (suc e) hi (insert-reduced S C (generator S gens e) ρ)
+      (r .2) (f .1),
+)

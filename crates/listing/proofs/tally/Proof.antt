@@ -8,10 +8,7 @@ use Rattle.listing.proofs.Root.{root-node}
 use Rattle.listing.proofs.tally.Statement.{statement}
 use Rattle.listing.proofs.tally.Tie as tie
 
--- the arrays that are lent down the walk
-firsts-all : length (replicate {A = ℕ} 65536 0) ≡ 65536
-firsts-all = length-replicate {A = ℕ} 65536 0
-
+-- the array that is lent down the walk
 rows-all : length (replicate {A = ℕ} 32768 0) ≡ 32768
 rows-all = length-replicate {A = ℕ} 32768 0
 
@@ -37,19 +34,16 @@ slice-aggregate-walk : tie.Need-slice-aggregate-walk
 slice-aggregate-walk c = sym (length-take-le (length (c .before .before .before .before .before .before .args .gens .now)) (c .before .before .residues .last .1 .1 .0) (within (c .before .before .before .before .before .before .pre .small) (c .before .before .residues .ensures .whole)))
 
 slice-aggregate-walk-2 : tie.Need-slice-aggregate-walk-2
-slice-aggregate-walk-2 c = sym firsts-all
-
-slice-aggregate-walk-3 : tie.Need-slice-aggregate-walk-3
-slice-aggregate-walk-3 c = sym rows-all
+slice-aggregate-walk-2 c = sym rows-all
 
 walk-requires : tie.Need-walk-requires
-walk-requires c κs = let a = c .before .before .before .before .before .before .before .before .before .args in (root-node (a .gens .now) (a .k) (a .limit) (a .out .now) (a .b) (c .before .before .before .before .before .residues .last .1 .1 .0) (c .before .before .before .before .before .before .before .before .before .pre) (c .before .before .before .before .before .residues .ensures), firsts-all, rows-all)
+walk-requires c κs = let a = c .before .before .before .before .before .before .before .before .args in (root-node (a .gens .now) (a .k) (a .limit) (a .out .now) (a .b) (c .before .before .before .before .residues .last .1 .1 .0) (c .before .before .before .before .before .before .before .before .pre) (c .before .before .before .before .residues .ensures), rows-all)
 
 same-length : tie.Need-same-length
-same-length c = c .before .before .before .before .walk .kept .1 .1 .1 .1 .1 .1 .1 .1 .1 .1 .1 .0
+same-length c = c .before .before .before .walk .kept .1 .1 .1 .1 .1 .1 .1 .1 .1 .1 .0
 
 returns : tie.Need-returns
-returns c = record { state = c .before .before .before .before .walk .ensures }
+returns c = record { state = c .before .before .before .walk .ensures }
 
 pub tally-spec : {M : Type 1} → statement M
 tally-spec =
@@ -60,7 +54,6 @@ tally-spec =
     array-share-prefix-h
     slice-aggregate-walk
     slice-aggregate-walk-2
-    slice-aggregate-walk-3
     walk-requires
     same-length
     returns)

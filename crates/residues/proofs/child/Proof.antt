@@ -1,5 +1,5 @@
 -- `residues::child` meets its contract: the words so far are the residues, cleared. Assumes nothing.
-use mathlib.Core.Path.{refl}
+use mathlib.Core.Path.{refl, sym, _∙_}
 use lib.ListN.{length}
 use Prim.Native.Nat.{_-_}
 use Rattle.linear.specs.Basis.{clear}
@@ -16,7 +16,7 @@ abbrev μ-loop : tie.MeasureT-loop
 μ-loop h x out₀ i₀ out i = length h - i
 
 loop-holds : tie.Need-loop-holds Inv-loop μ-loop
-loop-holds c = record { within = omega arith; whole = c .before .pre .1; done = refl }
+loop-holds c = record { within = omega arith; whole = c .before .before .pre .1; done = refl }
 
 mul-clear : tie.Need-mul-clear Inv-loop μ-loop
 mul-clear c = omega arith
@@ -30,8 +30,8 @@ clear-requires c κs = tt
 mul-out : tie.Need-mul-out Inv-loop μ-loop
 mul-out c = omega arith
 
-element-write-out : tie.Need-element-write-out Inv-loop μ-loop
-element-write-out c = omega arith
+slice-write-out : tie.Need-slice-write-out Inv-loop μ-loop
+slice-write-out c = omega arith
 
 add-i : tie.Need-add-i Inv-loop μ-loop
 add-i c = omega arith
@@ -41,12 +41,15 @@ loop-less c = omega arith
 
 loop-again : tie.Need-loop-again Inv-loop μ-loop
 loop-again c =
-    let s = c .before .before .before .before .before in
+    let a = c .before .before .before .before .before .before .args in
     let l = c .before .before .before .loop in
-    mapping-next (clear word (s .args .x)) (s .args .h .now) (l .out) (l .i) (s .pre .0) (l .inv) (omega arith) (c .clear .result) (c .clear .ensures)
+    mapping-next (clear word (a .x)) (a .h .now) (l .out) (l .i) (c .before .before .before .before .before .before .pre .0) (l .inv) (omega arith) (c .clear .result) (c .clear .ensures)
+
+same-length : tie.Need-same-length Inv-loop μ-loop
+same-length c = c .before .loop .inv .whole ∙ sym (c .before .before .before .before .pre .1)
 
 returns : tie.Need-returns Inv-loop μ-loop
-returns c = let s = c .before .before .before in let l = c .before .loop in mapping-end (clear word (s .args .x)) (s .args .h .now) (l .out) (l .i) (l .inv) (omega arith)
+returns c = let a = c .before .before .before .before .args in let l = c .before .loop in mapping-end (clear word (a .x)) (a .h .now) (l .out) (l .i) (l .inv) (omega arith)
 
 pub child-spec : {M : Type 1} → statement M
 child-spec =
@@ -59,8 +62,9 @@ child-spec =
     shared-slice-read-clear
     clear-requires
     mul-out
-    element-write-out
+    slice-write-out
     add-i
     loop-less
     loop-again
+    same-length
     returns)

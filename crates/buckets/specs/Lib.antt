@@ -1,3 +1,0 @@
--- Bounds on the ranks of the generators with one residue.
-pub mod Table
-pub mod laws

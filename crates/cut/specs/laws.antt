@@ -1,2 +1,0 @@
--- The laws of the definitions beside this folder.
-pub mod Cut

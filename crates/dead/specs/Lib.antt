@@ -1,0 +1,3 @@
+-- Flags of the numbers that a search leaves out.
+pub mod Dead
+pub mod laws

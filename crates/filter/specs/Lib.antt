@@ -1,3 +1,0 @@
--- Which children the ranks rule out.
-pub mod Kept
-pub mod laws

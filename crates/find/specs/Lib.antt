@@ -1,0 +1,3 @@
+-- The search along heavy values.
+pub mod Find
+pub mod laws

@@ -1,0 +1,7 @@
+-- The laws of the definitions beside this folder.
+pub mod Find
+pub mod Light
+pub mod Step
+pub mod Pairs
+pub mod Near
+pub mod Sweep

@@ -1,3 +1,0 @@
--- Pairs of values that reach a share.
-pub mod Reach
-pub mod laws
