@@ -49,8 +49,8 @@ pub fn finish(h: &[u64], d: &[u64], x: u64, start: usize, marks: &mut [u8])
     marks[j] = 1;
 }
 
-// The largest weight that is too light where `missing` dimensions are missing and `n` of `k` dimensions are there: 0, or below its part of what is
-// needed.
+// The weight up to which all are too light where `missing` dimensions are missing and `n` of `k` dimensions are there: 0, or below its part of what
+// is needed.
 pub fn light(k: usize, n: usize, missing: usize) -> usize
     requires { ⌜ (missing ≤ 8) × (missing ≢ 0) ⌝ }
     ensures { λ r. ⌜ Light k missing n r ⌝ }

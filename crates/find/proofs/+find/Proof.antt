@@ -117,15 +117,15 @@ all-zero : length (replicate {A = ℕ} 4096 0) ≡ 4096
 all-zero = length-replicate {A = ℕ} 4096 0
 
 find-slice-aggregate-fill : (t : ℕ) → find-lts.Need-slice-aggregate-fill (claims t) (find-at t) find.Post find-Inv-loop find-μ-loop
-find-slice-aggregate-fill t c = sym (c .before .before .before .before .before .before .before .pre .1 .dead-all)
+find-slice-aggregate-fill t c = sym (c .before .before .before .before .before .before .before .pre .1 .at .sizes .gone-all)
 
 find-array-share-prefix-basis : (t : ℕ) → find-lts.Need-array-share-prefix-basis (claims t) (find-at t) find.Post find-Inv-loop find-μ-loop
-find-array-share-prefix-basis t c = room (c .before .before .before .before .before .before .before .pre .1 .held .valid .room)
-    (c .before .before .before .before .before .before .before .pre .1 .held .valid .whole)
+find-array-share-prefix-basis t c = room (c .before .before .before .before .before .before .before .pre .1 .at .held .valid .room)
+    (c .before .before .before .before .before .before .before .pre .1 .at .held .valid .whole)
 
 find-slice-aggregate-fill-2 : (t : ℕ) → find-lts.Need-slice-aggregate-fill-2 (claims t) (find-at t) find.Post find-Inv-loop find-μ-loop
 find-slice-aggregate-fill-2 t c = sym (rows-length (c .before .before .before .before .before .before .before .before .args .s)
-    (c .before .before .before .before .before .before .before .before .pre .1 .held .valid))
+    (c .before .before .before .before .before .before .before .before .pre .1 .at .held .valid))
 
 find-slice-aggregate-fill-3 : (t : ℕ) → find-lts.Need-slice-aggregate-fill-3 (claims t) (find-at t) find.Post find-Inv-loop find-μ-loop
 find-slice-aggregate-fill-3 t c = refl
@@ -137,12 +137,12 @@ find-fill-requires : (t : ℕ) → find-lts.Need-fill-requires (claims t) (find-
 find-fill-requires t c κs =
     let P = c .before .before .before .before .before .before .before .before .before .before .before .pre .1 in
     record {
-      alike = P .over;
-      few = as-few (P .over) (P .few);
-      begin = as-many (P .over)
-          (P .begin);
-      dead-all = P .dead-all;
-      basis = P .held .is;
+      alike = P .at .sizes .over;
+      few = as-few (P .at .sizes .over) (P .at .sizes .few);
+      begin = as-many (P .at .sizes .over)
+          (P .at .sizes .begin);
+      dead-all = P .at .sizes .gone-all;
+      basis = P .at .held .is;
       blank = refl;
       rows-all = P .rows-all;
       none = refl;
@@ -176,9 +176,9 @@ find-slice-aggregate-next-with t c = sym (c .before .before .before .before .bef
 find-next-with-requires : (t : ℕ) → find-lts.Need-next-with-requires (claims t) (find-at t) find.Post find-Inv-loop find-μ-loop
 find-next-with-requires t c κs =
     let c₁ = c .before .before .before .before .before .before .before .before .before .before in (
-      c₁ .before .before .before .before .before .before .before .before .before .pre .1 .begin,
+      c₁ .before .before .before .before .before .before .before .before .before .pre .1 .at .sizes .begin,
       within
-          (c₁ .before .before .before .before .before .before .before .before .before .pre .1 .few)
+          (c₁ .before .before .before .before .before .before .before .before .before .pre .1 .at .sizes .few)
           (c .before .before .before .before .before .before .before .fill .kept .1 .1 .1 .1 .1 .1 .1 .0),
     )
 
@@ -189,12 +189,12 @@ find-loop-holds t c =
     let a = c₂ .args in (
       sweep-start (a .gens .now) (a .h .now) (a .d .now) (a .start) (a .k) (a .missing) (a .t8)
           (c .before .before .before .before .before .before .before .before .fill .last .1 .1 .1 .1 .1 .1 .1 .0) (a .marks .now)
-          (c .before .before .before .before .before .before .before .before .fill .result) (c .next-with .result) (c₂ .pre .1 .dead-all)
+          (c .before .before .before .before .before .before .before .before .fill .result) (c .next-with .result) (c₂ .pre .1 .at .sizes .gone-all)
           (c .before .before .before .before .before .before .before .before .fill .ensures .most)
           (c .next-with .ensures),
       c .before .before .before .before .before .before .before .before .fill .kept .1 .1 .1 .1 .1 .1 .0 ∙
           c₂ .pre .1 .rows-all,
-      c₂ .pre .1 .marks-all,
+      c₂ .pre .1 .at .sizes .marks-all,
       all-zero,
       all-zero,
       c .before .before .before .before .before .before .before .before .fill .ensures
@@ -213,8 +213,8 @@ find-next-with-requires-2 : (t : ℕ) → find-lts.Need-next-with-requires-2 (cl
 find-next-with-requires-2 t c κs =
     let c₁ = c .before .before .before .before .before .before .before .before .before .before in
     let c₂ = c₁ .before .before .before .before .before .before .before .before .before .before in (
-      c₂ .before .before .before .before .pre .1 .begin,
-      within (c₂ .before .before .before .before .pre .1 .few)
+      c₂ .before .before .before .before .pre .1 .at .sizes .begin,
+      within (c₂ .before .before .before .before .pre .1 .at .sizes .few)
           (c₁ .before .before .fill .kept .1 .1 .1 .1 .1 .1 .1 .0),
     )
 
@@ -223,7 +223,7 @@ find-loop-less t c =
     let c₁ = c .before .before .before .before .before .before .before .before .before .before in
     let c₂ = c₁ .before .before .before .before .before .before .before .before .before .before in
     lighter (c .before .before .before .before .loop .j) (c .next-with2 .result) (c .before .before .before .loop-test .taken)
-    (c₂ .before .before .before .before .before .pre .1 .few)
+    (c₂ .before .before .before .before .before .pre .1 .at .sizes .few)
 
 find-loop-again : (t : ℕ) → find-lts.Need-loop-again (claims t) (find-at t) find.Post find-Inv-loop find-μ-loop
 find-loop-again t c =
@@ -247,14 +247,14 @@ find-mul-take t c =
     let c₁ = c .before .before .before .before .before .before .before .before .before .before in
     let c₂ = c₁ .before .before .before .before .before .before .before .before .before .before in
     let l = c .before .before .loop in
-    eight-fits (before-end (l .inv .0 .to) (c .if2 .left)) (c₂ .before .before .before .pre .1 .few)
+    eight-fits (before-end (l .inv .0 .to) (c .if2 .left)) (c₂ .before .before .before .pre .1 .at .sizes .few)
 
 find-shared-slice-read-take : (t : ℕ) → find-lts.Need-shared-slice-read-take (claims t) (find-at t) find.Post find-Inv-loop find-μ-loop
 find-shared-slice-read-take t c =
     let c₁ = c .before .before .before .before .before .before .before .before .before .before in
     let c₂ = c₁ .before .before .before .before .before .before .before .before .before .before in
     let l = c .before .before .before .loop in
-    inside (c₂ .before .before .before .before .pre .1 .over) (before-end (l .inv .0 .to) (c .before .if2 .left))
+    inside (c₂ .before .before .before .before .pre .1 .at .sizes .over) (before-end (l .inv .0 .to) (c .before .if2 .left))
 
 find-slice-aggregate-take : (t : ℕ) → find-lts.Need-slice-aggregate-take (claims t) (find-at t) find.Post find-Inv-loop find-μ-loop
 find-slice-aggregate-take t c = sym (c .before .before .before .before .loop .inv .0 .all)
@@ -263,10 +263,10 @@ find-take-requires : (t : ℕ) → find-lts.Need-take-requires (claims t) (find-
 find-take-requires t c κs =
     let c₁ = c .before .before .before .before .before .before .before .before .before .before in
     let c₂ = c₁ .before .before .before .before .before .before .before .before .before .before in (
-      c₂ .before .before .before .before .before .pre .1 .held .valid,
-      c₂ .before .before .before .before .before .pre .1 .over,
+      c₂ .before .before .before .before .before .pre .1 .at .held .valid,
+      c₂ .before .before .before .before .before .pre .1 .at .sizes .over,
       within (as-few
-          (c₂ .before .before .before .before .before .pre .1 .over) (c₂ .before .before .before .before .before .pre .1 .few))
+          (c₂ .before .before .before .before .before .pre .1 .at .sizes .over) (c₂ .before .before .before .before .before .pre .1 .at .sizes .few))
           (c .before .before .before .before .loop .inv .0 .all),
     )
 
@@ -306,7 +306,7 @@ find-near-requires t c κs =
           (sweep-value (a .gens .now) (a .h .now) (a .d .now) (a .start) (a .k) (a .missing) (a .s) (a .t8) (a .rows .now) (a .marks .now)
           (c₃ .before .before .before .pre .1) (c₂ .before .fill .last .1 .1 .1 .1 .1 .0) (c₂ .before .fill .last .1 .1 .1 .1 .1 .1 .1 .0)
           (c₂ .before .fill .result) (c₂ .before .fill .ensures) (l .r) (l .j) (l .gone) (l .marks) (l .inv .0) q
-          (c₁ .before .before .before .before .before .before .light .result) (c₁ .before .loop-test .taken)) (c₃ .before .before .before .pre .1 .held)
+          (c₁ .before .before .before .before .before .before .light .result) (c₁ .before .loop-test .taken)) (c₃ .before .before .before .pre .1 .at .held)
           (c .before .before .before .before .before .before .before .take .ensures),
       c₃ .before .before .before .pre .1 .some,
     )
@@ -316,7 +316,7 @@ find-array-share-prefix-mine t c =
     let c₁ = c .before .before .before .before .before .before .before .before .before .before in
     let c₂ = c₁ .before .before .before .before .before .before .before .before .before .before in
     let c₃ = c₂ .before .before .before .before .before .before .before .before .before .before in
-    within (c₃ .before .before .before .before .before .before .before .before .before .pre .1 .few)
+    within (c₃ .before .before .before .before .before .before .before .before .before .pre .1 .at .sizes .few)
     (c .before .before .before .before .before .near .kept .1 .1 .1 .1 .1 .1 .1 .1 .1 .1 .1 .1 .0 ∙
     c₁ .before .before .before .before .before .before .before .before .loop .inv .4)
 
@@ -327,7 +327,7 @@ find-slice-aggregate-find t c =
     let c₃ = c₂ .before .before .before .before .before .before .before .before .before .before in
     let c₄ = c₃ .before .before .before .before .before .before .before .before .before .before in
     sym (length-take-le (length (c₄ .args .gens .now))
-    (c .before .before .before .before .before .before .near .last .1 .1 .1 .1 .1 .1 .1 .1 .1 .1 .1 .1 .0) (within (c₄ .pre .1 .few)
+    (c .before .before .before .before .before .before .near .last .1 .1 .1 .1 .1 .1 .1 .1 .1 .1 .1 .1 .0) (within (c₄ .pre .1 .at .sizes .few)
     (c .before .before .before .before .before .before .near .kept .1 .1 .1 .1 .1 .1 .1 .1 .1 .1 .1 .1 .0 ∙
     c₁ .before .before .before .before .before .before .before .before .before .loop .inv .4)))
 
@@ -360,7 +360,7 @@ find-find-requires t c κs =
           (c₁ .before .before .before .before .before .before .take .result) (sweep-value (a .gens .now) (a .h .now) (a .d .now) (a .start) (a .k)
           (a .missing) (a .s) (a .t8) (a .rows .now) (a .marks .now) (c₄ .before .before .pre .1) (c₃ .fill .last .1 .1 .1 .1 .1 .0)
           (c₃ .fill .last .1 .1 .1 .1 .1 .1 .1 .0) (c₃ .fill .result) (c₃ .fill .ensures) (l .r) (l .j) (l .gone) (l .marks) (l .inv .0) q
-          (c₂ .before .before .before .before .before .light .result) (c₂ .loop-test .taken)) (c₄ .before .before .pre .1 .held)
+          (c₂ .before .before .before .before .before .light .result) (c₂ .loop-test .taken)) (c₄ .before .before .pre .1 .at .held)
           (c₁ .before .before .before .before .before .before .take .ensures)) .held (N .basis e)) (l .rows)
           (c .before .before .before .before .before .before .before .before .near .last .1 .1 .1 .1 .1 .1 .1 .1 .1 .1 .1 .1 .1 .0) (l .inv .1)
           (c .before .before .before .before .before .before .before .before .near .kept .1 .1 .1 .1 .1 .1 .1 .1 .1 .1 .1 .1 .1 .0 ∙ l .inv .2),
@@ -373,7 +373,7 @@ find-array-write-gone t c =
     let c₃ = c₂ .before .before .before .before .before .before .before .before .before .before in
     let l = c₁ .before .before .before .before .before .before .before .before .loop in
     as-lt (before-end (l .inv .0 .to) (c₁ .before .before .before .before .before .before .if2 .left))
-    (c₃ .before .before .before .before .before .before .before .before .before .pre .1 .few)
+    (c₃ .before .before .before .before .before .before .before .before .before .pre .1 .at .sizes .few)
 
 find-slice-aggregate-next-with-3 : (t : ℕ) → find-lts.Need-slice-aggregate-next-with-3 (claims t) (find-at t) find.Post find-Inv-loop find-μ-loop
 find-slice-aggregate-next-with-3 t c =
@@ -388,7 +388,7 @@ find-add-next-with t c =
     let c₃ = c₂ .before .before .before .before .before .before .before .before .before .before in
     let c₄ = c₃ .before .before .before .before .before .before .before .before .before .before in
     let l = c₁ .before .before .before .before .before .before .before .before .before .loop in
-    one-fits (before-end (l .inv .0 .to) (c₁ .before .before .before .before .before .before .before .if2 .left)) (c₄ .pre .1 .few)
+    one-fits (before-end (l .inv .0 .to) (c₁ .before .before .before .before .before .before .before .if2 .left)) (c₄ .pre .1 .at .sizes .few)
 
 find-next-with-requires-3 : (t : ℕ) → find-lts.Need-next-with-requires-3 (claims t) (find-at t) find.Post find-Inv-loop find-μ-loop
 find-next-with-requires-3 t c κs =
@@ -398,7 +398,7 @@ find-next-with-requires-3 t c κs =
     let c₄ = c₃ .before .before .before .before .before .before .before .before .before .before in
     let l = c₁ .before .before .before .before .before .before .before .before .before .loop in (
       next-le (before-end (l .inv .0 .to) (c₁ .before .before .before .before .before .before .before .if2 .left)),
-      within (c₄ .pre .1 .few)
+      within (c₄ .pre .1 .at .sizes .few)
           (c₂ .before .before .before .before .before .before .before .before .fill .kept .1 .1 .1 .1 .1 .1 .1 .0),
     )
 
@@ -452,7 +452,7 @@ find-loop-again-2 t c =
     (c .before .before .if3 .came) in (
       sweep-more (a .gens .now) (a .h .now) (a .d .now) (a .start) (a .k) (a .missing) (a .t8)
           (c₂ .before .before .before .before .before .before .before .before .before .fill .last .1 .1 .1 .1 .1 .1 .1 .0) (a .marks .now) (l .r) (l .j)
-          (l .gone) (l .marks) (l .inv .0) q (c₄ .before .pre .1 .few) (sweep-value (a .gens .now) (a .h .now) (a .d .now) (a .start) (a .k) (a .missing)
+          (l .gone) (l .marks) (l .inv .0) q (c₄ .before .pre .1 .at .sizes .few) (sweep-value (a .gens .now) (a .h .now) (a .d .now) (a .start) (a .k) (a .missing)
           (a .s) (a .t8) (a .rows .now) (a .marks .now) (c₄ .before .pre .1)
           (c₂ .before .before .before .before .before .before .before .before .before .fill .last .1 .1 .1 .1 .1 .0)
           (c₂ .before .before .before .before .before .before .before .before .before .fill .last .1 .1 .1 .1 .1 .1 .1 .0)
@@ -479,7 +479,7 @@ find-same-length-3 : (t : ℕ) → find-lts.Need-same-length-3 (claims t) (find-
 find-same-length-3 t c =
     let c₁ = c .before .before .before .before .before .before .before .before .before .before in
     let c₂ = c₁ .before .before .before .before .before .before .before .before .before .before in
-    c .before .loop .inv .2 ∙ sym (c₂ .before .before .pre .1 .marks-all)
+    c .before .loop .inv .2 ∙ sym (c₂ .before .before .pre .1 .at .sizes .marks-all)
 
 find-returns-2 : (t : ℕ) → find-lts.Need-returns-2 (claims t) (find-at t) find.Post find-Inv-loop find-μ-loop
 find-returns-2 t c =

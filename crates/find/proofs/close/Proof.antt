@@ -15,9 +15,9 @@ abbrev μ-loop : tie.MeasureT-loop
 
 next-marked-requires : tie.Need-next-marked-requires Inv-loop μ-loop
 next-marked-requires c κs = (
-  c .before .before .before .before .before .before .pre .0 .begin,
+  c .before .before .before .before .before .before .pre .0 .sizes .begin,
   omega
-      (arith, c .before .before .before .before .before .before .pre .0 .few, c .before .before .before .before .before .before .pre .1),
+      (arith, c .before .before .before .before .before .before .pre .0 .sizes .few, c .before .before .before .before .before .before .pre .1),
 )
 
 loop-holds : tie.Need-loop-holds Inv-loop μ-loop
@@ -26,21 +26,23 @@ loop-holds c =
     let N = c .next-marked .ensures in (
       closing-start (a .gens .now) (a .h .now) (a .d .now) (a .start) (a .k) (a .gone .now) (a .picks .now) (a .marks .now) (c .next-marked .result)
           (N .low) (N .high) (N .none),
-      c .before .before .before .before .before .before .before .pre .0 .marks-all,
+      c .before .before .before .before .before .before .before .pre .0 .sizes .marks-all,
     )
 
 step-requires : tie.Need-step-requires Inv-loop μ-loop
 step-requires c κs =
     let P = c .before .before .before .before .before .before .before .before .before .before .pre .0 in (
       record {
-        alike = P .alike;
-        over = P .over;
-        few = P .few;
-        begin = P .begin;
+        sizes =
+            record {
+              alike = P .sizes .alike;
+              over = P .sizes .over;
+              few = P .sizes .few;
+              begin = P .sizes .begin;
+              gone-all = P .sizes .gone-all;
+              marks-all = c .before .before .loop .inv .1;
+            };
         held = P .held;
-        gone-all = P .gone-all;
-        marks-all = c .before .before
-            .loop .inv .1;
       },
       c .before .loop-test .taken,
     )
@@ -48,14 +50,14 @@ step-requires c κs =
 add-next-marked : tie.Need-add-next-marked Inv-loop μ-loop
 add-next-marked c =
     let c₁ = c .before .before .before .before .before .before .before .before .before .before in
-    omega (arith, c .before .before .before .before .loop-test .taken, c₁ .before .before .before .pre .0 .few)
+    omega (arith, c .before .before .before .before .loop-test .taken, c₁ .before .before .before .pre .0 .sizes .few)
 
 next-marked-requires-2 : tie.Need-next-marked-requires-2 Inv-loop μ-loop
 next-marked-requires-2 c κs =
     let c₁ = c .before .before .before .before .before .before .before .before .before .before in (
       omega (arith, c .before .before .before .before .loop-test .taken),
       omega
-          (arith, c₁ .before .before .before .pre .0 .few, c₁ .before .before .before .pre .1),
+          (arith, c₁ .before .before .before .pre .0 .sizes .few, c₁ .before .before .before .pre .1),
     )
 
 loop-less : tie.Need-loop-less Inv-loop μ-loop
@@ -80,7 +82,7 @@ loop-again c =
     )
 
 same-length : tie.Need-same-length Inv-loop μ-loop
-same-length c = c .before .loop .inv .1 ∙ sym (c .before .before .before .before .before .before .before .before .before .pre .0 .marks-all)
+same-length c = c .before .loop .inv .1 ∙ sym (c .before .before .before .before .before .before .before .before .before .pre .0 .sizes .marks-all)
 
 returns : tie.Need-returns Inv-loop μ-loop
 returns c =

@@ -22,18 +22,18 @@ returns-2 c =
 mul-finish : tie.Need-mul-finish
 mul-finish c =
     let c₁ = c .before .before .before .before .before .before .before .before .before .before in
-    omega (arith, c₁ .before .before .before .before .pre .0 .number, c₁ .before .before .before .before .pre .0 .few)
+    omega (arith, c₁ .before .before .before .before .pre .0 .number, c₁ .before .before .before .before .pre .0 .sizes .few)
 
 shared-slice-read-finish : tie.Need-shared-slice-read-finish
 shared-slice-read-finish c =
     let c₁ = c .before .before .before .before .before .before .before .before .before .before in
-    omega (arith, c₁ .before .before .before .before .before .pre .0 .number, c₁ .before .before .before .before .before .pre .0 .over)
+    omega (arith, c₁ .before .before .before .before .before .pre .0 .number, c₁ .before .before .before .before .before .pre .0 .sizes .over)
 
 finish-requires : tie.Need-finish-requires
 finish-requires c κs =
     let c₁ = c .before .before .before .before .before .before .before .before .before .before in
     let P = c₁ .before .before .before .before .before .before .pre .0 in
-    (sym (P .alike) ∙ P .over, omega (arith, P .alike, P .begin), omega (arith, P .alike, P .few), P .marks-all)
+    (sym (P .sizes .alike) ∙ P .sizes .over, omega (arith, P .sizes .alike, P .sizes .begin), omega (arith, P .sizes .alike, P .sizes .few), P .sizes .marks-all)
 
 same-length : tie.Need-same-length
 same-length c = c .before .before .finish .kept .1 .1 .1 .1 .0
@@ -45,7 +45,7 @@ returns-3 c =
     near-last (a .gens .now) (a .h .now) (a .d .now) (a .j) (a .start) (a .k) (a .missing) (a .t) (a .gone .now) (a .marks .now)
     (c₁ .before .before .before .before .before .before .before .before .before .pre .1) (a .mine .now)
     (c .before .before .finish .last .1 .1 .1 .1 .0) (c .before .before .before .before .before .before .before .if2 .taken)
-    (c₁ .before .before .before .before .before .before .before .before .before .pre .0 .alike) (c .before .before .finish .ensures)
+    (c₁ .before .before .before .before .before .before .before .before .before .pre .0 .sizes .alike) (c .before .before .finish .ensures)
 
 pairs-requires : tie.Need-pairs-requires
 pairs-requires c κs =
@@ -77,17 +77,17 @@ returns-4 c =
 mul-child : tie.Need-mul-child
 mul-child c =
     let c₁ = c .before .before .before .before .before .before .before .before .before .before in
-    omega (arith, c₁ .before .before .before .pre .0 .number, c₁ .before .before .before .pre .0 .few)
+    omega (arith, c₁ .before .before .before .pre .0 .number, c₁ .before .before .before .pre .0 .sizes .few)
 
 shared-slice-read-child : tie.Need-shared-slice-read-child
 shared-slice-read-child c =
     let c₁ = c .before .before .before .before .before .before .before .before .before .before in
-    omega (arith, c₁ .before .before .before .before .pre .0 .number, c₁ .before .before .before .before .pre .0 .over)
+    omega (arith, c₁ .before .before .before .before .pre .0 .number, c₁ .before .before .before .before .pre .0 .sizes .over)
 
 child-requires : tie.Need-child-requires
 child-requires c κs =
     let c₁ = c .before .before .before .before .before .before .before .before .before .before in (
-      omega (arith, c₁ .before .before .before .before .before .pre .0 .over, c₁ .before .before .before .before .before .pre .0 .few),
+      omega (arith, c₁ .before .before .before .before .before .pre .0 .sizes .over, c₁ .before .before .before .before .before .pre .0 .sizes .few),
       c₁ .before .before .before .before .before .pre .0 .mine-all,
     )
 

@@ -23,10 +23,10 @@ join-requires c κs =
     let P = c₁ .before .before .pre .0 in
     record {
       table = P .table;
-      few = omega (arith, P .over, P .few);
+      few = omega (arith, P .sizes .over, P .sizes .few);
       begin = omega
-          (arith, P .over, P .begin);
-      gone-all = P .gone-all;
+          (arith, P .sizes .over, P .sizes .begin);
+      gone-all = P .sizes .gone-all;
       all = P .weights-all;
       picks-all = P .picks-all;
     }
@@ -54,8 +54,8 @@ child-requires c κs =
     let c₁ = c .before .before .before .before .before .before .before .before .before .before in (
       omega (
         arith,
-        c₁ .before .before .before .before .before .before .before .pre .0 .over,
-        c₁ .before .before .before .before .before .before .before .pre .0 .few,
+        c₁ .before .before .before .before .before .before .before .pre .0 .sizes .over,
+        c₁ .before .before .before .before .before .before .before .pre .0 .sizes .few,
       ),
       c₁ .before .before .before .before .before .before .before .pre .0 .mine-all,
     )
@@ -64,14 +64,14 @@ slice-reshare-prefix-close : tie.Need-slice-reshare-prefix-close
 slice-reshare-prefix-close c =
     let c₁ = c .before .before .before .before .before .before .before .before .before .before in
     let c₂ = c₁ .before .before .before .before .before .before .before .before .before .before in
-    omega (arith, c₂ .pre .0 .few, c₂ .pre .0 .mine-all, c .before .before .child .ensures .whole)
+    omega (arith, c₂ .pre .0 .sizes .few, c₂ .pre .0 .mine-all, c .before .before .child .ensures .whole)
 
 slice-aggregate-close : tie.Need-slice-aggregate-close
 slice-aggregate-close c =
     let c₁ = c .before .before .before .before .before .before .before .before .before .before in
     let c₂ = c₁ .before .before .before .before .before .before .before .before .before .before in
     sym (length-take-le (length (c₂ .before .args .gens .now)) (c .before .before .before .child .last .1 .1 .0) (omega
-    (arith, c₂ .before .pre .0 .few, c .before .before .before .child .ensures .whole)))
+    (arith, c₂ .before .pre .0 .sizes .few, c .before .before .before .child .ensures .whole)))
 
 close-requires : tie.Need-close-requires
 close-requires c κs =
@@ -81,7 +81,7 @@ close-requires c κs =
     let m = c .before .before .before .before .before .child .last .1 .1 .0 in (
       pairs-at (a .gens .now) (a .h .now) (a .d .now) (a .j) (a .start) (a .k) (a .b) (a .gone .now) (a .slots .now) (a .w .now) (a .picks .now)
           (a .mine .now) (a .marks .now) (c₂ .before .before .before .pre .0) (c₂ .before .before .before .pre .1)
-          (take (length (a .gens .now)) m) (mapped-child (a .gens .now) (a .d .now) m _ (c₂ .before .before .before .pre .0 .over)
+          (take (length (a .gens .now)) m) (mapped-child (a .gens .now) (a .d .now) m _ (c₂ .before .before .before .pre .0 .sizes .over)
           (c .before .before .before .before .before .child .ensures)),
       c₁ .join .kept .1 .1 .1 .1 .1 .1 .1 .0 ∙ c₂ .before .before .before .pre .0 .picks-all,
     )
@@ -108,7 +108,7 @@ returns-2 c =
     (a .mine .now) (a .marks .now) (c₂ .before .before .before .before .before .before .pre .0)
     (c₂ .before .before .before .before .before .before .pre .1)
     p (c .before .before .close .last .1 .1 .1 .1 .1 .1 .1 .1 .0) (take (length (a .gens .now)) m) (mapped-child (a .gens .now) (a .d .now) m _
-    (c₂ .before .before .before .before .before .before .pre .0 .over)
+    (c₂ .before .before .before .before .before .before .pre .0 .sizes .over)
     (c .before .before .before .before .before .before .before .before .child .ensures))
     (pairs-picked (a .gens .now) (a .h .now) (a .d .now) (a .j) (a .start) (a .k) (a .b) (a .gone .now) (a .slots .now) (a .w .now) (a .picks .now)
     (a .mine .now) (a .marks .now) (c₂ .before .before .before .before .before .before .pre .0)

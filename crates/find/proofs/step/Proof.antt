@@ -15,12 +15,12 @@ shared-slice-read-x c = omega arith
 take-requires : tie.Need-take-requires
 take-requires c κs = (
   c .before .before .before .before .before .before .pre .0 .held .valid,
-  c .before .before .before .before .before .before .pre .0 .over,
+  c .before .before .before .before .before .before .pre .0 .sizes .over,
   omega (
     arith,
-    c .before .before .before .before .before .before .pre .0 .over,
-    c .before .before .before .before .before .before .pre .0 .few,
-    c .before .before .before .before .before .before .pre .0 .gone-all,
+    c .before .before .before .before .before .before .pre .0 .sizes .over,
+    c .before .before .before .before .before .before .pre .0 .sizes .few,
+    c .before .before .before .before .before .before .pre .0 .sizes .gone-all,
   ),
 )
 
@@ -33,12 +33,12 @@ returns c =
 finish-requires : tie.Need-finish-requires
 finish-requires c κs =
     let c₁ = c .before .before .before .before .before .before .before .before .before .before in (
-      sym (c₁ .before .before .pre .0 .alike) ∙ c₁ .before .before .pre .0 .over,
+      sym (c₁ .before .before .pre .0 .sizes .alike) ∙ c₁ .before .before .pre .0 .sizes .over,
       omega
-          (arith, c₁ .before .before .pre .0 .alike, c₁ .before .before .pre .0 .begin),
+          (arith, c₁ .before .before .pre .0 .sizes .alike, c₁ .before .before .pre .0 .sizes .begin),
       omega
-          (arith, c₁ .before .before .pre .0 .alike, c₁ .before .before .pre .0 .few),
-      c₁ .before .before .pre .0 .marks-all,
+          (arith, c₁ .before .before .pre .0 .sizes .alike, c₁ .before .before .pre .0 .sizes .few),
+      c₁ .before .before .pre .0 .sizes .marks-all,
     )
 
 same-length : tie.Need-same-length
@@ -49,7 +49,7 @@ returns-2 c =
     let c₁ = c .before .before .before .before .before .before .before .before .before .before in
     let a = c₁ .before .before .before .before .before .args in
     by-finished (a .gens .now) (a .h .now) (a .d .now) (a .start) (a .k) (a .gone .now) (a .i)
-    (c₁ .before .before .before .before .before .pre .0 .alike) (a .marks .now) (c .before .before .finish .last .1 .1 .1 .1 .0)
+    (c₁ .before .before .before .before .before .pre .0 .sizes .alike) (a .marks .now) (c .before .before .finish .last .1 .1 .1 .1 .0)
     (c .before .before .finish .ensures)
 
 returns-3 : tie.Need-returns-3

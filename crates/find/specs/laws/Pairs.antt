@@ -40,27 +40,29 @@ module _ (gens h d : List ℕ) (j start k : ℕ) (b : Basis) (gone slots w picks
   pairs-at e q =
       subst (λ (l : List ℕ). At gens h l start b gone marks) (sym q)
       (record {
-        alike = P .alike;
-        over = P .over ∙ sym (length-map d (clear word x));
-        few = P .few;
-        begin = P .begin;
+        sizes = record {
+          alike = P .sizes .alike;
+          over = P .sizes .over ∙ sym (length-map d (clear word x));
+          few = P .sizes .few;
+          begin = P .sizes .begin;
+          gone-all = P .sizes .gone-all;
+          marks-all = P .sizes .marks-all;
+        };
         held = H;
-        gone-all = P .gone-all;
-        marks-all = P .marks-all;
       })
 
   pub pairs-picked : (left : ℕ) → left ≡ k - b .len → (picks : List ℕ) → Joined d start x left gone w (weightOf slots d w) picks
       → PickedBy gens d start k 1 gone j picks
   unfolding dim
   pairs-picked left le picks J =
-      joined-picked gens d start k gone w (weightOf slots d w) (P .over) (P .weighed) j (P .value) left
+      joined-picked gens d start k gone w (weightOf slots d w) (P .sizes .over) (P .weighed) j (P .value) left
       (le ∙ ap (λ (n : ℕ). k - n) (holds-length (basisOf word (withResidue 0 gens E)) b H)) picks J
 
   pub pairs-none : (picks : List ℕ) → PickedBy gens d start k 1 gone j picks → ((i : ℕ) → start ≤ i → i < length d → getD picks i 0 ≡ 0)
       → FoundBy gens h d start k 1 gone j marks marks
   pairs-none picks Q none =
       record {
-        met = λ ne. closed-met gens h d start k 1 gone j picks marks ne Q (λ i a l p. absurd (p (none i a (omega (arith, P .over)))));
+        met = λ ne. closed-met gens h d start k 1 gone j picks marks ne Q (λ i a l p. absurd (p (none i a (omega (arith, P .sizes .over)))));
         grown = record { stays = λ i n. n };
         fair = λ F. F;
       }

@@ -138,8 +138,8 @@ module _ (gens h d : List ℕ) (start k m : ℕ) (s : Basis) (dead rows marks₀
     (top : ℕ) (T : Filled gens d start dead slots w top) where
   pub sweep-picked : (low : ℕ) → Light k m (s .len) low → Picked gens d start k m dead low w
   sweep-picked low B =
-      weighed-picked gens d start k m dead low w (weightOf slots d w) (A .over) (A .some) (T .weighed) (subst (λ (n : ℕ). Light k m n low) (based-dim
-      (withResidue 0 gens d) s (A .held)) B)
+      weighed-picked gens d start k m dead low w (weightOf slots d w) (A .at .sizes .over) (A .some) (T .weighed) (subst (λ (n : ℕ). Light k m n low) (based-dim
+      (withResidue 0 gens d) s (A .at .held)) B)
 
   module _ (r j : ℕ) (gone marks : List ℕ) (S : Sweeping gens h d start k m dead w marks₀ r j gone marks) (l : j < length gens) (low : ℕ) (p : low < r) where
     pub sweep-value : getD d j 0 ≢ 0
@@ -149,37 +149,43 @@ module _ (gens h d : List ℕ) (start k m : ℕ) (s : Basis) (dead rows marks₀
         → Pairing gens h d j start gone slots w picks mine marks
     sweep-pairing picks mine a b c e =
         record {
-          alike = A .alike;
-          over = A .over;
-          few = A .few;
-          begin = A .begin;
+          sizes = record {
+            alike = A .at .sizes .alike;
+            over = A .at .sizes .over;
+            few = A .at .sizes .few;
+            begin = A .at .sizes .begin;
+            gone-all = S .all;
+            marks-all = e;
+          };
           number = l;
           value = sweep-value;
           table = T .slots;
           weighed = weighed-more gens d start dead gone w (weightOf slots d w) (S .dead-gone) (T .weighed);
-          gone-all = S .all;
           weights-all = a;
           picks-all = b;
           mine-all = c;
-          marks-all = e;
         }
 
     pub sweep-child : 2 < m → (mine : List ℕ) → Mapped (clear word (getD d j 0)) d mine → (b : Basis)
         → Holds (basisOf word (withResidue 0 gens (map (clear word (getD d j 0)) d))) b
         → (rows′ marks′ : List ℕ) → length rows′ ≡ 32768 → length marks′ ≡ 4096 → Finding gens h (take (length gens) mine) start (m - 1) b gone rows′ marks′
     sweep-child deep mine M b H rows′ marks′ c e =
-        subst (λ (x : List ℕ). Finding gens h x start (m - 1) b gone rows′ marks′) (sym (mapped-child gens d mine (getD d j 0) (A .over) M))
+        subst (λ (x : List ℕ). Finding gens h x start (m - 1) b gone rows′ marks′) (sym (mapped-child gens d mine (getD d j 0) (A .at .sizes .over) M))
         (record {
-          alike = A .alike;
-          over = A .over ∙ sym (length-map d (clear word (getD d j 0)));
-          few = A .few;
-          begin = A .begin;
+          at = record {
+            sizes = record {
+              alike = A .at .sizes .alike;
+              over = A .at .sizes .over ∙ sym (length-map d (clear word (getD d j 0)));
+              few = A .at .sizes .few;
+              begin = A .at .sizes .begin;
+              gone-all = S .all;
+              marks-all = e;
+            };
+            held = H;
+          };
           some = λ z. omega arith;
           most = omega (arith, A .most);
-          held = H;
-          dead-all = S .all;
           rows-all = c;
-          marks-all = e;
         })
 
     pub sweep-found : (mine : List ℕ) → Mapped (clear word (getD d j 0)) d mine → (marks′ : List ℕ)
@@ -187,4 +193,4 @@ module _ (gens h d : List ℕ) (start k m : ℕ) (s : Basis) (dead rows marks₀
         → FoundBy gens h d start k (m - 1) gone j marks marks′
     sweep-found mine M marks′ F =
         by-child gens h d start k (m - 1) gone j marks marks′
-        (subst (λ (x : List ℕ). Found gens h x start k (m - 1) gone marks marks′) (mapped-child gens d mine (getD d j 0) (A .over) M) F)
+        (subst (λ (x : List ℕ). Found gens h x start k (m - 1) gone marks marks′) (mapped-child gens d mine (getD d j 0) (A .at .sizes .over) M) F)

@@ -19,7 +19,9 @@ slice-aggregate-flag-before : tie.Need-slice-aggregate-flag-before
 slice-aggregate-flag-before c = refl
 
 flag-before-requires : tie.Need-flag-before-requires
-flag-before-requires c κs = (c .before .before .before .before .before .pre .begin, c .before .before .before .before .before .pre .few, refl)
+flag-before-requires c κs =
+    let S = c .before .before .before .before .before .pre in
+    (omega (arith, S .alike, S .begin), omega (arith, S .alike, S .few), refl)
 
 empty-requires : tie.Need-empty-requires
 empty-requires c κs = tt
@@ -32,17 +34,21 @@ find-requires c κs =
     let S = c .before .before .before .before .before .before .before .before .before .before .before .pre in
     let a = c .before .before .before .before .before .before .before .before .before .before .before .args in
     record {
-      alike = S .alike;
-      over = S .alike;
-      few = as-few (S .alike) (S .few);
-      begin = as-many (S .alike) (S .begin);
+      at = record {
+        sizes = record {
+          alike = S .alike;
+          over = S .alike;
+          few = as-few (S .alike) (S .few);
+          begin = as-many (S .alike) (S .begin);
+          gone-all = c .before .before .before .before .before .flag-before .ensures .whole;
+          marks-all = zero-length 4096 (a .marks .now) (S .blank);
+        };
+        held = from-empty (withResidue 0 (a .gens .now) (a .h .now)) (c .before .before .before .empty .result)
+            (c .before .before .with-residue .result) (c .before .before .before .empty .ensures) (c .before .before .with-residue .ensures);
+      };
       some = S .some;
       most = S .most;
-      held = from-empty (withResidue 0 (a .gens .now) (a .h .now)) (c .before .before .before .empty .result)
-          (c .before .before .with-residue .result) (c .before .before .before .empty .ensures) (c .before .before .with-residue .ensures);
-      dead-all = c .before .before .before .before .before .flag-before .ensures .whole;
       rows-all = S .rows-all;
-      marks-all = zero-length 4096 (a .marks .now) (S .blank);
     }
 
 same-length : tie.Need-same-length
