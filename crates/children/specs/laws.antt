@@ -7,3 +7,4 @@ pub mod Weighed
 pub mod Handed
 pub mod Join
 pub mod Blank
+pub mod Numbers

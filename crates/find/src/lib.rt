@@ -35,7 +35,7 @@ fn first_new(h: &[u64], d: &[u64], x: u64, start: usize) -> usize
 }
 
 // Marks the number that the walk goes on with to the child of `d` by `x`, unless it is known.
-pub fn finish(h: &[u64], d: &[u64], x: u64, start: usize, marks: &mut [u8])
+fn finish(h: &[u64], d: &[u64], x: u64, start: usize, marks: &mut [u8])
     requires { ⌜ (length (now h) ≡ length (now d)) × (start ≤ length (now h)) × (length (now h) ≤ 4096) × (length (now marks) ≡ 4096) ⌝ }
     ensures { λ _. ⌜ Finished (now (h .entry)) (map (clear word x) (now (d .entry))) start (now (marks .entry)) (now (marks .exit)) ⌝ }
 {
@@ -51,7 +51,7 @@ pub fn finish(h: &[u64], d: &[u64], x: u64, start: usize, marks: &mut [u8])
 
 // The weight up to which all are too light where `missing` dimensions are missing and `n` of `k` dimensions are there: 0, or below its part of what
 // is needed.
-pub fn light(k: usize, n: usize, missing: usize) -> usize
+fn light(k: usize, n: usize, missing: usize) -> usize
     requires { ⌜ (missing ≤ 8) × (missing ≢ 0) ⌝ }
     ensures { λ r. ⌜ Light k missing n r ⌝ }
 {

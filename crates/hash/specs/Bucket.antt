@@ -1,5 +1,5 @@
--- The bucket of a residue.
---   bucketOf v == the bucket of the residue v, a number below 16,384; nothing else about it matters
+-- The place of a value in a table.
+--   bucketOf v == where the value v is looked for first, a number below 16,384; nothing else about it matters
 -- Assumes nothing.
 use Prim.Native.Nat.{ℕ, _+_, _*_, _/_, _%_}
 

@@ -1,2 +1,2 @@
--- The bucket of a residue.
+-- The place of a value in a table.
 pub mod Bucket

@@ -1,9 +1,9 @@
-// Residues are put into buckets, any number of residues into one.
+// Where a table of values looks for a value first: any number of values may have one place.
 ghost use mathlib.Core.Path.{_≡_};
 ghost use Prim.Native.Nat.{_<_};
 ghost use Rattle.hash.specs.Bucket.{bucketOf};
 
-// The bucket of a residue.
+// The place of a value.
 pub fn bucket(v: u64) -> usize
     ensures { λ r. ⌜ (r ≡ bucketOf v) × (r < 16384) ⌝ }
 {

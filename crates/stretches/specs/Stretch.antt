@@ -1,4 +1,4 @@
--- The rows that bound the rank of a bucket: a stretch of eight for each number.
+-- The rows that bound the rank of a value: a stretch of eight for each number.
 --   stretch m f rows == the first m of the eight rows that stand for the number f
 --   Growing, Grown   == what `grow` asks, and gives: d is in the span of S and the stretch, what was in it still is, and no other stretch has changed; or the rank is
 --                       above all that a stretch holds

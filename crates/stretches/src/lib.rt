@@ -1,4 +1,4 @@
-// Rows that bound the rank of a bucket: a stretch of eight for each number.
+// Rows that bound the rank of a value: a stretch of eight for each number.
 ghost use Rattle.stretches.specs.Stretch.{Grown, Growing};
 
 // Makes room for `d` in the span of the rows `s` and of the first `m` rows of the stretch of the number `f`: by one row more, where it is not

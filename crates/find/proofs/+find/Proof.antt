@@ -1,20 +1,15 @@
--- `find::find` meets its contract, by recursion on the number of missing dimensions: the heavier numbers are gone. Assumes nothing.
-use mathlib.Core.Path.{_≡_, refl, sym, ap, _∙_, subst}
-use mathlib.Core.Logic.{_≢_, ⊎-elim}
+-- `find::find` meets its contract, by recursion on the number of missing dimensions: the heavier numbers are gone. Up to the loop: Before. Assumes nothing.
+mod Before
+use mathlib.Core.Path.{_≡_, sym, ap, _∙_, subst}
+use mathlib.Core.Logic.{⊎-elim}
 use mathlib.Core.List.{List}
-use Prim.Native.Nat.{ℕ, _+_, _-_, _*_, _<_, _≤_}
-use native.Mathlib.Omega.{arith}
-use native.Mathlib.Nat.{le-refl}
-use mir.Syntax.{w64}
-use mir.Val.{Fits}
-use lib.ListN.{length, take, replicate, length-replicate}
+use Prim.Native.Nat.{ℕ, _+_, _-_}
+use lib.ListN.{length, take}
 use lib.Seq.{length-take-le}
-use Rattle.bases.specs.Basis.{rows-length}
+use Rattle.children.specs.laws.Numbers.{as-few, inside, within, some, falls-one, next-le, one-fits, eight-fits}
 use Rattle.children.specs.Found.{Found, FoundBy}
 use Rattle.find.specs.laws.Near.{ready-of}
-use Rattle.find.specs.laws.Sweep.{Sweeping, sweep-start, sweep-lower, sweep-more, sweep-light, sweep-end, sweep-picked, sweep-value, sweep-pairing, sweep-child, sweep-found}
-use borrow.Fn.Kinds.{In}
-use borrow.Fn.PlainCycle.{Measures, is, falls, and}
+use Rattle.find.specs.laws.Sweep.{sweep-more, sweep-end, sweep-picked, sweep-value, sweep-pairing, sweep-child, sweep-found}
 use Rattle.find.proofs.find.Reads as find
 use Rattle.find.proofs.find.Kinds as find-kinds
 use Rattle.find.proofs.+find.Lts-find as find-lts
@@ -25,222 +20,7 @@ use Rattle.residues.proofs.take.Reads as take-reads
 use Rattle.weights.proofs.fill.Reads as fill-reads
 use Rattle.find.proofs.+find.{statement}
 use Rattle.find.proofs.+find.Tie.{close}
-
-abbrev μ-find : Measures 5 find-kinds.ps ℕ
-μ-find κs a = a .1 .1 .1 .1 .1 .0
-
-abbrev find-at : ℕ → In 5 find-kinds.ps
-find-at t = and 5 find-kinds.ps (is 5 find-kinds.ps μ-find t) find.Pre
-
-abbrev find-below : ℕ → In 5 find-kinds.ps
-find-below t = and 5 find-kinds.ps (falls 5 find-kinds.ps _<_ μ-find t) find.Pre
-
--- what the calls ask and promise; the search's own call is for fewer missing dimensions
-abbrev claims : ℕ → find-lts.Claims
-claims t = (
-  fill-reads.Asked,
-  fill-reads.Learnt,
-  light-reads.Asked,
-  light-reads.Learnt,
-  next-with-reads.Asked,
-  next-with-reads.Learnt,
-  take-reads.Asked,
-  take-reads.Learnt,
-  near-reads.Asked,
-  near-reads.Learnt,
-  find-below t,
-  find.Post,
-)
-
-abbrev find-Inv-loop : find-lts.InvT-loop
-find-Inv-loop gens h d start k missing s rows₀ marks₀ n slots w len top low gone₀ picks₀ mine₀ r₀ j₀ rows marks gone picks mine r j =
-    Sweeping gens h d start k missing gone₀ w marks₀ r j gone marks × (length rows ≡ 32768) × (length marks ≡ 4096) × (length picks ≡ 4096) ×
-    (length mine ≡ 4096) × (r ≤ 200)
-
-abbrev find-μ-loop : find-lts.MeasureT-loop
-find-μ-loop gens h d start k missing s rows₀ marks₀ n slots w len top low gone₀ picks₀ mine₀ r₀ j₀ rows marks gone picks mine r j = r * 4097 +
-    (length gens - j)
-
--- facts on numbers
-as-few : {a b n : ℕ} → a ≡ b → a ≤ n → b ≤ n
-as-few e l = omega arith
-
-as-many : {a b n : ℕ} → a ≡ b → n ≤ a → n ≤ b
-as-many e l = omega arith
-
-inside : {a b j : ℕ} → a ≡ b → j < a → j < b
-inside e l = omega arith
-
-ends : {a b : ℕ} → a ≡ b → b ≤ a
-ends e = omega arith
-
-before-end : {a b : ℕ} → a ≤ b → a ≢ b → a < b
-before-end l n = omega arith
-
-within : {n a : ℕ} → n ≤ 4096 → a ≡ 4096 → n ≤ a
-within l e = omega arith
-
-some : {m : ℕ} → m ≢ 0 → 1 ≤ m
-some n = omega arith
-
-positive : {a r : ℕ} → a < r → 1 ≤ r
-positive l = omega arith
-
-falls-one : {m t : ℕ} → m ≡ t → m ≢ 0 → m - 1 < t
-falls-one e n = omega arith
-
-one-fits : {j n : ℕ} → j < n → n ≤ 4096 → Fits w64 (j + 1)
-one-fits l k = record { fits = omega arith }
-
-eight-fits : {j n : ℕ} → j < n → n ≤ 4096 → Fits w64 (j * 8)
-eight-fits l k = record { fits = omega arith }
-
-next-le : {j n : ℕ} → j < n → j + 1 ≤ n
-next-le l = omega arith
-
-lighter : (j i : ℕ) {a r n : ℕ} → a < r → n ≤ 4096 → (r - 1) * 4097 + (n - i) < r * 4097 + (n - j)
-lighter j i p l = omega arith
-
-fewer : (r : ℕ) {j i n : ℕ} → j < n → j + 1 ≤ i → i ≤ n → r * 4097 + (n - i) < r * 4097 + (n - j)
-fewer r a b c = omega arith
-
-less : {a b c : ℕ} → a ≤ b → b ≤ c → a - 1 ≤ c
-less p q = omega arith
-
-as-lt : {j n : ℕ} → j < n → n ≤ 4096 → j < 4096
-as-lt l k = omega arith
-
-room : {a b : ℕ} → a ≤ 64 → b ≡ 64 → a ≤ b
-room p q = omega arith
-
-all-zero : length (replicate {A = ℕ} 4096 0) ≡ 4096
-all-zero = length-replicate {A = ℕ} 4096 0
-
-find-slice-aggregate-fill : (t : ℕ) → find-lts.Need-slice-aggregate-fill (claims t) (find-at t) find.Post find-Inv-loop find-μ-loop
-find-slice-aggregate-fill t c = sym (c .before .before .before .before .before .before .before .pre .1 .at .sizes .gone-all)
-
-find-array-share-prefix-basis : (t : ℕ) → find-lts.Need-array-share-prefix-basis (claims t) (find-at t) find.Post find-Inv-loop find-μ-loop
-find-array-share-prefix-basis t c = room (c .before .before .before .before .before .before .before .pre .1 .at .held .valid .room)
-    (c .before .before .before .before .before .before .before .pre .1 .at .held .valid .whole)
-
-find-slice-aggregate-fill-2 : (t : ℕ) → find-lts.Need-slice-aggregate-fill-2 (claims t) (find-at t) find.Post find-Inv-loop find-μ-loop
-find-slice-aggregate-fill-2 t c = sym (rows-length (c .before .before .before .before .before .before .before .before .args .s)
-    (c .before .before .before .before .before .before .before .before .pre .1 .at .held .valid))
-
-find-slice-aggregate-fill-3 : (t : ℕ) → find-lts.Need-slice-aggregate-fill-3 (claims t) (find-at t) find.Post find-Inv-loop find-μ-loop
-find-slice-aggregate-fill-3 t c = refl
-
-find-slice-aggregate-fill-4 : (t : ℕ) → find-lts.Need-slice-aggregate-fill-4 (claims t) (find-at t) find.Post find-Inv-loop find-μ-loop
-find-slice-aggregate-fill-4 t c = refl
-
-find-fill-requires : (t : ℕ) → find-lts.Need-fill-requires (claims t) (find-at t) find.Post find-Inv-loop find-μ-loop
-find-fill-requires t c κs =
-    let P = c .before .before .before .before .before .before .before .before .before .before .before .pre .1 in
-    record {
-      alike = P .at .sizes .over;
-      few = as-few (P .at .sizes .over) (P .at .sizes .few);
-      begin = as-many (P .at .sizes .over)
-          (P .at .sizes .begin);
-      dead-all = P .at .sizes .gone-all;
-      basis = P .at .held .is;
-      blank = refl;
-      rows-all = P .rows-all;
-      none = refl;
-    }
-
-find-light-requires : (t : ℕ) → find-lts.Need-light-requires (claims t) (find-at t) find.Post find-Inv-loop find-μ-loop
-find-light-requires t c κs =
-    let c₁ = c .before .before .before .before .before .before .before .before .before .before in
-    (c₁ .before .before .before .before .before .before .pre .1 .most, c₁ .before .before .before .before .before .before .pre .1 .some)
-
-find-same-length : (t : ℕ) → find-lts.Need-same-length (claims t) (find-at t) find.Post find-Inv-loop find-μ-loop
-find-same-length t c = c .before .before .before .before .before .before .fill .kept .1 .1 .1 .1 .1 .1 .0
-
-find-returns : (t : ℕ) → find-lts.Need-returns (claims t) (find-at t) find.Post find-Inv-loop find-μ-loop
-find-returns t c =
-    let c₁ = c .before .before .before .before .before .before .before .before .before .before in
-    let a = c₁ .before .before .before .before .before .before .before .before .args in
-    sweep-light (a .gens .now) (a .h .now) (a .d .now) (a .start) (a .k) (a .missing) (a .t8)
-    (c .before .before .before .before .before .before .fill .last .1 .1 .1 .1 .1 .1 .1 .0) (a .marks .now)
-    (c .before .before .before .before .before .before .fill .result) (c .before .light .result) (c .if1 .taken)
-    (c .before .before .before .before .before .before .fill .ensures .most) (sweep-picked (a .gens .now) (a .h .now) (a .d .now) (a .start) (a .k)
-    (a .missing) (a .s) (a .t8) (a .rows .now) (a .marks .now) (c₁ .before .before .before .before .before .before .before .before .pre .1)
-    (c .before .before .before .before .before .before .fill .last .1 .1 .1 .1 .1 .0)
-    (c .before .before .before .before .before .before .fill .last .1 .1 .1 .1 .1 .1 .1 .0)
-    (c .before .before .before .before .before .before .fill .result) (c .before .before .before .before .before .before .fill .ensures)
-    (c .before .light .result) (c .before .light .ensures))
-
-find-slice-aggregate-next-with : (t : ℕ) → find-lts.Need-slice-aggregate-next-with (claims t) (find-at t) find.Post find-Inv-loop find-μ-loop
-find-slice-aggregate-next-with t c = sym (c .before .before .before .before .before .before .before .fill .kept .1 .1 .1 .1 .1 .1 .1 .0)
-
-find-next-with-requires : (t : ℕ) → find-lts.Need-next-with-requires (claims t) (find-at t) find.Post find-Inv-loop find-μ-loop
-find-next-with-requires t c κs =
-    let c₁ = c .before .before .before .before .before .before .before .before .before .before in (
-      c₁ .before .before .before .before .before .before .before .before .before .pre .1 .at .sizes .begin,
-      within
-          (c₁ .before .before .before .before .before .before .before .before .before .pre .1 .at .sizes .few)
-          (c .before .before .before .before .before .before .before .fill .kept .1 .1 .1 .1 .1 .1 .1 .0),
-    )
-
-find-loop-holds : (t : ℕ) → find-lts.Need-loop-holds (claims t) (find-at t) find.Post find-Inv-loop find-μ-loop
-find-loop-holds t c =
-    let c₁ = c .before .before .before .before .before .before .before .before .before .before in
-    let c₂ = c₁ .before .before .before .before .before .before .before .before .before .before in
-    let a = c₂ .args in (
-      sweep-start (a .gens .now) (a .h .now) (a .d .now) (a .start) (a .k) (a .missing) (a .t8)
-          (c .before .before .before .before .before .before .before .before .fill .last .1 .1 .1 .1 .1 .1 .1 .0) (a .marks .now)
-          (c .before .before .before .before .before .before .before .before .fill .result) (c .next-with .result) (c₂ .pre .1 .at .sizes .gone-all)
-          (c .before .before .before .before .before .before .before .before .fill .ensures .most)
-          (c .next-with .ensures),
-      c .before .before .before .before .before .before .before .before .fill .kept .1 .1 .1 .1 .1 .1 .0 ∙
-          c₂ .pre .1 .rows-all,
-      c₂ .pre .1 .at .sizes .marks-all,
-      all-zero,
-      all-zero,
-      c .before .before .before .before .before .before .before .before .fill .ensures
-          .low,
-    )
-
-find-sub-r : (t : ℕ) → find-lts.Need-sub-r (claims t) (find-at t) find.Post find-Inv-loop find-μ-loop
-find-sub-r t c = positive (c .before .loop-test .taken)
-
-find-slice-aggregate-next-with-2 : (t : ℕ) → find-lts.Need-slice-aggregate-next-with-2 (claims t) (find-at t) find.Post find-Inv-loop find-μ-loop
-find-slice-aggregate-next-with-2 t c =
-    let c₁ = c .before .before .before .before .before .before .before .before .before .before in
-    sym (c₁ .before .before .fill .kept .1 .1 .1 .1 .1 .1 .1 .0)
-
-find-next-with-requires-2 : (t : ℕ) → find-lts.Need-next-with-requires-2 (claims t) (find-at t) find.Post find-Inv-loop find-μ-loop
-find-next-with-requires-2 t c κs =
-    let c₁ = c .before .before .before .before .before .before .before .before .before .before in
-    let c₂ = c₁ .before .before .before .before .before .before .before .before .before .before in (
-      c₂ .before .before .before .before .pre .1 .at .sizes .begin,
-      within (c₂ .before .before .before .before .pre .1 .at .sizes .few)
-          (c₁ .before .before .fill .kept .1 .1 .1 .1 .1 .1 .1 .0),
-    )
-
-find-loop-less : (t : ℕ) → find-lts.Need-loop-less (claims t) (find-at t) find.Post find-Inv-loop find-μ-loop
-find-loop-less t c =
-    let c₁ = c .before .before .before .before .before .before .before .before .before .before in
-    let c₂ = c₁ .before .before .before .before .before .before .before .before .before .before in
-    lighter (c .before .before .before .before .loop .j) (c .next-with2 .result) (c .before .before .before .loop-test .taken)
-    (c₂ .before .before .before .before .before .pre .1 .at .sizes .few)
-
-find-loop-again : (t : ℕ) → find-lts.Need-loop-again (claims t) (find-at t) find.Post find-Inv-loop find-μ-loop
-find-loop-again t c =
-    let c₁ = c .before .before .before .before .before .before .before .before .before .before in
-    let c₂ = c₁ .before .before .before .before .before .before .before .before .before .before in
-    let a = c₂ .before .before .before .before .before .args in
-    let l = c .before .before .before .before .loop in (
-      sweep-lower (a .gens .now) (a .h .now) (a .d .now) (a .start) (a .k) (a .missing) (a .t8)
-          (c₁ .before .before .before .fill .last .1 .1 .1 .1 .1 .1 .1 .0) (a .marks .now) (l .r) (l .j) (l .gone) (l .marks) (l .inv .0) (ends
-          (c .before .before .if2 .taken)) (positive (c .before .before .before .loop-test .taken)) (c .next-with2 .result)
-          (c .next-with2 .ensures),
-      l .inv .1,
-      l .inv .2,
-      l .inv .3,
-      l .inv .4,
-      less {a = l .r} {b = l .r} (le-refl _) (l .inv .5),
-    )
+use Rattle.find.proofs.+find.Proof.Before.{as-lt, before-end, claims, fewer, find-Inv-loop, find-array-share-prefix-basis, find-at, find-fill-requires, find-light-requires, find-loop-again, find-loop-holds, find-loop-less, find-next-with-requires, find-next-with-requires-2, find-returns, find-same-length, find-slice-aggregate-fill, find-slice-aggregate-fill-2, find-slice-aggregate-fill-3, find-slice-aggregate-fill-4, find-slice-aggregate-next-with, find-slice-aggregate-next-with-2, find-sub-r, find-μ-loop, μ-find}
 
 find-mul-take : (t : ℕ) → find-lts.Need-mul-take (claims t) (find-at t) find.Post find-Inv-loop find-μ-loop
 find-mul-take t c =
@@ -254,7 +34,7 @@ find-shared-slice-read-take t c =
     let c₁ = c .before .before .before .before .before .before .before .before .before .before in
     let c₂ = c₁ .before .before .before .before .before .before .before .before .before .before in
     let l = c .before .before .before .loop in
-    inside (c₂ .before .before .before .before .pre .1 .at .sizes .over) (before-end (l .inv .0 .to) (c .before .if2 .left))
+    inside (sym (c₂ .before .before .before .before .pre .1 .at .sizes .over)) (before-end (l .inv .0 .to) (c .before .if2 .left))
 
 find-slice-aggregate-take : (t : ℕ) → find-lts.Need-slice-aggregate-take (claims t) (find-at t) find.Post find-Inv-loop find-μ-loop
 find-slice-aggregate-take t c = sym (c .before .before .before .before .loop .inv .0 .all)
@@ -265,8 +45,7 @@ find-take-requires t c κs =
     let c₂ = c₁ .before .before .before .before .before .before .before .before .before .before in (
       c₂ .before .before .before .before .before .pre .1 .at .held .valid,
       c₂ .before .before .before .before .before .pre .1 .at .sizes .over,
-      within (as-few
-          (c₂ .before .before .before .before .before .pre .1 .at .sizes .over) (c₂ .before .before .before .before .before .pre .1 .at .sizes .few))
+      within (as-few (sym (c₂ .before .before .before .before .before .pre .1 .at .sizes .over)) (c₂ .before .before .before .before .before .pre .1 .at .sizes .few))
           (c .before .before .before .before .loop .inv .0 .all),
     )
 

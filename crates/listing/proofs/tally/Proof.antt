@@ -31,13 +31,18 @@ array-share-prefix-h : tie.Need-array-share-prefix-h
 array-share-prefix-h c = within (c .before .before .before .before .before .pre .small) (c .before .residues .ensures .whole)
 
 slice-aggregate-walk : tie.Need-slice-aggregate-walk
-slice-aggregate-walk c = sym (length-take-le (length (c .before .before .before .before .before .before .args .gens .now)) (c .before .before .residues .last .1 .1 .0) (within (c .before .before .before .before .before .before .pre .small) (c .before .before .residues .ensures .whole)))
+slice-aggregate-walk c = sym (length-take-le (length (c .before .before .before .before .before .before .args .gens .now)) (c .before .before .residues .last .1 .1 .0) (within
+    (c .before .before .before .before .before .before .pre .small) (c .before .before .residues .ensures .whole)))
 
 slice-aggregate-walk-2 : tie.Need-slice-aggregate-walk-2
 slice-aggregate-walk-2 c = sym rows-all
 
 walk-requires : tie.Need-walk-requires
-walk-requires c κs = let a = c .before .before .before .before .before .before .before .before .args in (root-node (a .gens .now) (a .k) (a .limit) (a .out .now) (a .b) (c .before .before .before .before .residues .last .1 .1 .0) (c .before .before .before .before .before .before .before .before .pre) (c .before .before .before .before .residues .ensures), rows-all)
+walk-requires c κs = let a = c .before .before .before .before .before .before .before .before .args in (
+  root-node (a .gens .now) (a .k) (a .limit) (a .out .now) (a .b) (c .before .before .before .before .residues .last .1 .1 .0)
+      (c .before .before .before .before .before .before .before .before .pre) (c .before .before .before .before .residues .ensures),
+  rows-all,
+)
 
 same-length : tie.Need-same-length
 same-length c = c .before .before .before .walk .kept .1 .1 .1 .1 .1 .1 .1 .1 .1 .1 .0

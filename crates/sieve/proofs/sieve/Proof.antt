@@ -1,19 +1,13 @@
 -- `sieve::sieve` meets its contract: what is found over the node is what the walk goes on with. Assumes nothing.
-use mathlib.Core.Path.{_≡_, refl, _∙_}
-use Prim.Native.Nat.{ℕ, _≤_}
+use mathlib.Core.Path.{refl, _∙_}
 use native.Mathlib.Omega.{arith}
 use Rattle.children.specs.Residues.{withResidue}
 use Rattle.residues.specs.laws.Held.{from-empty}
+use Rattle.children.specs.laws.Numbers.{as-few, as-many}
 use Rattle.children.specs.laws.Blank.{zero-length}
 use Rattle.sieve.specs.laws.Marks.{sieved-of}
 use Rattle.sieve.proofs.sieve.Statement.{statement}
 use Rattle.sieve.proofs.sieve.Tie as tie
-
-as-few : {a b n : ℕ} → a ≡ b → b ≤ n → a ≤ n
-as-few e l = omega arith
-
-as-many : {a b n : ℕ} → a ≡ b → n ≤ b → n ≤ a
-as-many e l = omega arith
 
 slice-aggregate-flag-before : tie.Need-slice-aggregate-flag-before
 slice-aggregate-flag-before c = refl

@@ -4,14 +4,13 @@ use native.Mathlib.Omega.{arith}
 use mathlib.Core.Path.{_≡_, refl, sym, ap, _∙_}
 use mathlib.Core.Logic.{_≢_}
 use mathlib.Core.Bool.{false}
-use Prim.Native.Nat.{ℕ, _+_, _-_, _*_, _<_, _≤_}
-use mir.Syntax.{w64}
-use mir.Val.{Fits}
+use Prim.Native.Nat.{ℕ, _+_, _-_, _<_, _≤_}
 use lib.ListN.{length, getD, replicate, length-replicate}
 use lib.Seq.{length-take-le}
 use borrow.Fn.Kinds.{In}
 use borrow.Fn.PlainCycle.{Measures, is, falls, and}
 use Rattle.bases.specs.Basis.{rowsOf}
+use Rattle.children.specs.laws.Numbers.{as-few, as-many, inside, ends, within, some, falls-one, next-le, one-fits, eight-fits}
 use Rattle.children.specs.Residues.{known}
 use Rattle.children.specs.laws.Child.{residues-length}
 use Rattle.records.specs.Records.{run}
@@ -72,23 +71,8 @@ abbrev walk-μ-loop : walk-lts.MeasureT-loop
 walk-μ-loop gens h start missing k b c limit stretches₀ out₀ n marks j₀ mine₀ u₀ stretches out j mine u = length gens - j
 
 -- facts on numbers
-as-few : {a b n : ℕ} → a ≡ b → b ≤ n → a ≤ n
-as-few e l = omega arith
-
-as-many : {a b n : ℕ} → a ≡ b → n ≤ b → n ≤ a
-as-many e l = omega arith
-
-inside : {a b j : ℕ} → a ≡ b → j < b → j < a
-inside e l = omega arith
-
-ends : {a b : ℕ} → a ≡ b → b ≤ a
-ends e = omega arith
-
 le-refl : {a : ℕ} → a ≤ a
 le-refl = omega arith
-
-within : {n a : ℕ} → n ≤ 4096 → a ≡ 4096 → n ≤ a
-within l e = omega arith
 
 tidy-none : {c : Chain} {m : ℕ} → Tidy c m → Tidy c 0
 tidy-none T = record { whole = T .whole; room = omega (arith, T .room) }
@@ -98,21 +82,6 @@ tidy-one T n = record { whole = T .whole; room = omega (arith, T .room) }
 
 few-missing : {c : Chain} {m : ℕ} → Tidy c m → m ≤ 8
 few-missing T = omega (arith, T .room)
-
-some : {m : ℕ} → m ≢ 0 → 1 ≤ m
-some n = omega arith
-
-falls-one : {m t : ℕ} → m ≡ t → m ≢ 0 → m - 1 < t
-falls-one e n = omega arith
-
-one-fits : {j n : ℕ} → j < n → n ≤ 4096 → Fits w64 (j + 1)
-one-fits l k = record { fits = omega arith }
-
-eight-fits : {j n : ℕ} → j < n → n ≤ 4096 → Fits w64 (j * 8)
-eight-fits l k = record { fits = omega arith }
-
-next-le : {j n : ℕ} → j < n → j + 1 ≤ n
-next-le l = omega arith
 
 later : {a j : ℕ} → a ≤ j → a ≤ j + 1
 later l = omega arith
@@ -150,7 +119,8 @@ walk-returns t c =
     let m = a .gens .now in
     let h = a .h .now in
     (leaf-yes m (a .k) (rowsOf (a .b)) (chainOf (a .c)) h (length m - a .start) (a .start) (a .missing) (a .limit)
-    (stateOf (a .t) (a .out .now)) (c .before .before .before .before .before .spanned .result) (c .before .before .before .before .before .before .if1 .taken) (N .left) (c .before .before .before .before .before .spanned .ensures) (c .before .before .before .before .if2 .taken) _ (c .before .before .keep .ensures))
+    (stateOf (a .t) (a .out .now)) (c .before .before .before .before .before .spanned .result) (c .before .before .before .before .before .before .if1 .taken) (N .left) (c .before .before .before .before .before .spanned .ensures)
+    (c .before .before .before .before .if2 .taken) _ (c .before .before .keep .ensures))
 
 walk-returns-2 : (t : ℕ) → walk-lts.Need-returns-2 (claims t) (walk-at t) walk.Post walk-Inv-loop walk-μ-loop
 walk-returns-2 t c =
@@ -196,8 +166,12 @@ walk-returns-3 t c =
     let N = c .before .before .before .before .before .before .before .before .before .before .before .before .before .before .pre .1 .0 in
     let m = a .gens .now in
     let h = a .h .now in
-    let I = going-next m (a .k) (a .b) (a .c) (a .missing) (a .limit) (run (a .limit) (stateOf (a .t) (a .out .now)) (search m (a .k) (rowsOf (a .b)) (chainOf (a .c)) (length m - a .start) (a .start) (a .missing))) (length (a .out .now)) h (N .left) (N .valid) (N .tidy) (c .before .before .before .before .before .before .before .before .before .if1 .left) (a .t) (a .out .now) (replicate 4096 0) (a .start) (c .before .before .before .before .before .before .sieve .last .1 .1 .1 .1 .1 .1 .0) (c .before .before .before .before .before .before .sieve .ensures) (a .start) (c .before .next-marked .result) le-refl (c .before .next-marked .ensures) (record { within = N .begin; rest = refl; sane = N .sane; same = refl; whole = mine-all }) in
-    going-end m (a .k) (a .b) (a .c) (a .missing) (a .limit) (run (a .limit) (stateOf (a .t) (a .out .now)) (search m (a .k) (rowsOf (a .b)) (chainOf (a .c)) (length m - a .start) (a .start) (a .missing))) (length (a .out .now)) h (N .left) (N .valid) (N .tidy) (c .before .before .before .before .before .before .before .before .before .if1 .left) (c .before .next-marked .result) (a .t) (a .out .now) (replicate 4096 0) I (ends (c .if3 .taken))
+    let I = going-next m (a .k) (a .b) (a .c) (a .missing) (a .limit) (run (a .limit) (stateOf (a .t) (a .out .now)) (search m (a .k) (rowsOf (a .b)) (chainOf (a .c)) (length m - a .start) (a .start) (a .missing))) (length
+    (a .out .now)) h (N .left) (N .valid) (N .tidy) (c .before .before .before .before .before .before .before .before .before .if1 .left) (a .t) (a .out .now) (replicate 4096 0) (a .start)
+    (c .before .before .before .before .before .before .sieve .last .1 .1 .1 .1 .1 .1 .0) (c .before .before .before .before .before .before .sieve .ensures) (a .start) (c .before .next-marked .result) le-refl
+    (c .before .next-marked .ensures) (record { within = N .begin; rest = refl; sane = N .sane; same = refl; whole = mine-all }) in
+    going-end m (a .k) (a .b) (a .c) (a .missing) (a .limit) (run (a .limit) (stateOf (a .t) (a .out .now)) (search m (a .k) (rowsOf (a .b)) (chainOf (a .c)) (length m - a .start) (a .start) (a .missing))) (length (a .out .now)) h
+    (N .left) (N .valid) (N .tidy) (c .before .before .before .before .before .before .before .before .before .if1 .left) (c .before .next-marked .result) (a .t) (a .out .now) (replicate 4096 0) I (ends (c .if3 .taken))
 
 walk-loop-holds : (t : ℕ) → walk-lts.Need-loop-holds (claims t) (walk-at t) walk.Post walk-Inv-loop walk-μ-loop
 walk-loop-holds t c =
@@ -207,7 +181,9 @@ walk-loop-holds t c =
     let m = a .gens .now in
     let h = a .h .now in (
       c .before .next-marked .ensures .low,
-      going-next m (a .k) (a .b) (a .c) (a .missing) (a .limit) (run (a .limit) (stateOf (a .t) (a .out .now)) (search m (a .k) (rowsOf (a .b)) (chainOf (a .c)) (length m - a .start) (a .start) (a .missing))) (length (a .out .now)) h (N .left) (N .valid) (N .tidy) (c .before .before .before .before .before .before .before .before .before .if1 .left) (a .t) (a .out .now) (replicate 4096 0) (a .start) (S .last .1 .1 .1 .1 .1 .1 .0) (S .ensures) (a .start) (c .before .next-marked .result) le-refl (c .before .next-marked .ensures) (record { within = N .begin; rest = refl; sane = N .sane; same = refl; whole = mine-all }),
+      going-next m (a .k) (a .b) (a .c) (a .missing) (a .limit) (run (a .limit) (stateOf (a .t) (a .out .now)) (search m (a .k) (rowsOf (a .b)) (chainOf (a .c)) (length m - a .start) (a .start) (a .missing))) (length (a .out .now)) h
+          (N .left) (N .valid) (N .tidy) (c .before .before .before .before .before .before .before .before .before .if1 .left) (a .t) (a .out .now) (replicate 4096 0) (a .start) (S .last .1 .1 .1 .1 .1 .1 .0) (S .ensures) (a .start)
+          (c .before .next-marked .result) le-refl (c .before .next-marked .ensures) (record { within = N .begin; rest = refl; sane = N .sane; same = refl; whole = mine-all }),
       S .kept .1 .1 .1 .1 .1 .0 ∙ c .before .before .before .before .before .before .before .before .before .before .before .before .before .before .pre .1 .1,
       c .before .next-marked .ensures .marked,
     )
@@ -251,13 +227,19 @@ walk-child-requires t c κs =
     (as-few eh (N .small), c .before .before .before .before .before .loop .inv .1 .whole)
 
 walk-array-share-prefix-mine : (t : ℕ) → walk-lts.Need-array-share-prefix-mine (claims t) (walk-at t) walk.Post walk-Inv-loop walk-μ-loop
-walk-array-share-prefix-mine t c = within (c .before .before .before .before .before .before .before .before .before .before .before .before .before .before .before .before .before .before .before .before .before .before .pre .1 .0 .small) (c .before .child .ensures .whole)
+walk-array-share-prefix-mine t c = within
+    (c .before .before .before .before .before .before .before .before .before .before .before .before .before .before .before .before .before .before .before .before .before .before .pre .1 .0 .small) (c .before .child .ensures .whole)
 
 walk-slice-aggregate-walk : (t : ℕ) → walk-lts.Need-slice-aggregate-walk (claims t) (walk-at t) walk.Post walk-Inv-loop walk-μ-loop
-walk-slice-aggregate-walk t c = sym (length-take-le (length (c .before .before .before .before .before .before .before .before .before .before .before .before .before .before .before .before .before .before .before .before .before .before .before .args .gens .now)) (c .before .before .child .last .1 .1 .0) (within (c .before .before .before .before .before .before .before .before .before .before .before .before .before .before .before .before .before .before .before .before .before .before .before .pre .1 .0 .small) (c .before .before .child .ensures .whole)))
+walk-slice-aggregate-walk t c = sym (length-take-le (length
+    (c .before .before .before .before .before .before .before .before .before .before .before .before .before .before .before .before .before .before .before .before .before .before .before .args .gens .now))
+    (c .before .before .child .last .1 .1 .0) (within
+    (c .before .before .before .before .before .before .before .before .before .before .before .before .before .before .before .before .before .before .before .before .before .before .before .pre .1 .0 .small)
+    (c .before .before .child .ensures .whole)))
 
 walk-add-walk : (t : ℕ) → walk-lts.Need-add-walk (claims t) (walk-at t) walk.Post walk-Inv-loop walk-μ-loop
-walk-add-walk t c = one-fits (c .before .before .before .before .before .before .before .loop-test .taken) (c .before .before .before .before .before .before .before .before .before .before .before .before .before .before .before .before .before .before .before .before .before .before .before .pre .1 .0 .small)
+walk-add-walk t c = one-fits (c .before .before .before .before .before .before .before .loop-test .taken)
+    (c .before .before .before .before .before .before .before .before .before .before .before .before .before .before .before .before .before .before .before .before .before .before .before .pre .1 .0 .small)
 
 walk-sub-walk : (t : ℕ) → walk-lts.Need-sub-walk (claims t) (walk-at t) walk.Post walk-Inv-loop walk-μ-loop
 walk-sub-walk t c = some (c .before .before .before .before .before .before .before .before .before .before .before .before .before .before .before .before .before .before .if1 .left)
@@ -280,23 +262,32 @@ walk-walk-requires t c κs =
     let l = c .before .before .before .before .before .before .before .before .before .before .before .before .loop in
     let ne = c .before .before .before .before .before .before .before .before .before .before .before .before .before .before .before .before .before .before .before .before .before .before .if1 .left in
     let g : l .j < length m = c .before .before .before .before .before .before .before .before .before .before .before .loop-test .taken in
-    let e : false ≡ known h (l .j) = c .before .before .before .before .before .before .before .before .before .before .before .before .before .before .before .before .before .before .before .sieve .ensures .judged (l .j) (l .inv .0) g .on (l .inv .3 g) in
+    let e : false ≡ known h (l .j) = c .before .before .before .before .before .before .before .before .before .before .before .before .before .before .before .before .before .before .before .sieve .ensures .judged (l .j)
+    (l .inv .0) g .on (l .inv .3 g) in
     let d : a .missing ≡ t = c .before .before .before .before .before .before .before .before .before .before .before .before .before .before .before .before .before .before .before .before .before .before .before .before .before .before .before .pre .0 in (
       falls-one d ne,
-      (node-down m (a .k) (a .b) (a .c) (a .missing) (a .limit) _ _ h (N .left) (N .valid) (N .tidy) ne (l .j) (l .u) (l .out) (l .mine) (l .inv .1) g e (N .small) (c .before .before .before .insert .result) (c .before .before .before .insert .ensures) (c .before .before .push .result) (c .before .before .push .ensures) (c .before .before .before .before .before .before .child .last .1 .1 .0) (c .before .before .before .before .before .before .child .ensures), l .inv .2),
+      (
+        node-down m (a .k) (a .b) (a .c) (a .missing) (a .limit) _ _ h (N .left) (N .valid) (N .tidy) ne (l .j) (l .u) (l .out) (l .mine) (l .inv .1) g e (N .small) (c .before .before .before .insert .result)
+            (c .before .before .before .insert .ensures) (c .before .before .push .result) (c .before .before .push .ensures) (c .before .before .before .before .before .before .child .last .1 .1 .0)
+            (c .before .before .before .before .before .before .child .ensures),
+        l .inv .2,
+      ),
     )
 
 walk-slice-aggregate-next-marked-2 : (t : ℕ) → walk-lts.Need-slice-aggregate-next-marked-2 (claims t) (walk-at t) walk.Post walk-Inv-loop walk-μ-loop
-walk-slice-aggregate-next-marked-2 t c = sym (c .before .before .before .before .before .before .before .before .before .before .before .before .before .before .before .before .before .before .before .before .before .before .before .before .before .sieve .ensures .whole)
+walk-slice-aggregate-next-marked-2 t c = sym
+    (c .before .before .before .before .before .before .before .before .before .before .before .before .before .before .before .before .before .before .before .before .before .before .before .before .before .sieve .ensures .whole)
 
 walk-add-next-marked : (t : ℕ) → walk-lts.Need-add-next-marked (claims t) (walk-at t) walk.Post walk-Inv-loop walk-μ-loop
-walk-add-next-marked t c = one-fits (c .before .before .before .before .before .before .before .before .before .before .before .before .before .before .before .before .before .loop-test .taken) (c .before .before .before .before .before .before .before .before .before .before .before .before .before .before .before .before .before .before .before .before .before .before .before .before .before .before .before .before .before .before .before .before .before .pre .1 .0 .small)
+walk-add-next-marked t c = one-fits (c .before .before .before .before .before .before .before .before .before .before .before .before .before .before .before .before .before .loop-test .taken)
+    (c .before .before .before .before .before .before .before .before .before .before .before .before .before .before .before .before .before .before .before .before .before .before .before .before .before .before .before .before .before .before .before .before .before .pre .1 .0 .small)
 
 walk-next-marked-requires-2 : (t : ℕ) → walk-lts.Need-next-marked-requires-2 (claims t) (walk-at t) walk.Post walk-Inv-loop walk-μ-loop
 walk-next-marked-requires-2 t c κs = let N = c .before .before .before .before .before .before .before .before .before .before .before .before .before .before .before .before .before .before .before .before .before .before .before .before .before .before .before .before .before .before .before .before .before .pre .1 .0 in (next-le (c .before .before .before .before .before .before .before .before .before .before .before .before .before .before .before .before .before .loop-test .taken), within (N .small) (c .before .before .before .before .before .before .before .before .before .before .before .before .before .before .before .before .before .before .before .before .before .before .before .before .before .sieve .ensures .whole))
 
 walk-loop-less : (t : ℕ) → walk-lts.Need-loop-less (claims t) (walk-at t) walk.Post walk-Inv-loop walk-μ-loop
-walk-loop-less t c = fewer (c .before .before .before .before .before .before .before .before .before .before .before .before .before .before .before .before .before .before .loop-test .taken) (c .next-marked2 .ensures .low) (c .next-marked2 .ensures .high)
+walk-loop-less t c = fewer (c .before .before .before .before .before .before .before .before .before .before .before .before .before .before .before .before .before .before .loop-test .taken) (c .next-marked2 .ensures .low)
+    (c .next-marked2 .ensures .high)
 
 walk-loop-again : (t : ℕ) → walk-lts.Need-loop-again (claims t) (walk-at t) walk.Post walk-Inv-loop walk-μ-loop
 walk-loop-again t c =
@@ -311,10 +302,15 @@ walk-loop-again t c =
     let ne = c .before .before .before .before .before .before .before .before .before .before .before .before .before .before .before .before .before .before .before .before .before .before .before .before .before .before .before .before .before .if1 .left in
     let g : l .j < length m = c .before .before .before .before .before .before .before .before .before .before .before .before .before .before .before .before .before .before .loop-test .taken in
     let e : false ≡ known h (l .j) = S .ensures .judged (l .j) (l .inv .0) g .on (l .inv .3 g) in
-    let I = going-down m (a .k) (a .b) (a .c) (a .missing) (a .limit) (run (a .limit) (stateOf (a .t) (a .out .now)) (search m (a .k) (rowsOf (a .b)) (chainOf (a .c)) (length m - a .start) (a .start) (a .missing))) (length (a .out .now)) h (N .left) (N .valid) (N .tidy) ne (l .j) (l .u) (l .out) (l .mine) (l .inv .1) g e (c .before .before .before .before .before .before .before .before .before .before .insert .result) (c .before .before .before .before .before .before .before .before .before .before .insert .ensures) (c .before .before .before .before .before .before .before .before .before .push .result) (c .before .before .before .before .before .before .before .before .before .push .ensures) (W .result) (W .last .1 .1 .1 .1 .1 .1 .1 .1 .1 .1 .0) (K .last .1 .1 .0)
+    let I = going-down m (a .k) (a .b) (a .c) (a .missing) (a .limit) (run (a .limit) (stateOf (a .t) (a .out .now)) (search m (a .k) (rowsOf (a .b)) (chainOf (a .c)) (length m - a .start) (a .start) (a .missing))) (length
+    (a .out .now)) h (N .left) (N .valid) (N .tidy) ne (l .j) (l .u) (l .out) (l .mine) (l .inv .1) g e (c .before .before .before .before .before .before .before .before .before .before .insert .result)
+    (c .before .before .before .before .before .before .before .before .before .before .insert .ensures) (c .before .before .before .before .before .before .before .before .before .push .result)
+    (c .before .before .before .before .before .before .before .before .before .push .ensures) (W .result) (W .last .1 .1 .1 .1 .1 .1 .1 .1 .1 .1 .0) (K .last .1 .1 .0)
     (K .ensures .whole) (W .ensures) in (
       after (l .inv .0) (c .next-marked2 .ensures .low),
-      going-next m (a .k) (a .b) (a .c) (a .missing) (a .limit) (run (a .limit) (stateOf (a .t) (a .out .now)) (search m (a .k) (rowsOf (a .b)) (chainOf (a .c)) (length m - a .start) (a .start) (a .missing))) (length (a .out .now)) h (N .left) (N .valid) (N .tidy) ne (W .result) (W .last .1 .1 .1 .1 .1 .1 .1 .1 .1 .1 .0) (K .last .1 .1 .0) (a .start) (S .last .1 .1 .1 .1 .1 .1 .0) (S .ensures) (l .j + 1) (c .next-marked2 .result) (later (l .inv .0)) (c .next-marked2 .ensures) I,
+      going-next m (a .k) (a .b) (a .c) (a .missing) (a .limit) (run (a .limit) (stateOf (a .t) (a .out .now)) (search m (a .k) (rowsOf (a .b)) (chainOf (a .c)) (length m - a .start) (a .start) (a .missing))) (length (a .out .now)) h
+          (N .left) (N .valid) (N .tidy) ne (W .result) (W .last .1 .1 .1 .1 .1 .1 .1 .1 .1 .1 .0) (K .last .1 .1 .0) (a .start) (S .last .1 .1 .1 .1 .1 .1 .0) (S .ensures) (l .j + 1) (c .next-marked2 .result) (later (l .inv .0))
+          (c .next-marked2 .ensures) I,
       W .kept .1 .1 .1 .1 .1 .1 .1 .1 .1 .0 ∙ l .inv .2,
       c .next-marked2 .ensures .marked,
     )
