@@ -18,8 +18,8 @@ use Rattle.linear.specs.laws.Insert.{insert-old, insert-reduced, insert-length-
 use Rattle.bases.specs.Basis.{rowsOf, Valid, Holds, rows-length}
 use Rattle.linear.specs.laws.Word.{Below, at-most, insert-below, insert-place}
 use Rattle.bases.specs.declared.Basis.{Basis}
-use Rattle.placing.specs.Placing.{Placed}
-use Rattle.placing.specs.laws.Sifting.{sift-place}
+use Rattle.bases.specs.insertion.Placing.{Placed}
+use Rattle.bases.specs.insertion.laws.Sifting.{sift-place}
 
 pub holds-empty : Holds [] (record { rows = replicate 64 0; len = 0 })
 holds-empty =

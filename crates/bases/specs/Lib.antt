@@ -1,2 +1,5 @@
 -- Reduced bases in an array.
 pub mod Basis
+pub mod insertion
+pub mod spans
+pub mod rows

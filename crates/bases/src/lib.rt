@@ -6,6 +6,10 @@ ghost use Rattle.linear.specs.Entry.{inside};
 ghost use Rattle.linear.specs.Word.{word};
 ghost use Rattle.bases.specs.Basis.{rowsOf, Valid, Holds};
 
+pub mod insertion;
+pub mod rows;
+pub mod spans;
+
 // A reduced basis: its rows, leads falling, and their number. The words after the rows are 0.
 pub struct Basis {
     pub rows: [u64; 64],
@@ -52,7 +56,7 @@ impl Basis {
         if r == 0 {
             return self;
         }
-        placing::place(&mut rows, n, r);
+        insertion::place(&mut rows, n, r);
         Basis {
             rows: rows,
             len: n + 1,

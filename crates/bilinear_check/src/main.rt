@@ -6,6 +6,6 @@ fn main() {
     let mut input = [0u8; 65537];
     let n = io::read_full(STDIN_FILENO, &mut input);
     let mut out = [0u8; 256];
-    let m = check_program::check_program(&input[..n], &mut out);
+    let m = service::check_program::check_program(&input[..n], &mut out);
     io::write_all(STDOUT_FILENO, &out[..m]);
 }

@@ -12,7 +12,7 @@ fn run(name: &[u8]) {
     let n = io::read_full(fd, &mut input);
     libc::close(fd);
     let mut out = [0u8; 256];
-    let m = check_program::check_program(&input[..n], &mut out);
+    let m = service::check_program::check_program(&input[..n], &mut out);
     io::write_all(STDOUT_FILENO, name);
     io::write_all(STDOUT_FILENO, b"\n");
     io::write_all(STDOUT_FILENO, &out[..m]);

@@ -2,3 +2,4 @@
 pub mod Weight
 pub mod Clear
 pub mod Row
+pub mod products

@@ -5,6 +5,8 @@ ghost use Rattle.linear.specs.Bit.{bit, top};
 ghost use Rattle.linear.specs.Word.{word};
 ghost use Rattle.forms.specs.Weight.{weight};
 
+pub mod products;
+
 // Coordinate t of a form: 1 is true. A form has no coordinate from 64 on.
 pub fn coordinate(form: u64, t: usize) -> bool
     ensures { λ r. ⌜ r ≡ bit form t ⌝ }

@@ -6,7 +6,7 @@ use Rattle.linear.specs.Basis.{clear, reduce, norm, place, insert, inserts, bas
 use Rattle.linear.specs.Bit.{bit, digitsOf, top}
 use Rattle.linear.specs.Entry.{inside}
 use Rattle.linear.specs.Word.{word}
-use Rattle.products.specs.Product.{formOf, productForm}
+use Rattle.forms.specs.products.Product.{formOf, productForm}
 use Rattle.forms.specs.Weight.{weight}
 
 pub bit-40-3 : bit 40 3 ≡ true

@@ -7,8 +7,8 @@ fn main() {
     check::expect(forms::ones(7) == 3);
     check::expect(forms::lead(40) == 5);
     check::expect(forms::lead(0) == 0);
-    check::expect(products::product(2, 2, 3, 3) == 15);
-    check::expect(products::product(2, 3, 2, 5) == 40);
+    check::expect(forms::products::product(2, 2, 3, 3) == 15);
+    check::expect(forms::products::product(2, 3, 2, 5) == 40);
     check::expect(forms::clear(6, 5) == 3);
     check::expect(forms::clear(0, 5) == 5);
     bases();

@@ -9,9 +9,9 @@ use mathlib.Core.List.{List, [], _++_}
 use lib.ListN.{take, drop}
 use Rattle.kinds.specs.Kinds.{numberOf}
 use Rattle.kinds.specs.Refusal.{accepted, follow}
-use Rattle.pages.specs.Pages.{printed}
-use Rattle.formula_answers.specs.FormulaAnswers.{entryFormulae}
-use Rattle.formulae_start.specs.Listed.{Listed, listedInput, firstPart}
+use Rattle.printing.specs.refusals.Pages.{printed}
+use Rattle.formulae_text.specs.FormulaAnswers.{entryFormulae}
+use Rattle.formulae_program.specs.first_part.Listed.{Listed, listedInput, firstPart}
 
 -- the record of an entry: k − ℓ numbers, then k rows
 abbrev pub rowsAt : Listed → ℕ → List ℕ

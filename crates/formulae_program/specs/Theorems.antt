@@ -13,21 +13,21 @@ use Rattle.kinds.specs.Kinds.{numberOf}
 use Rattle.kinds.specs.Refusal.{Answer, refused, accepted, follow}
 use Rattle.kinds.specs.RefusalLaws.{accepted-inj, refuse-inv, follow-inv}
 use Rattle.problems.specs.Problem.{Problem, posed}
-use Rattle.problem_judging.specs.Judged.{ProblemFile}
+use Rattle.problem_files.specs.judging.Judged.{ProblemFile}
 use Rattle.problem_files.specs.ProblemFile.{problemFile}
-use Rattle.problem_judging.specs.declared.Purpose.the-variants as purpose
-use Rattle.search.specs.Catalogue.{Catalogued, catalogue}
-use Rattle.spaces.specs.Spaces.{Formulae, formulaeOf}
-use Rattle.spaces.specs.Theorems.{formulae-means}
-use Rattle.formula_lines.specs.FormulaLines.{formulaeText}
-use Rattle.formula_answers.specs.FormulaAnswers.{formulaeAnswer, entryFormulae}
-use Rattle.inputs.specs.Inputs.{inputOf}
-use Rattle.answered.specs.laws.Answered.{file-posed, catalogue-accepted}
-use Rattle.pages.specs.Pages.{listingRoom, printed}
-use Rattle.plans.specs.declared.Plan.{Plan}
-use Rattle.entry_pages.specs.EntryPages.{planText, planTexts}
-use Rattle.formulae_start.specs.Listed.{Listed, listed, listedInput, firstPart}
-use Rattle.formulae_start.specs.Starts.{Follows, Printing, Starts}
+use Rattle.problem_files.specs.declared.judging.Purpose.the-variants as purpose
+use Rattle.catalogue.specs.Catalogue.{Catalogued, catalogue}
+use Rattle.space_formulae.specs.spaces.Spaces.{Formulae, formulaeOf}
+use Rattle.space_formulae.specs.spaces.Theorems.{formulae-means}
+use Rattle.formulae_text.specs.lines.FormulaLines.{formulaeText}
+use Rattle.formulae_text.specs.FormulaAnswers.{formulaeAnswer, entryFormulae}
+use Rattle.problem_files.specs.inputs.Inputs.{inputOf}
+use Rattle.programs.specs.meaning.laws.Answered.{file-posed, catalogue-accepted}
+use Rattle.printing.specs.refusals.Pages.{listingRoom, printed}
+use Rattle.formulae_program.specs.declared.plan.Plan.{Plan}
+use Rattle.formulae_program.specs.entry_parts.EntryPages.{planText, planTexts}
+use Rattle.formulae_program.specs.first_part.Listed.{Listed, listed, listedInput, firstPart}
+use Rattle.formulae_program.specs.first_part.Starts.{Follows, Printing, Starts}
 use Rattle.formulae_program.specs.FormulaeProgram.{rowsAt, entryPart, entriesPart, formulaeProgram}
 use Rattle.formulae_program.specs.laws.Shown.{entry-accepted}
 

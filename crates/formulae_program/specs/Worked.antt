@@ -12,31 +12,31 @@ use Rattle.linear.specs.Entry.{sameVec, sameBasis, inside, generator, chosen, g
 use Rattle.kinds.specs.Kinds.{kindNumbered}
 use Rattle.kinds.specs.Sizes.{within, listSizes}
 use Rattle.words.specs.Masks.{wide, zeroIn}
-use Rattle.lists.specs.Lists.{repeats}
+use Rattle.words.specs.lists.Lists.{repeats}
 use Rattle.problems.specs.Problem.{listed, posed}
-use Rattle.listing.specs.Listing.{records, flat, fitting}
-use Rattle.rows.specs.Rows.{rowOf}
-use Rattle.choice.specs.Choice.{formulaRecord}
-use Rattle.search.specs.Catalogue.{listing, catalogue}
+use Rattle.catalogue.specs.listing.Listing.{records, flat, fitting}
+use Rattle.bases.specs.rows.Rows.{rowOf}
+use Rattle.first_formula.specs.Choice.{formulaRecord}
+use Rattle.catalogue.specs.Catalogue.{listing, catalogue}
 use Rattle.text.specs.Line.{cut, field, nameLine}
 use Rattle.text.specs.Numeral.{digits, numeral}
-use Rattle.heads.specs.Head.{countFields, headLine, headLines}
-use Rattle.lines.specs.Formula.{ended}
-use Rattle.print.specs.Print.{printed}
-use Rattle.pieces.specs.Fields.{sizesText}
-use Rattle.inner.specs.Inner.{spacedText, innerText}
-use Rattle.record_lines.specs.RecordLines.{listsText, entryText, recordLines}
-use Rattle.catalogue_reports.specs.CatalogueReports.{countsText}
-use Rattle.problem_lines.specs.ProblemLines.{listLines}
-use Rattle.problem_judging.specs.Judged.{settled, judged}
+use Rattle.text.specs.heads.Head.{countFields, headLine, headLines}
+use Rattle.formula_files.specs.lines.Formula.{ended}
+use Rattle.printing.specs.Print.{printed}
+use Rattle.printing.specs.fields.Fields.{sizesText}
+use Rattle.printing.specs.field_lists.Inner.{spacedText, innerText}
+use Rattle.printing.specs.record_lines.RecordLines.{listsText, entryText, recordLines}
+use Rattle.catalogue_text.specs.report.CatalogueReports.{countsText}
+use Rattle.problem_files.specs.handed_forms.ProblemLines.{listLines}
+use Rattle.problem_files.specs.judging.Judged.{settled, judged}
 use Rattle.problem_files.specs.ProblemFile.{formsOf, problemFile}
-use Rattle.spaces.specs.Spaces as spaces
-use Rattle.spaces.specs.Spaces.{isEntry, formulaeOf}
-use Rattle.roles.specs.Roles.{roleLine, roleLines, listBody}
-use Rattle.inputs.specs.Inputs.{inputOf}
-use Rattle.formula_lines.specs.FormulaLines.{formulaText, formulaeText}
-use Rattle.formula_answers.specs.FormulaAnswers.{entryFormulae}
-use Rattle.formulae_start.specs.Listed.{listedInput, headText}
+use Rattle.space_formulae.specs.spaces.Spaces as spaces
+use Rattle.space_formulae.specs.spaces.Spaces.{isEntry, formulaeOf}
+use Rattle.problem_files.specs.list_lines.Roles.{roleLine, roleLines, listBody}
+use Rattle.problem_files.specs.inputs.Inputs.{inputOf}
+use Rattle.formulae_text.specs.lines.FormulaLines.{formulaText, formulaeText}
+use Rattle.formulae_text.specs.FormulaAnswers.{entryFormulae}
+use Rattle.formulae_program.specs.first_part.Listed.{listedInput, headText}
 use Rattle.formulae_program.specs.FormulaeProgram.{entriesPart, formulaeProgram}
 
 pub worked-formulae : formulaeProgram ((107 ∷ 105 ∷ 110 ∷ 100 ∷ 44 ∷ 112 ∷ 44 ∷ 113 ∷ 44 ∷ 114 ∷ 44 ∷ 107 ∷ 10 ∷ []) ++ (108 ∷ 105 ∷ 115 ∷ 116 ∷ 44 ∷ 50 ∷ 44 ∷ 51 ∷ 44 ∷ 49 ∷ 44 ∷ 50 ∷ 10 ∷ []) ++ (114 ∷ 111 ∷ 108 ∷ 101 ∷ 44 ∷ 102 ∷ 111 ∷ 114 ∷ 109 ∷ 10 ∷ []) ++ (103 ∷ 44 ∷ 49 ∷ 10 ∷ []) ++ (103 ∷ 44 ∷ 50 ∷ 10 ∷ []) ++ (103 ∷ 44 ∷ 51 ∷ 10 ∷ []) ++ (116 ∷ 44 ∷ 51 ∷ 10 ∷ []))

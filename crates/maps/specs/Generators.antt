@@ -26,7 +26,7 @@ use lib.Arith.{digits-lt, digits-div, digits-mod}
 use lib.Dec.{leb}
 use lib.ListN.{length, getD}
 use Rattle.kinds.specs.Sizes.{given}
-use Rattle.products.specs.Product.{productForm, product-below}
+use Rattle.forms.specs.products.Product.{productForm, product-below}
 use Rattle.maps.specs.declared.Count.{Count}
 use Rattle.maps.specs.declared.Count.the-variants as count
 

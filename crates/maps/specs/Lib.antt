@@ -6,3 +6,4 @@ pub mod Squares
 pub mod Accepted
 pub mod Generators
 pub mod laws
+pub mod form_lists

@@ -19,7 +19,7 @@ use Rattle.linear.specs.laws.Bit.{xorB}
 use Rattle.kinds.specs.declared.Kind.{Kind}
 use Rattle.kinds.specs.declared.Kind.the-variants as kind
 use Rattle.kinds.specs.Sizes.{sizes}
-use Rattle.products.specs.Product.{productForm}
+use Rattle.forms.specs.products.Product.{productForm}
 use Rattle.maps.specs.Textbook.{sumTo, output}
 use Rattle.maps.specs.Target.{value, targetForm}
 use Rattle.maps.specs.Generators.{generatorCount, firstMask, secondMask, numbered, generatorForm, generatorForms, Masks}

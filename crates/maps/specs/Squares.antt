@@ -16,7 +16,7 @@ use lib.Dec.{eqb}
 use lib.ListN.{getD}
 use borrow.Author.Tests.{eqb-true}
 use Rattle.kinds.specs.declared.Kind.the-variants as kind
-use Rattle.products.specs.Product.{formOf}
+use Rattle.forms.specs.products.Product.{formOf}
 use Rattle.maps.specs.Target.{pair, targetForm}
 
 abbrev pub squares : List ℕ

@@ -9,7 +9,7 @@ use lib.Dec.{eqb}
 use Rattle.linear.specs.Bit.{bit}
 use Rattle.kinds.specs.declared.Kind.{Kind}
 use Rattle.kinds.specs.declared.Kind.the-variants as kind
-use Rattle.products.specs.Product.{formOf}
+use Rattle.forms.specs.products.Product.{formOf}
 use Rattle.maps.specs.Textbook.{sumTo}
 
 unfoldable pub value : (n m f : ℕ) → (a b : ℕ → Bool) → Bool

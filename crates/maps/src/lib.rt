@@ -5,6 +5,7 @@ ghost use Rattle.maps.specs.Accepted.{Accepted, Terms};
 ghost use Rattle.maps.specs.Generators.{generatorForm, numbered, countOf, seenCount, Numbered, SmallMasks};
 use kinds::Kind;
 
+pub mod form_lists;
 pub mod squares;
 
 // Whether a_i b_j is a term of output t.
@@ -91,7 +92,7 @@ pub fn generator_form(n: u64, m: u64, j: u64) -> u64
     ensures { λ x. ⌜ x ≡ generatorForm n m j ⌝ }
 {
     let base = (1u64 << m) - 1;
-    products::product(n as usize, m as usize, j / base + 1, j % base + 1)
+    forms::products::product(n as usize, m as usize, j / base + 1, j % base + 1)
 }
 
 // The number of the generator with the masks a and b: each a comes with 2^m - 1 masks b.

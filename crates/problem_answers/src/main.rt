@@ -1,9 +1,9 @@
 // Runs the functions of the Catalogue, Rank and Formulae programs on each file that an argument names, and prints the file's name and the three replies.
 ghost use mathlib.Core.Path.{_≡_};
 ghost use lib.ListN.{length};
-ghost use Rattle.plans.specs.Plans.{Ready};
+ghost use Rattle.formulae_program.specs.plan.Plans.{Ready};
+use formulae_program::plan::Plan;
 use libc::STDOUT_FILENO;
-use plans::Plan;
 
 // What the Catalogue program prints.
 fn run_catalogue(input: &[u8]) {
@@ -25,7 +25,7 @@ fn run_entries(plan: Plan, gs: &[u64], ts: &[u64], listing: &[u64], page: &mut [
 {
     let mut i = 0;
     while i < plan.shown {
-        let m = entry_pages::entry_page(plan, i, gs, ts, listing, page);
+        let m = formulae_program::entry_parts::entry_page(plan, i, gs, ts, listing, page);
         io::write_all(STDOUT_FILENO, &page[..m]);
         i += 1;
     }
@@ -38,7 +38,7 @@ fn run_formulae(input: &[u8], page: &mut [u8])
     let mut gs = [0u64; 4096];
     let mut ts = [0u64; 4096];
     let mut listing = [0u64; 4096];
-    let plan = formulae_start::start(input, &mut gs, &mut ts, &mut listing, page);
+    let plan = formulae_program::first_part::start(input, &mut gs, &mut ts, &mut listing, page);
     let m = plan.head;
     io::write_all(STDOUT_FILENO, &page[..m]);
     run_entries(plan, &gs, &ts, &listing, page);

@@ -9,10 +9,10 @@ use mathlib.Core.List.{List}
 use lib.ListN.{take}
 use Rattle.kinds.specs.Refusal.{Answer, refused, accepted}
 use Rattle.words.specs.Buffers.{filled, zeros}
-use Rattle.problem_lines.specs.ProblemLines.{handed}
-use Rattle.problem_judging.specs.Judged.{ProblemFile, problemOf}
-use Rattle.problem_judging.specs.declared.ProblemRead.{ProblemRead}
-use Rattle.problem_judging.specs.declared.ProblemRead.the-variants as read
+use Rattle.problem_files.specs.handed_forms.ProblemLines.{handed}
+use Rattle.problem_files.specs.judging.Judged.{ProblemFile, problemOf}
+use Rattle.problem_files.specs.declared.judging.ProblemRead.{ProblemRead}
+use Rattle.problem_files.specs.declared.judging.ProblemRead.the-variants as read
 
 abbrev pub seenRead : List ℕ → List ℕ → ProblemRead → Answer ProblemFile
 seenRead g t (read.Refused e) = refused e

@@ -2,3 +2,7 @@
 pub mod ProblemFile
 pub mod Lent
 pub mod laws
+pub mod list_lines
+pub mod handed_forms
+pub mod judging
+pub mod inputs

@@ -9,10 +9,10 @@ use mathlib.Core.List.{List}
 use Rattle.kinds.specs.declared.Kind.{Kind}
 use Rattle.kinds.specs.Sizes.{sizes}
 use Rattle.kinds.specs.Refusal.{Answer, need, follow}
-use Rattle.heads.specs.Head.{headLines}
-use Rattle.problem_lines.specs.ProblemLines.{bodyOf}
-use Rattle.problem_judging.specs.Judged.{ProblemFile, judged}
-use Rattle.problem_judging.specs.declared.Purpose.{Purpose}
+use Rattle.text.specs.heads.Head.{headLines}
+use Rattle.problem_files.specs.handed_forms.ProblemLines.{bodyOf}
+use Rattle.problem_files.specs.judging.Judged.{ProblemFile, judged}
+use Rattle.problem_files.specs.declared.judging.Purpose.{Purpose}
 
 unfoldable pub formsOf : Purpose → Kind → (p q r k n m u v : ℕ) → List ℕ → Answer ProblemFile
 formsOf a kd p q r k n m u v s = follow (bodyOf kd q r n m s) λ f. judged a kd p q r k u v (f .0) (f .1)

@@ -2,15 +2,20 @@
 ghost use mathlib.Core.Path.{_≡_};
 ghost use Prim.Native.Nat.{_≤_};
 ghost use lib.ListN.{length};
-ghost use Rattle.problem_lines.specs.ProblemLines.{Ready};
+ghost use Rattle.problem_files.specs.handed_forms.ProblemLines.{Ready};
 ghost use Rattle.problem_files.specs.ProblemFile.{formsOf, problemFile};
 ghost use Rattle.problem_files.specs.Lent.{seenRead, reply, generatorsOf, targetsOf};
-use heads::HeadRead;
+use judging::ProblemRead;
+use judging::Purpose;
 use kinds::Kind;
 use kinds::Known;
 use kinds::Sized;
-use problem_judging::ProblemRead;
-use problem_judging::Purpose;
+use text::heads::HeadRead;
+
+pub mod handed_forms;
+pub mod inputs;
+pub mod judging;
+pub mod list_lines;
 
 // The lines under the first two: refusals 4 to 9, or the problem and the forms handed in from the start of g and t.
 fn read_forms(
@@ -31,13 +36,13 @@ fn read_forms(
     requires { ⌜ Ready kind r (now g) (now t) ⌝ }
     ensures { λ x. ⌜ formsOf purpose kind p q r k n m u v (now (s .entry)) ≡ seenRead (now (g .exit)) (now (t .exit)) x ⌝ }
 {
-    let e = problem_lines::read_lines(kind, q, r, n, m, s, g, t);
+    let e = handed_forms::read_lines(kind, q, r, n, m, s, g, t);
     if e != 0 {
         return ProblemRead::Refused(e);
     }
-    let c = problem_lines::handed(kind, q) as usize;
-    let d = problem_lines::handed(kind, r) as usize;
-    problem_judging::judge(purpose, kind, p, q, r, k, u, v, &g[..c], &t[..d])
+    let c = handed_forms::handed(kind, q) as usize;
+    let d = handed_forms::handed(kind, r) as usize;
+    judging::judge(purpose, kind, p, q, r, k, u, v, &g[..c], &t[..d])
 }
 
 // The whole file: refusals 1 to 9, or the problem and the forms handed in from the start of g and t.
@@ -52,7 +57,7 @@ fn read_parts(
     requires { ⌜ (4095 ≤ length (now g)) × (64 ≤ length (now t)) ⌝ }
     ensures { λ x. ⌜ problemFile purpose (now (file .entry)) u v ≡ seenRead (now (g .exit)) (now (t .exit)) x ⌝ }
 {
-    let HeadRead::Is(known, p, q, r, k, at) = heads::head_lines(file) else {
+    let HeadRead::Is(known, p, q, r, k, at) = text::heads::head_lines(file) else {
         return ProblemRead::Refused(1);
     };
     let Known::Is(kind) = known else {
@@ -80,8 +85,8 @@ pub fn read_problem(file: &[u8], purpose: Purpose, gs: &mut [u64], ts: &mut [u64
             ProblemRead::Refused(e)
         }
         ProblemRead::Problem(kind, p, q, r, k) => {
-            let c = problem_lines::handed(kind, q) as usize;
-            let d = problem_lines::handed(kind, r) as usize;
+            let c = handed_forms::handed(kind, q) as usize;
+            let d = handed_forms::handed(kind, r) as usize;
             words::copy(&g[..c], gs, 0);
             words::copy(&t[..d], ts, 0);
             ProblemRead::Problem(kind, p, q, r, k)

@@ -3,3 +3,4 @@ pub mod Problem
 pub mod Replies
 pub mod Theorems
 pub mod laws
+pub mod targets

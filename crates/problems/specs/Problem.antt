@@ -17,7 +17,7 @@ use Rattle.kinds.specs.Refusal.{Answer, accepted, need, refuse}
 use Rattle.kinds.specs.declared.Kind.{Kind}
 use Rattle.kinds.specs.declared.Kind.the-variants as kind
 use Rattle.words.specs.Masks.{wide, zeroIn}
-use Rattle.lists.specs.Lists.{repeats, unlike}
+use Rattle.words.specs.lists.Lists.{repeats, unlike}
 use Rattle.maps.specs.Target.{targetForm}
 use Rattle.maps.specs.Generators.{listOf, generatorForms, countOf}
 

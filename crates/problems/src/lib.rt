@@ -2,13 +2,15 @@
 ghost use mathlib.Core.Path.{_≡_};
 ghost use Prim.Native.Nat.{_≤_};
 ghost use lib.ListN.{length};
-ghost use Rattle.fills.specs.Fills.{Mapping};
+ghost use Rattle.maps.specs.form_lists.Fills.{Mapping};
 ghost use Rattle.problems.specs.Problem.{listed, mapped, posed};
 ghost use Rattle.problems.specs.Replies.{Laid, Asked};
 use kinds::Kind;
 use kinds::Known;
 use kinds::Sized;
 use maps::Count;
+
+pub mod targets;
 
 // A refusal's number, or the numbers of generators and of targets.
 pub enum Posed {
@@ -30,12 +32,12 @@ fn pose_list(
     requires { ⌜ Asked r (now g) (now t) ⌝ }
     ensures { λ x. ⌜ Laid (listed p q r (now (gs .entry)) (now (ts .entry)) (now (others .entry))) x (now (g .exit)) (now (t .exit)) ⌝ }
 {
-    let e = lists::list_refusal(p, q, r, gs, ts, others);
+    let e = words::lists::list_refusal(p, q, r, gs, ts, others);
     if e != 0 {
         return Posed::Refused(e);
     }
-    fills::copy_forms(gs, g);
-    fills::copy_forms(ts, t);
+    maps::form_lists::copy_forms(gs, g);
+    maps::form_lists::copy_forms(ts, t);
     Posed::Are(gs.len(), ts.len())
 }
 
@@ -60,12 +62,12 @@ fn pose_map(
     let Count::Is(c) = maps::generator_count(n, m) else {
         return Posed::Refused(4);
     };
-    let e = lists::map_refusal(n * m, gs, ts, others);
+    let e = words::lists::map_refusal(n * m, gs, ts, others);
     if e != 0 {
         return Posed::Refused(e);
     }
-    fills::fill_generators(n, m, c, g);
-    fills::fill_targets(kind, p, q, r, n, m, u, t);
+    maps::form_lists::fill_generators(n, m, c, g);
+    maps::form_lists::fill_targets(kind, p, q, r, n, m, u, t);
     Posed::Are(c as usize, u as usize)
 }
 

@@ -1,3 +1,4 @@
 -- What the programs print of an input.
 pub mod Programs
 pub mod laws
+pub mod meaning

@@ -7,13 +7,13 @@
 use Prim.Native.Nat.{ℕ}
 use mathlib.Core.List.{List}
 use Rattle.kinds.specs.Refusal.{accepted, follow}
-use Rattle.problem_judging.specs.Judged.{ProblemFile}
-use Rattle.problem_judging.specs.declared.Purpose.{Purpose}
-use Rattle.problem_judging.specs.declared.Purpose.the-variants as purpose
-use Rattle.inputs.specs.Inputs.{inputOf}
-use Rattle.pages.specs.Pages.{printed}
-use Rattle.catalogue_answers.specs.CatalogueAnswers.{catalogueReply}
-use Rattle.rank_answers.specs.RankAnswers.{rankReply}
+use Rattle.problem_files.specs.judging.Judged.{ProblemFile}
+use Rattle.problem_files.specs.declared.judging.Purpose.{Purpose}
+use Rattle.problem_files.specs.declared.judging.Purpose.the-variants as purpose
+use Rattle.problem_files.specs.inputs.Inputs.{inputOf}
+use Rattle.printing.specs.refusals.Pages.{printed}
+use Rattle.catalogue_text.specs.CatalogueAnswers.{catalogueReply}
+use Rattle.rank_text.specs.RankAnswers.{rankReply}
 
 abbrev pub replyTo : Purpose → ProblemFile → List ℕ
 replyTo purpose.Catalogue P = catalogueReply (P .kind) (P .p) (P .q) (P .r) (P .k) (P .generators) (P .targets)

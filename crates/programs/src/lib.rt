@@ -2,11 +2,11 @@
 ghost use mathlib.Core.Path.{_≡_};
 ghost use Prim.Native.Nat.{_≤_};
 ghost use lib.ListN.{length, take};
-ghost use Rattle.problem_judging.specs.Judged.{problemOf};
+ghost use Rattle.problem_files.specs.judging.Judged.{problemOf};
 ghost use Rattle.programs.specs.Programs.{replyTo, problemProgram, catalogueProgram, rankProgram};
 use kinds::Kind;
-use problem_judging::ProblemRead;
-use problem_judging::Purpose;
+use problem_files::judging::ProblemRead;
+use problem_files::judging::Purpose;
 
 // What is printed of a problem, from the start of a page; its length.
 fn reply(
@@ -24,8 +24,8 @@ fn reply(
     ensures { λ e. ⌜ (take e (now (page .exit)) ≡ replyTo purpose (problemOf kind p q r k (now (gs .entry)) (now (ts .entry)))) × (e ≤ 196608) ⌝ }
 {
     match purpose {
-        Purpose::Catalogue => catalogue_answers::catalogue_reply(kind, p, q, r, k, gs, ts, page),
-        Purpose::Rank => rank_answers::rank_reply(kind, p, q, r, k, gs, ts, page),
+        Purpose::Catalogue => catalogue_text::catalogue_reply(kind, p, q, r, k, gs, ts, page),
+        Purpose::Rank => rank_text::rank_reply(kind, p, q, r, k, gs, ts, page),
     }
 }
 
@@ -36,11 +36,11 @@ fn problem_program(purpose: Purpose, file: &[u8], page: &mut [u8]) -> usize
 {
     let mut gs = [0u64; 4096];
     let mut ts = [0u64; 4096];
-    match inputs::read_input(file, purpose, &mut gs, &mut ts) {
-        ProblemRead::Refused(e) => pages::refused_page(e, page),
+    match problem_files::inputs::read_input(file, purpose, &mut gs, &mut ts) {
+        ProblemRead::Refused(e) => printing::refusals::refused_page(e, page),
         ProblemRead::Problem(kind, p, q, r, k) => {
-            let c = problem_lines::handed(kind, q) as usize;
-            let d = problem_lines::handed(kind, r) as usize;
+            let c = problem_files::handed_forms::handed(kind, q) as usize;
+            let d = problem_files::handed_forms::handed(kind, r) as usize;
             reply(purpose, kind, p, q, r, k, &gs[..c], &ts[..d], page)
         }
     }

@@ -2,3 +2,4 @@
 pub mod Records
 pub mod Keep
 pub mod laws
+pub mod lookup

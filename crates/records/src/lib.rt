@@ -6,6 +6,8 @@ ghost use Rattle.bases.specs.Basis.{rowsOf};
 ghost use Rattle.records.specs.Records.{note};
 ghost use Rattle.records.specs.Keep.{chainOf, stateOf, Tidy, Pushed, Keeping};
 
+pub mod lookup;
+
 // Generator numbers, ascending, and how many.
 pub struct Chain {
     pub numbers: [u64; 8],

@@ -17,7 +17,7 @@ use Rattle.linear.specs.Basis.{insert, inserts}
 use Rattle.linear.specs.Word.{word}
 use Rattle.bases.specs.Basis.{rowsOf, Valid, Holds}
 use Rattle.bases.specs.declared.Basis.{Basis}
-use Rattle.children.specs.Residues.{withResidue}
+use Rattle.residues.specs.children.Residues.{withResidue}
 use Rattle.residues.specs.Mapped.{Mapped}
 
 pub record Mapping (f : ℕ → ℕ) (h : List ℕ) (out : List ℕ) (i : ℕ) : Type 0 where

@@ -2,3 +2,4 @@
 pub mod Mapped
 pub mod Taking
 pub mod laws
+pub mod children

@@ -9,8 +9,8 @@ use Rattle.linear.specs.Basis.{inserts}
 use Rattle.linear.specs.Word.{word}
 use Rattle.bases.specs.Basis.{rowsOf, Holds}
 use Rattle.bases.specs.declared.Basis.{Basis}
-use Rattle.children.specs.Residues.{withResidue}
-use Rattle.children.specs.Weighed.{Shared}
+use Rattle.residues.specs.children.Residues.{withResidue}
+use Rattle.residues.specs.children.Weighed.{Shared}
 use Rattle.residues.specs.declared.Taken.{Taken}
 
 pub record Took (gens h : List ℕ) (x : ℕ) (s : Basis) (flags : List ℕ) (t : Taken) : Type 0 where

@@ -8,7 +8,7 @@ ghost use lib.Dec.{eqb};
 ghost use Rattle.linear.specs.Basis.{clear, reduce, inserts, dim};
 ghost use Rattle.linear.specs.Word.{word};
 ghost use Rattle.bases.specs.Basis.{rowsOf, Valid, Holds};
-ghost use Rattle.children.specs.Residues.{known, withResidue};
+ghost use Rattle.residues.specs.children.Residues.{known, withResidue};
 ghost use Rattle.residues.specs.Mapped.{Mapped};
 ghost use Rattle.residues.specs.Taking.{Took};
 

@@ -1,20 +1,20 @@
 // Runs each call that standard input has, and prints its reply and the lent buffer. `tests/reference/make_problems.py` has the form of a call.
 ghost use Prim.Native.Nat.{_≤_};
 ghost use lib.ListN.{length};
-use fewest::Ranked;
+use catalogue::Catalogued;
 use libc::STDIN_FILENO;
 use libc::STDOUT_FILENO;
-use search::Catalogued;
+use rank::fewest::Ranked;
 
 // A listing; the entries that it shows, by their numbers; and what is at the number behind the last.
 fn print_listing(listing: &[u64], ell: u64, k: u64, shown: u64) {
     vectors::print_words(listing);
     let mut j: u64 = 0;
     while j < shown {
-        vectors::print_words(lookup::entry(listing, ell, k, shown, j));
+        vectors::print_words(records::lookup::entry(listing, ell, k, shown, j));
         j += 1;
     }
-    vectors::print_words(lookup::entry(listing, ell, k, shown, shown));
+    vectors::print_words(records::lookup::entry(listing, ell, k, shown, shown));
 }
 
 // Word i of a buffer holds 1000000 + i before a call.
@@ -67,13 +67,13 @@ fn call_catalogue(
     ts: &[u64],
     out: &mut [u64],
 ) {
-    let said = search::catalogue(number, p, q, r, k, gs, ts, out);
+    let said = catalogue::catalogue(number, p, q, r, k, gs, ts, out);
     print_catalogued(said, k, out);
 }
 
 // Rank.
 fn call_rank(number: u64, p: u64, q: u64, r: u64, k: u64, gs: &[u64], ts: &[u64], out: &mut [u64]) {
-    let said = ranks::rank(number, p, q, r, k, gs, ts, out);
+    let said = rank::rank(number, p, q, r, k, gs, ts, out);
     print_ranked(said);
     vectors::print_words(out);
 }
@@ -99,7 +99,7 @@ fn call_on(
         call_rank(number, p, q, r, k, gs, ts, out);
         return;
     }
-    vectors::print_words(lookup::entry(out, number, p, q, r));
+    vectors::print_words(records::lookup::entry(out, number, p, q, r));
 }
 
 // The call that some words start with, in a buffer of as many words as it asks for, of 64 at most.

@@ -2,3 +2,4 @@
 pub mod Selections
 pub mod Theorems
 pub mod laws
+pub mod on_forms

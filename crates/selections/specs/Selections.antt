@@ -7,7 +7,7 @@ use mathlib.Core.List.{List, [], _∷_}
 use Prim.Native.Nat.{ℕ}
 use Rattle.kinds.specs.Refusal.{Answer, follow}
 use Rattle.problems.specs.Problem.{posed}
-use Rattle.selected.specs.Selected.{sumAnswer, redundantAnswer}
+use Rattle.selections.specs.on_forms.Selected.{sumAnswer, redundantAnswer}
 
 unfoldable pub isSum : (number p q r : ℕ) (gs ts sel : List ℕ) (form : ℕ) → Answer Bool
 isSum number p q r gs ts sel form = follow (posed number p q r gs ts (form ∷ [])) λ x. sumAnswer x sel form

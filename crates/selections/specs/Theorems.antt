@@ -14,7 +14,7 @@ use borrow.Author.Tests.{eqb-true, not-true, not-false}
 use Rattle.kinds.specs.Refusal.{accepted, refuse}
 use Rattle.kinds.specs.RefusalLaws.{accepted-inj, follow-inv, refuse-inv, neither}
 use Rattle.problems.specs.Problem.{Problem, posed}
-use Rattle.lists.specs.Lists.{repeats}
+use Rattle.words.specs.lists.Lists.{repeats}
 use Rattle.linear.specs.Span.{Span}
 use Rattle.linear.specs.Basis.{basisOf}
 use Rattle.linear.specs.Select.{anyOf}
@@ -24,8 +24,8 @@ use Rattle.linear.specs.Word.{word}
 use Rattle.linear.specs.laws.Insert.{basisOf-reduced, basisOf-span}
 use Rattle.linear.specs.laws.Entry.{inside-yes, yes-inside}
 use Rattle.linear.specs.laws.Select.{anyOf-no, no-anyOf, anyOf-yes}
-use Rattle.selected.specs.Selected.{misfit, without, missedBy, sumAnswer, redundantAnswer}
-use Rattle.selected.specs.laws.Spanning.{misfit-below}
+use Rattle.selections.specs.on_forms.Selected.{misfit, without, missedBy, sumAnswer, redundantAnswer}
+use Rattle.selections.specs.on_forms.laws.Spanning.{misfit-below}
 use Rattle.selections.specs.Selections.{isSum, isRedundant}
 
 pub record Fits (n : ℕ) (sel : List ℕ) : Type 0 where

@@ -1,9 +1,11 @@
 // Questions on a selection of generators: is a form a sum of them, and is one of them redundant. The problem is handed in.
 ghost use mathlib.Core.Path.{_≡_};
-ghost use Rattle.selected.specs.Selected.{seenSaid};
+ghost use Rattle.selections.specs.on_forms.Selected.{seenSaid};
 ghost use Rattle.selections.specs.Selections.{isSum, isRedundant};
+use on_forms::Said;
 use problems::Posed;
-use selected::Said;
+
+pub mod on_forms;
 
 // Is the form a sum of the generators with the numbers `sel`? The problem is handed in as to Catalogue.
 pub fn is_sum(
@@ -23,7 +25,7 @@ pub fn is_sum(
     let one = [form];
     match problems::pose(number, p, q, r, gs, ts, &one, &mut g, &mut t) {
         Posed::Refused(e) => Said::Refused(e),
-        Posed::Are(n, u) => selected::say_sum(&g[..n], &t[..u], sel, form),
+        Posed::Are(n, u) => on_forms::say_sum(&g[..n], &t[..u], sel, form),
     }
 }
 
@@ -44,6 +46,6 @@ pub fn is_redundant(
     let mut t = [0u64; 64];
     match problems::pose(number, p, q, r, gs, ts, &gs[..0], &mut g, &mut t) {
         Posed::Refused(e) => Said::Refused(e),
-        Posed::Are(n, u) => selected::say_redundant(&g[..n], &t[..u], sel, j),
+        Posed::Are(n, u) => on_forms::say_redundant(&g[..n], &t[..u], sel, j),
     }
 }

@@ -1,3 +1,4 @@
 -- What the exported calls answer.
 pub mod Service
 pub mod laws
+pub mod check_program

@@ -13,10 +13,10 @@ use lib.Dec.{ltb}
 use Rattle.kinds.specs.Kinds.{numberOf}
 use Rattle.kinds.specs.Refusal.{Answer, refused, accepted}
 use Rattle.words.specs.Buffers.{filled}
-use Rattle.files.specs.Outcome.{Outcome, outcome}
-use Rattle.files.specs.Outcome as file
-use Rattle.formula.specs.Formula.{check}
-use Rattle.check_answers.specs.CheckAnswers.{replyText}
+use Rattle.formula_files.specs.Outcome.{Outcome, outcome}
+use Rattle.formula_files.specs.Outcome as file
+use Rattle.formula_check.specs.Formula.{check}
+use Rattle.check_text.specs.CheckAnswers.{replyText}
 
 -- the file is read, and the formula that it holds is checked
 abbrev pub checkRead : Outcome → Answer (List ℕ)

@@ -1,15 +1,17 @@
 // Check for callers in C: all refusals are made inside.
 ghost use mathlib.Core.Path.{_≡_};
 ghost use lib.ListN.{length};
-ghost use Rattle.formula.specs.Formula.{check};
-ghost use Rattle.check_answers.specs.CheckAnswers.{replyOf, bytesOf};
+ghost use Rattle.formula_check.specs.Formula.{check};
+ghost use Rattle.check_text.specs.CheckAnswers.{replyOf, bytesOf};
 ghost use Rattle.service.specs.Service.{checkFile, numbersReply, numbersLent};
 ghost use Rattle.words.specs.Buffers.{filled};
 ghost use mathlib.Core.List.{[], _∷_};
 ghost use Prim.Native.Nat.{_≤_};
-use files::Read;
-use formula::Reply;
-use verdicts::Verdict;
+use formula_check::Reply;
+use formula_check::verdicts::Verdict;
+use formula_files::Read;
+
+pub mod check_program;
 
 // Check of a file: what the Check program would print goes to out, and the reply is its length (above 35); or the refusal's number, and out
 // is as it was. Too short an out is refused by 9.
@@ -20,10 +22,10 @@ pub extern "C" fn gijpsando_check(file: &[u8], out: &mut [u8]) -> usize
     let mut a = [0u64; 64];
     let mut b = [0u64; 64];
     let mut rows = [0u64; 64];
-    let got = files::read_formula(file, &mut a, &mut b, &mut rows);
+    let got = formula_files::read_formula(file, &mut a, &mut b, &mut rows);
     match got {
         Read::Refused(e) => e as usize,
-        Read::Formula(kind, p, q, r, k) => check_answers::check_reply(
+        Read::Formula(kind, p, q, r, k) => check_text::check_reply(
             kind,
             p,
             q,
@@ -64,7 +66,7 @@ pub extern "C" fn gijpsando_check_numbers(
     ensures { λ x. ⌜ (x ≡ numbersReply (check kind p q r k (now (a .entry)) (now (b .entry)) (now (rows .entry))) (now (reply .entry)))
         × (now (reply .exit) ≡ numbersLent (check kind p q r k (now (a .entry)) (now (b .entry)) (now (rows .entry))) (now (reply .entry))) ⌝ }
 {
-    let said = formula::check(kind, p, q, r, k, a, b, rows);
+    let said = formula_check::check(kind, p, q, r, k, a, b, rows);
     match said {
         Reply::Refused(e) => e,
         Reply::Judged(v, w) => {

@@ -10,8 +10,8 @@ use mathlib.Core.Bool.{true, false}
 use mathlib.Core.List.{List}
 use Prim.Native.Nat.{ℕ, _<_, _≤_}
 use lib.ListN.{length, getD, replicate}
-use Rattle.children.specs.Residues.{known}
-use Rattle.children.specs.Barren.{Barren}
+use Rattle.residues.specs.children.Residues.{known}
+use Rattle.residues.specs.children.Barren.{Barren}
 
 pub record Sieving (gens h : List ℕ) (start missing : ℕ) (rows marks : List ℕ) : Type 0 where
   pub alike : length gens ≡ length h

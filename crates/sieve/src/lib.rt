@@ -4,6 +4,11 @@ use bases::Basis;
 ghost use lib.ListN.{length};
 ghost use Rattle.sieve.specs.Sieve.{Sieving, Sieved};
 
+pub mod dead_numbers;
+pub mod heavy_search;
+pub mod join;
+pub mod marked_numbers;
+
 // Marks the numbers from `start` on whose children are to be visited, where `missing` more dimensions make `k`: those by which the walk goes on to
 // the spaces that are found over this one. `rows` is lent, what it holds plays no part.
 pub fn sieve(
@@ -19,7 +24,7 @@ pub fn sieve(
     ensures { λ _. ⌜ Sieved (now (gens .entry)) (now (h .entry)) start (length (now (gens .entry))) k missing (now (marks .exit)) ⌝ }
 {
     let mut flags = [0u8; 4096];
-    dead::flag_before(h, start, &mut flags);
+    dead_numbers::flag_before(h, start, &mut flags);
     let s = residues::with_residue(gens, h, 0, Basis::empty());
-    find::find(gens, h, h, start, k, missing, s, flags, rows, marks);
+    heavy_search::find(gens, h, h, start, k, missing, s, flags, rows, marks);
 }

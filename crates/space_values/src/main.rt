@@ -3,8 +3,8 @@ ghost use Prim.Native.Nat.{_≤_};
 ghost use lib.ListN.{length};
 use libc::STDIN_FILENO;
 use libc::STDOUT_FILENO;
-use selected::Said;
-use spaces::Listed;
+use selections::on_forms::Said;
+use space_formulae::spaces::Listed;
 
 // What is said of a space's formulae.
 fn print_listed(said: Listed) {
@@ -59,7 +59,7 @@ fn list_formulae(
     rows: &[u64],
     out: &mut [u64],
 ) {
-    let said = formulae::formulae(number, p, q, r, gs, ts, rows, out);
+    let said = space_formulae::formulae(number, p, q, r, gs, ts, rows, out);
     print_listed(said);
     print_buffer(out);
 }

@@ -4,3 +4,4 @@ pub mod Numeral
 pub mod Line
 pub mod Views
 pub mod laws
+pub mod heads

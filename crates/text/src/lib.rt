@@ -7,6 +7,8 @@ ghost use Rattle.text.specs.Numeral.{digit, numeral};
 ghost use Rattle.text.specs.Line.{till, cut, nameLine, field};
 ghost use Rattle.text.specs.Views.{seenNumber, seenCut, bytesCut, seenUsed, bytesUsed, seenField, bytesField};
 
+pub mod heads;
+
 // What reading a numeral finds.
 pub enum Number {
     Is(u64),

@@ -13,7 +13,7 @@ use Prim.Native.Nat.{ℕ, zero, suc, _+_, _<_, _≤_}
 use lib.ListN.{length, getD}
 use Rattle.linear.specs.Span.{Span}
 use Rattle.linear.specs.Word.{word}
-use Rattle.stretches.specs.Stretch.{stretch}
+use Rattle.weights.specs.rank_rows.Stretch.{stretch}
 use Rattle.weights.specs.Table.{slotOf}
 
 abbrev pub valueRows : List ℕ → ℕ → ℕ → List ℕ → List ℕ

@@ -2,3 +2,5 @@
 pub mod Table
 pub mod Enter
 pub mod laws
+pub mod slots
+pub mod rank_rows

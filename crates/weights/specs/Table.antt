@@ -15,9 +15,9 @@ use lib.Dec.{eqb}
 use lib.ListN.{length, getD, replicate}
 use Rattle.linear.specs.Basis.{basisOf}
 use Rattle.linear.specs.Word.{word, isZero}
-use Rattle.children.specs.Residues.{withResidue}
-use Rattle.children.specs.Weighed.{Weighed}
-use Rattle.hash.specs.Bucket.{bucketOf}
+use Rattle.residues.specs.children.Residues.{withResidue}
+use Rattle.residues.specs.children.Weighed.{Weighed}
+use Rattle.weights.specs.slots.Bucket.{bucketOf}
 
 unfoldable pub slotFrom : ℕ → ℕ → List ℕ → List ℕ → ℕ → ℕ
 slotFrom zero q slots d v = 16384

@@ -5,13 +5,16 @@ ghost use lib.ListN.{length};
 ghost use Rattle.weights.specs.Table.{slotOf, weightOf, Slots, Blank, Filled};
 ghost use Rattle.weights.specs.Enter.{Entering, Entered};
 
+pub mod rank_rows;
+pub mod slots;
+
 // The slot of the value `x`: from its own on, the first that is free or has a number of this value; 16384 where 64 are tried in vain.
 // A slot has a number and one, or 0.
 fn seek(slots: &[u16], d: &[u64], x: u64) -> usize
     requires { ⌜ Slots (now slots) (now d) ⌝ }
     ensures { λ r. ⌜ (r ≡ slotOf (now (slots .entry)) (now (d .entry)) x) × (r ≤ 16384) ⌝ }
 {
-    let mut q = hash::bucket(x);
+    let mut q = slots::bucket(x);
     let mut t: usize = 64;
     while t > 0 {
         let f = slots[q] as usize;
@@ -71,7 +74,7 @@ fn enter(
         return 1;
     }
     let g = f - 1;
-    let r = stretches::grow(s, gens[i] ^ gens[g], w[g] as usize - 1, g, rows) + 1;
+    let r = rank_rows::grow(s, gens[i] ^ gens[g], w[g] as usize - 1, g, rows) + 1;
     w[g] = r as u8;
     r
 }

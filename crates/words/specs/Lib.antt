@@ -2,3 +2,4 @@
 pub mod Masks
 pub mod Buffers
 pub mod laws
+pub mod lists

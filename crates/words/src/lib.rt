@@ -7,6 +7,8 @@ ghost use lib.Seq.{paste};
 ghost use lib.Dec.{eqb};
 ghost use Rattle.words.specs.Masks.{outside, wide, zeroIn};
 
+pub mod lists;
+
 // The word x at place i, where there is one.
 pub fn put_word(a: &mut [u64], i: usize, x: u64)
     ensures { λ _. ⌜ now (a .exit) ≡ set (now (a .entry)) i x ⌝ }

@@ -9,7 +9,7 @@ use Rattle.bilinear_formulae.proofs.write_entries.Statement.{statement}
 use Rattle.bilinear_formulae.proofs.write_entries.Tie as tie
 use Rattle.bilinear_formulae.proofs.write_entries.Reads as reads
 use Rattle.bilinear_formulae.proofs.write_entries.Lts as lts
-use Rattle.entry_pages.proofs.entry_page.Reads as entry-page-reads
+use Rattle.formulae_program.proofs.entry_parts.entry_page.Reads as entry-page-reads
 use Rattle.io.proofs.write_all.Reads as write-all-reads
 
 abbrev Inv-loop : tie.InvT-loop

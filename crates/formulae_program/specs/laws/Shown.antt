@@ -30,18 +30,18 @@ use Rattle.linear.specs.laws.Word.{Below, span-below}
 use Rattle.linear.specs.laws.Span.{mem-cons, span-mem}
 use Rattle.linear.specs.laws.Select.{only-mem}
 use Rattle.linear.specs.laws.Order.{mem-map}
-use Rattle.listing.specs.Listing.{records, recordLength, flat, fitting}
-use Rattle.listing.specs.laws.Listing.{record-length}
-use Rattle.listing.specs.laws.Run.{fitting-le}
+use Rattle.catalogue.specs.listing.Listing.{records, recordLength, flat, fitting}
+use Rattle.catalogue.specs.listing.laws.Listing.{record-length}
+use Rattle.catalogue.specs.listing.laws.Run.{fitting-le}
 use Rattle.maps.specs.Generators.{listOf, generatorForm, generatorForms, generator-below, countOf, generatorCount}
-use Rattle.lists.specs.Lists.{repeats, unlike}
+use Rattle.words.specs.lists.Lists.{repeats, unlike}
 use Rattle.problems.specs.Problem.{Problem, problem, targetForms, listed, mapped, sorted, posed}
 use Rattle.problems.specs.laws.Taken.{listed-taken, mapped-taken, posed-kind}
-use Rattle.search.specs.Catalogue.{Catalogued, catalogue}
-use Rattle.search.specs.Catalogue as search
-use Rattle.spaces.specs.Spaces.{Formulae, isEntry, formulaeOf}
-use Rattle.spaces.specs.Spaces as spaces
-use Rattle.spaces.specs.laws.Entry.{is-entry}
+use Rattle.catalogue.specs.Catalogue.{Catalogued, catalogue}
+use Rattle.catalogue.specs.Catalogue as search
+use Rattle.space_formulae.specs.spaces.Spaces.{Formulae, isEntry, formulaeOf}
+use Rattle.space_formulae.specs.spaces.Spaces as spaces
+use Rattle.space_formulae.specs.spaces.laws.Entry.{is-entry}
 
 -- ---- the rows in a listing of records es ++ f es
 module _ (f : List ℕ → List ℕ) (d k : ℕ) where

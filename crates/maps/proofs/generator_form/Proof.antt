@@ -4,7 +4,7 @@ use Prim.Native.Nat.{ℕ, _+_, _-_, _*_, _/_, _%_, _^_, _<_}
 use native.Mathlib.Nat.{div-le-self, mod-le}
 use native.Mathlib.Omega.{arith}
 use borrow.Author.Needs.{needs}
-use Rattle.products.specs.Product.{productForm}
+use Rattle.forms.specs.products.Product.{productForm}
 use Rattle.maps.specs.Generators.{generatorForm, firstMask, secondMask, Numbered}
 use Rattle.maps.proofs.Counting.{low, numbered-base, numbered-narrow}
 use Rattle.maps.proofs.generator_form.Statement.{statement}

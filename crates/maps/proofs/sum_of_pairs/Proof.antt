@@ -3,7 +3,7 @@ use mathlib.Core.Path.{_≡_, refl, sym, ap, _∙_}
 use mathlib.Core.Logic.{⊎-elim}
 use Prim.Native.Nat.{ℕ, _-_, _*_, _<_}
 use native.Mathlib.Omega.{arith}
-use Rattle.products.specs.Product.{formOf}
+use Rattle.forms.specs.products.Product.{formOf}
 use Rattle.maps.specs.Target.{targetForm}
 use Rattle.maps.specs.Accepted.{accepted-fits, accepted-terms}
 use Rattle.maps.proofs.Pairing.{tests, Summing, turn-set, turn-unset}

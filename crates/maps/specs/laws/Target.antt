@@ -16,7 +16,7 @@ use Rattle.kinds.specs.declared.Kind.{Kind}
 use Rattle.kinds.specs.declared.Kind.the-variants as kind
 use Rattle.kinds.specs.Sizes.{sizes, within, polySizes, squareSizes, matSizes}
 use Rattle.kinds.specs.SizeLaws.{given-some, MatWithin, mat-within}
-use Rattle.products.specs.Product.{bit-formOf, formOf-below}
+use Rattle.forms.specs.products.Product.{bit-formOf, formOf-below}
 use Rattle.maps.specs.Textbook.{sumTo, output}
 use Rattle.maps.specs.Target.{value, pair, targetForm}
 use Rattle.maps.specs.laws.Sum.{sum-same, sum-one, sum-times, sum-blocks}

@@ -9,7 +9,7 @@ use Rattle.problem_answers.proofs.run_entries.Statement.{statement}
 use Rattle.problem_answers.proofs.run_entries.Tie as tie
 use Rattle.problem_answers.proofs.run_entries.Reads as reads
 use Rattle.problem_answers.proofs.run_entries.Lts as lts
-use Rattle.entry_pages.proofs.entry_page.Reads as entry-page-reads
+use Rattle.formulae_program.proofs.entry_parts.entry_page.Reads as entry-page-reads
 use Rattle.io.proofs.write_all.Reads as write-all-reads
 
 abbrev Inv-loop : tie.InvT-loop

@@ -3,9 +3,9 @@ use mathlib.Core.Path.{ap, _∙_}
 use borrow.Author.Needs.{needs}
 use Rattle.kinds.specs.Kinds.{seenKind}
 use Rattle.kinds.specs.Sizes.{seenSizes}
-use Rattle.heads.specs.Views.{seenHead}
-use Rattle.files.specs.laws.Outcome.{head-fit}
-use Rattle.problem_lines.specs.laws.Lines.{body-targets}
+use Rattle.text.specs.heads.Views.{seenHead}
+use Rattle.formula_files.specs.laws.Outcome.{head-fit}
+use Rattle.problem_files.specs.handed_forms.laws.Lines.{body-targets}
 use Rattle.problem_files.specs.laws.Steps.{file-1, file-2, file-3, file-read}
 use Rattle.problem_files.proofs.read_parts.Statement.{statement}
 use Rattle.problem_files.proofs.read_parts.Tie as tie

@@ -18,17 +18,17 @@ use Rattle.kinds.specs.declared.Kind.{Kind}
 use Rattle.kinds.specs.Sizes.{sizes}
 use Rattle.kinds.specs.Refusal.{Answer, accepted, need}
 use Rattle.kinds.specs.RefusalLaws.{need-inv, follow-inv}
-use Rattle.heads.specs.Head.{Head, headLines}
-use Rattle.problem_lines.specs.ProblemLines.{handed, bodyOf}
-use Rattle.problem_judging.specs.Judged.{ProblemFile, problemOf, short, judged}
+use Rattle.text.specs.heads.Head.{Head, headLines}
+use Rattle.problem_files.specs.handed_forms.ProblemLines.{handed, bodyOf}
+use Rattle.problem_files.specs.judging.Judged.{ProblemFile, problemOf, short, judged}
 use Rattle.problem_files.specs.ProblemFile.{formsOf, problemFile}
-use Rattle.problem_lines.specs.laws.Lines.{body-few, body-targets}
-use Rattle.problem_judging.specs.laws.Judging.{judged-is}
+use Rattle.problem_files.specs.handed_forms.laws.Lines.{body-few, body-targets}
+use Rattle.problem_files.specs.judging.laws.Judging.{judged-is}
 use Rattle.words.specs.Buffers.{filled, zeros}
 use Rattle.problem_files.specs.Lent.{seenRead, reply, generatorsOf, targetsOf}
-use Rattle.problem_judging.specs.declared.Purpose.{Purpose}
-use Rattle.problem_judging.specs.declared.ProblemRead.{ProblemRead}
-use Rattle.problem_judging.specs.declared.ProblemRead.the-variants as read
+use Rattle.problem_files.specs.declared.judging.Purpose.{Purpose}
+use Rattle.problem_files.specs.declared.judging.ProblemRead.{ProblemRead}
+use Rattle.problem_files.specs.declared.judging.ProblemRead.the-variants as read
 
 pub record Went (a : Purpose) (s : List ℕ) (u v : ℕ) (P : ProblemFile) : Type 0 where
   pub head : Head

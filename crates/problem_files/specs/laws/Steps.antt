@@ -11,15 +11,15 @@ use Rattle.kinds.specs.declared.Kind.{Kind}
 use Rattle.kinds.specs.Sizes.{sizes}
 use Rattle.kinds.specs.Refusal.{Answer, refused, accepted, follow}
 use Rattle.problems.specs.Replies.{refusedBy}
-use Rattle.heads.specs.Head.{Head, headLines}
+use Rattle.text.specs.heads.Head.{Head, headLines}
 use Rattle.text.specs.laws.Line.{part}
-use Rattle.problem_lines.specs.ProblemLines.{handed, bodyOf}
-use Rattle.problem_lines.specs.laws.Lines.{body-few}
-use Rattle.problem_judging.specs.Judged.{ProblemFile, problemOf, judged, seenProblem}
-use Rattle.problem_judging.specs.laws.Judging.{judged-is}
-use Rattle.problem_judging.specs.declared.Purpose.{Purpose}
-use Rattle.problem_judging.specs.declared.ProblemRead.{ProblemRead}
-use Rattle.problem_judging.specs.declared.ProblemRead.the-variants as read
+use Rattle.problem_files.specs.handed_forms.ProblemLines.{handed, bodyOf}
+use Rattle.problem_files.specs.handed_forms.laws.Lines.{body-few}
+use Rattle.problem_files.specs.judging.Judged.{ProblemFile, problemOf, judged, seenProblem}
+use Rattle.problem_files.specs.judging.laws.Judging.{judged-is}
+use Rattle.problem_files.specs.declared.judging.Purpose.{Purpose}
+use Rattle.problem_files.specs.declared.judging.ProblemRead.{ProblemRead}
+use Rattle.problem_files.specs.declared.judging.ProblemRead.the-variants as read
 use Rattle.problem_files.specs.ProblemFile.{formsOf, problemFile}
 use Rattle.problem_files.specs.Lent.{seenRead}
 

@@ -22,7 +22,7 @@ use Rattle.kinds.specs.SizeLaws.{given-some, sizes-bounds}
 use Rattle.kinds.specs.Refusal.{Answer, refused, accepted, need}
 use Rattle.kinds.specs.declared.Kind.{Kind}
 use Rattle.kinds.specs.declared.Kind.the-variants as kind
-use Rattle.lists.specs.Lists.{listRefusal, mapRefusal}
+use Rattle.words.specs.lists.Lists.{listRefusal, mapRefusal}
 use Rattle.maps.specs.Target.{targetForm}
 use Rattle.maps.specs.Generators.{listOf, generatorForms, countOf}
 use Rattle.problems.specs.Problem.{Problem, problem, targetForms, listed, mapped, sorted, posed}

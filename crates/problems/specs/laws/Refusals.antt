@@ -17,7 +17,7 @@ use Rattle.kinds.specs.SizeLaws.{given-some}
 use Rattle.kinds.specs.Refusal.{Answer, refused, accepted, need, refuse}
 use Rattle.kinds.specs.declared.Kind.{Kind}
 use Rattle.words.specs.Masks.{wide, zeroIn}
-use Rattle.lists.specs.Lists.{repeats, unlike, listRefusal, mapRefusal}
+use Rattle.words.specs.lists.Lists.{repeats, unlike, listRefusal, mapRefusal}
 use Rattle.maps.specs.Generators.{generatorForms, generatorCount, countOf}
 use Rattle.problems.specs.Problem.{Problem, problem, targetForms, listed, mapped}
 use Rattle.problems.specs.Replies.{refusedBy}

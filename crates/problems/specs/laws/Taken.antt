@@ -19,7 +19,7 @@ use Rattle.kinds.specs.Refusal.{Answer, accepted, need, refuse}
 use Rattle.kinds.specs.RefusalLaws.{accepted-inj, need-inv, refuse-inv, neither}
 use Rattle.kinds.specs.declared.Kind.{Kind}
 use Rattle.words.specs.Masks.{wide, zeroIn}
-use Rattle.lists.specs.Lists.{repeats, unlike}
+use Rattle.words.specs.lists.Lists.{repeats, unlike}
 use Rattle.maps.specs.Generators.{generatorForms, generatorCount, countOf}
 use Rattle.problems.specs.Problem.{Problem, problem, targetForms, listed, mapped, sorted, posed}
 use Rattle.problems.specs.laws.Refusals.{counted}

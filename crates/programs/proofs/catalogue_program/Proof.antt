@@ -1,6 +1,6 @@
 -- `programs::catalogue_program` meets its contract. Assumes nothing.
 use mathlib.Core.Path.{refl}
-use Rattle.problem_judging.specs.declared.Purpose.the-variants as purpose
+use Rattle.problem_files.specs.declared.judging.Purpose.the-variants as purpose
 use Rattle.programs.specs.laws.Steps.{for-purpose}
 use Rattle.programs.proofs.catalogue_program.Statement.{statement}
 use Rattle.programs.proofs.catalogue_program.Tie as tie

@@ -4,15 +4,15 @@ use Prim.Native.Nat.{ℕ, _≤_}
 use lib.ListN.{length-replicate}
 use native.Mathlib.Omega.{arith}
 use lib.Seq.{length-take-le}
-use Rattle.inputs.specs.laws.Input.{input-room}
+use Rattle.problem_files.specs.inputs.laws.Input.{input-room}
 use Rattle.programs.specs.laws.Steps.{program-refused, program-said}
 use Rattle.programs.proofs.problem_program.Statement.{statement}
 use Rattle.programs.proofs.problem_program.Tie as tie
 use Rattle.programs.proofs.problem_program.Reads as reads
 use Rattle.programs.proofs.problem_program.Lts as lts
-use Rattle.pages.proofs.refused_page.Reads as refused-page-reads
-use Rattle.problem_lines.proofs.handed.Reads as handed-reads
-use Rattle.inputs.proofs.read_input.Reads as read-input-reads
+use Rattle.printing.proofs.refusals.refused_page.Reads as refused-page-reads
+use Rattle.problem_files.proofs.handed_forms.handed.Reads as handed-reads
+use Rattle.problem_files.proofs.inputs.read_input.Reads as read-input-reads
 use Rattle.programs.proofs.reply.Reads as reply-reads
 
 -- a page takes the line of a refusal

@@ -1,14 +1,14 @@
 -- `programs::reply` meets its contract. Assumes nothing.
 use mathlib.Core.Path.{ap, sym, _∙_}
-use Rattle.problem_judging.specs.Judged.{problemOf}
-use Rattle.problem_judging.specs.declared.Purpose.{Purpose}
+use Rattle.problem_files.specs.judging.Judged.{problemOf}
+use Rattle.problem_files.specs.declared.judging.Purpose.{Purpose}
 use Rattle.programs.specs.Programs.{replyTo}
 use Rattle.programs.proofs.reply.Statement.{statement}
 use Rattle.programs.proofs.reply.Tie as tie
 use Rattle.programs.proofs.reply.Reads as reads
 use Rattle.programs.proofs.reply.Lts as lts
-use Rattle.catalogue_answers.proofs.catalogue_reply.Reads as catalogue-reply-reads
-use Rattle.rank_answers.proofs.rank_reply.Reads as rank-reply-reads
+use Rattle.catalogue_text.proofs.catalogue_reply.Reads as catalogue-reply-reads
+use Rattle.rank_text.proofs.rank_reply.Reads as rank-reply-reads
 
 enum-told : tie.Need-enum-told
 enum-told c = c .match .keys1

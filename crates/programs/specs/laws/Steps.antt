@@ -9,15 +9,15 @@ use native.Mathlib.Omega.{arith}
 use lib.ListN.{take}
 use Rattle.kinds.specs.declared.Kind.{Kind}
 use Rattle.kinds.specs.Refusal.{Answer, accepted, follow}
-use Rattle.pieces.specs.RefusedText.{refusedText}
-use Rattle.problem_lines.specs.ProblemLines.{handed}
-use Rattle.problem_judging.specs.Judged.{ProblemFile, problemOf}
+use Rattle.printing.specs.fields.RefusedText.{refusedText}
+use Rattle.problem_files.specs.handed_forms.ProblemLines.{handed}
+use Rattle.problem_files.specs.judging.Judged.{ProblemFile, problemOf}
 use Rattle.problem_files.specs.Lent.{seenRead}
-use Rattle.problem_judging.specs.declared.Purpose.{Purpose}
-use Rattle.problem_judging.specs.declared.ProblemRead.{ProblemRead}
-use Rattle.problem_judging.specs.declared.ProblemRead.the-variants as read
-use Rattle.inputs.specs.Inputs.{Input}
-use Rattle.pages.specs.Pages.{printed}
+use Rattle.problem_files.specs.declared.judging.Purpose.{Purpose}
+use Rattle.problem_files.specs.declared.judging.ProblemRead.{ProblemRead}
+use Rattle.problem_files.specs.declared.judging.ProblemRead.the-variants as read
+use Rattle.problem_files.specs.inputs.Inputs.{Input}
+use Rattle.printing.specs.refusals.Pages.{printed}
 use Rattle.programs.specs.Programs.{replyTo, problemProgram}
 
 pub for-purpose : (a b : Purpose) (s d : List ℕ) (n : ℕ) → (take n d ≡ problemProgram a s) × (n ≤ 196608) → a ≡ b → (take n d ≡ problemProgram b s) × (n ≤ 196608)

@@ -4,7 +4,7 @@ use mathlib.Core.Logic.{_≢_}
 use Prim.Native.Nat.{ℕ, _-_, _<_, _≤_}
 use lib.ListN.{getD}
 use borrow.Author.Count.{below-more}
-use Rattle.children.specs.laws.Known.{known-zero, known-found, known-none}
+use Rattle.residues.specs.children.laws.Known.{known-zero, known-found, known-none}
 use native.Mathlib.Omega.{arith}
 use Rattle.residues.proofs.known.Statement.{statement}
 use Rattle.residues.proofs.known.Tie as tie

@@ -3,7 +3,7 @@ use mathlib.Core.Path.{ap}
 use Prim.Native.Nat.{ℕ}
 use lib.Dec.{eqb}
 use Rattle.bases.specs.Basis.{based-dim}
-use Rattle.children.specs.Residues.{withResidue}
+use Rattle.residues.specs.children.Residues.{withResidue}
 use Rattle.residues.specs.laws.Held.{from-empty}
 use Rattle.residues.proofs.spanned.Statement.{statement}
 use Rattle.residues.proofs.spanned.Tie as tie

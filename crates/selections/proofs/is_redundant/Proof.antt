@@ -9,7 +9,7 @@ use Rattle.selections.proofs.is_redundant.Tie as tie
 use Rattle.selections.proofs.is_redundant.Reads as reads
 use Rattle.selections.proofs.is_redundant.Lts as lts
 use Rattle.problems.proofs.pose.Reads as pose-reads
-use Rattle.selected.proofs.say_redundant.Reads as say-redundant-reads
+use Rattle.selections.proofs.on_forms.say_redundant.Reads as say-redundant-reads
 
 slice-aggregate-pose : tie.Need-slice-aggregate-pose
 slice-aggregate-pose c = search needs

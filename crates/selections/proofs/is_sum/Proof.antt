@@ -9,7 +9,7 @@ use Rattle.selections.proofs.is_sum.Tie as tie
 use Rattle.selections.proofs.is_sum.Reads as reads
 use Rattle.selections.proofs.is_sum.Lts as lts
 use Rattle.problems.proofs.pose.Reads as pose-reads
-use Rattle.selected.proofs.say_sum.Reads as say-sum-reads
+use Rattle.selections.proofs.on_forms.say_sum.Reads as say-sum-reads
 
 slice-aggregate-pose : tie.Need-slice-aggregate-pose
 slice-aggregate-pose c = search needs

@@ -9,7 +9,7 @@ use Rattle.problems.specs.Problem.{Problem, problem, posed}
 use Rattle.problems.specs.declared.Posed.{Posed}
 use Rattle.problems.specs.declared.Posed.the-variants as answer
 use Rattle.problems.specs.Replies.{seenPosed, Fits, Room, Laid}
-use Rattle.selected.specs.Selected.{sumAnswer, redundantAnswer}
+use Rattle.selections.specs.on_forms.Selected.{sumAnswer, redundantAnswer}
 use Rattle.selections.specs.Selections.{isSum, isRedundant}
 
 module _ (number p q r : ℕ) (gs ts sel g t : List ℕ) (x : Posed) where

@@ -5,15 +5,15 @@ use Prim.Native.Nat.{ℕ}
 use native.Mathlib.Omega.{arith}
 use lib.ListN.{replicate}
 use Rattle.kinds.specs.Refusal.{Answer, refused}
-use Rattle.check_answers.specs.CheckAnswers.{replyOf, bytesOf}
+use Rattle.check_text.specs.CheckAnswers.{replyOf, bytesOf}
 use Rattle.service.specs.Service.{checkFile}
 use Rattle.service.specs.laws.Reading.{read-ready, read-checks, refused-checks}
 use Rattle.service.proofs.gijpsando_check.Statement.{statement}
 use Rattle.service.proofs.gijpsando_check.Tie as tie
 use Rattle.service.proofs.gijpsando_check.Reads as reads
 use Rattle.service.proofs.gijpsando_check.Lts as lts
-use Rattle.files.proofs.read_formula.Reads as read-formula-reads
-use Rattle.check_answers.proofs.check_reply.Reads as check-reply-reads
+use Rattle.formula_files.proofs.read_formula.Reads as read-formula-reads
+use Rattle.check_text.proofs.check_reply.Reads as check-reply-reads
 
 slice-aggregate-read-formula : tie.Need-slice-aggregate-read-formula
 slice-aggregate-read-formula c = refl

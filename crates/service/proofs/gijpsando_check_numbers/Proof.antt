@@ -4,9 +4,9 @@ use mathlib.Core.Option.{Option, none, some}
 use Prim.Native.Nat.{ℕ}
 use native.Mathlib.Omega.{arith}
 use Rattle.kinds.specs.Refusal.{Answer, refused, accepted}
-use Rattle.formula.specs.Formula.{check}
-use Rattle.formula.specs.Replies.{seenReply}
-use Rattle.verdicts.specs.Verdicts.{seenVerdict}
+use Rattle.formula_check.specs.Formula.{check}
+use Rattle.formula_check.specs.Replies.{seenReply}
+use Rattle.formula_check.specs.verdicts.Verdicts.{seenVerdict}
 use Rattle.service.specs.Service.{numbersReply, numbersLent}
 use Rattle.service.specs.laws.Numbers.{numbers-short, numbers-whole}
 use borrow.Author.Needs.{needs}
@@ -14,7 +14,7 @@ use Rattle.service.proofs.gijpsando_check_numbers.Statement.{statement}
 use Rattle.service.proofs.gijpsando_check_numbers.Tie as tie
 use Rattle.service.proofs.gijpsando_check_numbers.Reads as reads
 use Rattle.service.proofs.gijpsando_check_numbers.Lts as lts
-use Rattle.formula.proofs.check.Reads as check-reads
+use Rattle.formula_check.proofs.check.Reads as check-reads
 use Rattle.service.proofs.put_three.Reads as put-three-reads
 
 check-requires : tie.Need-check-requires

@@ -9,16 +9,16 @@ use Rattle.kinds.specs.declared.Kind.{Kind}
 use Rattle.kinds.specs.Kinds.{numberOf}
 use Rattle.kinds.specs.Refusal.{refused}
 use Rattle.words.specs.Buffers.{filled}
-use Rattle.files.specs.Outcome.{Outcome, outcome}
-use Rattle.files.specs.Outcome as file
-use Rattle.files.specs.Lent.{reply, firstOf, secondOf, rowsOf}
-use Rattle.files.specs.Sound.{Sound, Room}
-use Rattle.files.specs.AcceptedSound.{accepted-sound}
-use Rattle.files.specs.declared.Read.the-variants as read
-use Rattle.formula.specs.Formula.{check}
-use Rattle.check_answers.specs.CheckAnswers.{replyText}
-use Rattle.check_answers.specs.Ready.{outputsOf, Ready}
-use Rattle.check_answers.specs.laws.Replying.{outs}
+use Rattle.formula_files.specs.Outcome.{Outcome, outcome}
+use Rattle.formula_files.specs.Outcome as file
+use Rattle.formula_files.specs.Lent.{reply, firstOf, secondOf, rowsOf}
+use Rattle.formula_files.specs.Sound.{Sound, Room}
+use Rattle.formula_files.specs.AcceptedSound.{accepted-sound}
+use Rattle.formula_files.specs.declared.Read.the-variants as read
+use Rattle.formula_check.specs.Formula.{check}
+use Rattle.check_text.specs.CheckAnswers.{replyText}
+use Rattle.check_text.specs.Ready.{outputsOf, Ready}
+use Rattle.check_text.specs.laws.Replying.{outs}
 use Rattle.service.specs.Service.{checkRead, checkFile}
 
 -- ---- a reply that is a formula

@@ -1,10 +1,10 @@
 -- `sieve::sieve` meets its contract: what is found over the node is what the walk goes on with. Assumes nothing.
 use mathlib.Core.Path.{refl, _∙_}
 use native.Mathlib.Omega.{arith}
-use Rattle.children.specs.Residues.{withResidue}
+use Rattle.residues.specs.children.Residues.{withResidue}
 use Rattle.residues.specs.laws.Held.{from-empty}
-use Rattle.children.specs.laws.Numbers.{as-few, as-many}
-use Rattle.children.specs.laws.Blank.{zero-length}
+use Rattle.residues.specs.children.laws.Numbers.{as-few, as-many}
+use Rattle.residues.specs.children.laws.Blank.{zero-length}
 use Rattle.sieve.specs.laws.Marks.{sieved-of}
 use Rattle.sieve.proofs.sieve.Statement.{statement}
 use Rattle.sieve.proofs.sieve.Tie as tie

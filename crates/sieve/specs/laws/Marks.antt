@@ -7,10 +7,10 @@ use mathlib.Core.Logic.{_≢_, inr}
 use mathlib.Core.List.{List}
 use Prim.Native.Nat.{ℕ}
 use lib.ListN.{length, replicate}
-use Rattle.children.specs.Found.{Fair, Found}
-use Rattle.children.specs.laws.Blank.{zero-at}
-use Rattle.children.specs.laws.Found.{met-barren}
-use Rattle.dead.specs.Dead.{FlaggedBefore}
+use Rattle.residues.specs.children.Found.{Fair, Found}
+use Rattle.residues.specs.children.laws.Blank.{zero-at}
+use Rattle.residues.specs.children.laws.Found.{met-barren}
+use Rattle.sieve.specs.dead_numbers.Dead.{FlaggedBefore}
 use Rattle.sieve.specs.Sieve.{Sieved}
 
 pub blank-fair : (h marks : List ℕ) → marks ≡ replicate 4096 0 → Fair h marks

@@ -18,9 +18,9 @@ use Rattle.linear.specs.laws.Dimension.{sub-length, inserts-le}
 use Rattle.linear.specs.laws.Insert.{inserts-reduced, inserts-span, basisOf-reduced}
 use Rattle.linear.specs.laws.Span.{span-bind, span-mem}
 use Rattle.linear.specs.laws.Word.{Below, at-most, inserts-below, basisOf-below}
-use Rattle.children.specs.Residues.{withResidue}
-use Rattle.children.specs.Weighed.{rankOf, Shared, Owner, Weighed}
-use Rattle.children.specs.laws.Handed.{residue-mem}
+use Rattle.residues.specs.children.Residues.{withResidue}
+use Rattle.residues.specs.children.Weighed.{rankOf, Shared, Owner, Weighed}
+use Rattle.residues.specs.children.laws.Handed.{residue-mem}
 use Rattle.weights.specs.Table.{slotOf, weightOf}
 use Rattle.weights.specs.Enter.{valueRows, Sound, From, Place}
 use Rattle.weights.specs.laws.Seek.{either, slot-below, slot-owner, weight-none, weight-number}

@@ -16,7 +16,7 @@ use lib.Seq.{getD-set-same, getD-set-other}
 use Rattle.linear.specs.Span.{Span}
 use Rattle.linear.specs.Word.{word}
 use Rattle.linear.specs.laws.Span.{cast, span-weak, span-head, span-cons, span-uncons, span-rest}
-use Rattle.stretches.specs.Stretch.{stretch, Growing, Grown}
+use Rattle.weights.specs.rank_rows.Stretch.{stretch, Growing, Grown}
 use Rattle.weights.specs.Table.{slotOf, Slots}
 use Rattle.weights.specs.Enter.{valueRows, Sound, Place, Entering, Entered}
 use Rattle.weights.specs.laws.Seek.{either, slot-below, slot-owner, apart, slot-kept, slot-own}

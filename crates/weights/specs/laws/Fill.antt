@@ -12,8 +12,8 @@ use native.Mathlib.Omega.{arith}
 use lib.ListN.{length, getD}
 use Rattle.linear.specs.Basis.{basisOf}
 use Rattle.linear.specs.Word.{word}
-use Rattle.children.specs.Residues.{withResidue}
-use Rattle.children.specs.laws.Blank.{zero-at, zero-length}
+use Rattle.residues.specs.children.Residues.{withResidue}
+use Rattle.residues.specs.children.laws.Blank.{zero-at, zero-length}
 use Rattle.weights.specs.Table.{Blank, Filled}
 use Rattle.weights.specs.Enter.{Sizes, Sound, From, Place, Entering, Entered}
 use Rattle.weights.specs.laws.Seek.{either}

@@ -19,7 +19,7 @@ use lib.ListN.{length, getD, set, List·getD-eq-default}
 use lib.Seq.{getD-set-same, getD-set-other}
 use borrow.Author.Tests.{eq-eqb, ne-eqb}
 use Rattle.linear.specs.Word.{isZero}
-use Rattle.hash.specs.Bucket.{bucketOf}
+use Rattle.weights.specs.slots.Bucket.{bucketOf}
 use Rattle.weights.specs.Table.{slotFrom, slotOf, weightAt, weightOf}
 
 -- an index is the one that was set, or another

@@ -1,0 +1,3 @@
+-- catalogue: its parts.
+mod Going
+mod Root

@@ -1,0 +1,373 @@
+-- `walk::walk` meets its contract, by recursion on the number of missing dimensions: the records so far are written, and those to come, written,
+-- give the final state. Assumes nothing.
+use native.Mathlib.Omega.{arith}
+use mathlib.Core.Path.{_≡_, refl, sym, ap, _∙_}
+use mathlib.Core.Logic.{_≢_}
+use mathlib.Core.Bool.{false}
+use Prim.Native.Nat.{ℕ, _+_, _-_, _<_, _≤_}
+use lib.ListN.{length, getD, replicate, length-replicate}
+use lib.Seq.{length-take-le}
+use borrow.Fn.Kinds.{In}
+use borrow.Fn.PlainCycle.{Measures, is, falls, and}
+use Rattle.bases.specs.Basis.{rowsOf}
+use Rattle.residues.specs.children.laws.Numbers.{as-few, as-many, inside, ends, within, some, falls-one, next-le, one-fits, eight-fits}
+use Rattle.residues.specs.children.Residues.{known}
+use Rattle.residues.specs.children.laws.Child.{residues-length}
+use Rattle.records.specs.Records.{run}
+use Rattle.records.specs.Keep.{chainOf, stateOf, Tidy}
+use Rattle.records.specs.declared.Chain.{Chain}
+use Rattle.catalogue.specs.walk.Walk.{search}
+use Rattle.catalogue.specs.walk.laws.Search.{leaf-yes, leaf-no}
+use Rattle.catalogue.proofs.Going.{Going, going-next, going-full, going-end, node-down, going-down}
+use Rattle.catalogue.proofs.walk.walk.Reads as walk
+use Rattle.catalogue.proofs.walk.walk.Kinds as walk-kinds
+use Rattle.catalogue.proofs.walk.+walk.Lts-walk as walk-lts
+use Rattle.bases.proofs.Basis.insert.Reads as insert-reads
+use Rattle.residues.proofs.child.Reads as child-reads
+use Rattle.sieve.proofs.marked_numbers.next_marked.Reads as next-marked-reads
+use Rattle.sieve.proofs.sieve.Reads as sieve-reads
+use Rattle.residues.proofs.spanned.Reads as spanned-reads
+use Rattle.records.proofs.keep.Reads as keep-reads
+use Rattle.records.proofs.push.Reads as push-reads
+use Rattle.catalogue.proofs.walk.+walk.{statement}
+use Rattle.catalogue.proofs.walk.+walk.Tie.{close}
+
+abbrev μ-walk : Measures 4 walk-kinds.ps ℕ
+μ-walk κs a = a .1 .1 .1 .0
+
+abbrev walk-at : ℕ → In 4 walk-kinds.ps
+walk-at t = and 4 walk-kinds.ps (is 4 walk-kinds.ps μ-walk t) walk.Pre
+
+abbrev walk-below : ℕ → In 4 walk-kinds.ps
+walk-below t = and 4 walk-kinds.ps (falls 4 walk-kinds.ps _<_ μ-walk t) walk.Pre
+
+-- what the calls ask and promise; the walk's own call is for fewer missing dimensions
+abbrev claims : ℕ → walk-lts.Claims
+claims t = (
+  spanned-reads.Asked,
+  spanned-reads.Learnt,
+  keep-reads.Asked,
+  keep-reads.Learnt,
+  sieve-reads.Asked,
+  sieve-reads.Learnt,
+  next-marked-reads.Asked,
+  next-marked-reads.Learnt,
+  child-reads.Asked,
+  child-reads.Learnt,
+  insert-reads.Asked,
+  insert-reads.Learnt,
+  push-reads.Asked,
+  push-reads.Learnt,
+  walk-below t,
+  walk.Post,
+)
+
+abbrev walk-Inv-loop : walk-lts.InvT-loop
+walk-Inv-loop gens h start missing k b c limit stretches₀ out₀ n marks j₀ mine₀ u₀ stretches out j mine u =
+    (start ≤ j) × Going gens k (rowsOf b) (chainOf c) missing limit (run limit (stateOf u₀ out₀) (search gens k (rowsOf b) (chainOf c) (length gens - start) start missing)) (length out₀) j u out mine
+    × (length stretches ≡ 32768) × (j < length gens → getD marks j 0 ≢ 0)
+
+abbrev walk-μ-loop : walk-lts.MeasureT-loop
+walk-μ-loop gens h start missing k b c limit stretches₀ out₀ n marks j₀ mine₀ u₀ stretches out j mine u = length gens - j
+
+-- facts on numbers
+le-refl : {a : ℕ} → a ≤ a
+le-refl = omega arith
+
+tidy-none : {c : Chain} {m : ℕ} → Tidy c m → Tidy c 0
+tidy-none T = record { whole = T .whole; room = omega (arith, T .room) }
+
+tidy-one : {c : Chain} {m : ℕ} → Tidy c m → m ≢ 0 → Tidy c 1
+tidy-one T n = record { whole = T .whole; room = omega (arith, T .room) }
+
+few-missing : {c : Chain} {m : ℕ} → Tidy c m → m ≤ 8
+few-missing T = omega (arith, T .room)
+
+later : {a j : ℕ} → a ≤ j → a ≤ j + 1
+later l = omega arith
+
+after : {a j r : ℕ} → a ≤ j → j + 1 ≤ r → a ≤ r
+after l k = omega arith
+
+fewer : {j r n : ℕ} → j < n → j + 1 ≤ r → r ≤ n → n - r < n - j
+fewer a b c = omega arith
+
+mine-all : length (replicate {A = ℕ} 4096 0) ≡ 4096
+mine-all = length-replicate {A = ℕ} 4096 0
+
+walk-spanned-requires : (t : ℕ) → walk-lts.Need-spanned-requires (claims t) (walk-at t) walk.Post walk-Inv-loop walk-μ-loop
+walk-spanned-requires t c κs =
+    let a = c .before .before .before .before .before .args in
+    let N = c .before .before .before .before .before .pre .1 .0 in
+    let m = a .gens .now in
+    let h = a .h .now in
+    let eh : length h ≡ length m = ap length (N .left) ∙ residues-length m (rowsOf (a .b)) in
+    sym eh
+
+walk-keep-requires : (t : ℕ) → walk-lts.Need-keep-requires (claims t) (walk-at t) walk.Post walk-Inv-loop walk-μ-loop
+walk-keep-requires t c κs =
+    let N = c .before .before .before .before .before .before .before .before .pre .1 .0 in
+    record { valid = N .valid; tidy = tidy-none (N .tidy); sane = N .sane }
+
+walk-same-length : (t : ℕ) → walk-lts.Need-same-length (claims t) (walk-at t) walk.Post walk-Inv-loop walk-μ-loop
+walk-same-length t c = c .before .before .keep .kept .1 .1 .1 .1 .0
+
+walk-returns : (t : ℕ) → walk-lts.Need-returns (claims t) (walk-at t) walk.Post walk-Inv-loop walk-μ-loop
+walk-returns t c =
+    let a = c .before .before .before .before .before .before .before .before .before .before .before .args in
+    let N = c .before .before .before .before .before .before .before .before .before .before .before .pre .1 .0 in
+    let m = a .gens .now in
+    let h = a .h .now in
+    (leaf-yes m (a .k) (rowsOf (a .b)) (chainOf (a .c)) h (length m - a .start) (a .start) (a .missing) (a .limit)
+    (stateOf (a .t) (a .out .now)) (c .before .before .before .before .before .spanned .result) (c .before .before .before .before .before .before .if1 .taken) (N .left) (c .before .before .before .before .before .spanned .ensures)
+    (c .before .before .before .before .if2 .taken) _ (c .before .before .keep .ensures))
+
+walk-returns-2 : (t : ℕ) → walk-lts.Need-returns-2 (claims t) (walk-at t) walk.Post walk-Inv-loop walk-μ-loop
+walk-returns-2 t c =
+    let a = c .before .before .before .before .before .before .before .args in
+    let N = c .before .before .before .before .before .before .before .pre .1 .0 in
+    let m = a .gens .now in
+    let h = a .h .now in
+    (leaf-no m (a .k) (rowsOf (a .b)) (chainOf (a .c)) h (length m - a .start) (a .start) (a .missing) (a .limit)
+    (stateOf (a .t) (a .out .now)) (c .before .spanned .result) (c .before .before .if1 .taken) (N .left) (c .before .spanned .ensures) (c .if2 .left))
+
+walk-slice-aggregate-sieve : (t : ℕ) → walk-lts.Need-slice-aggregate-sieve (claims t) (walk-at t) walk.Post walk-Inv-loop walk-μ-loop
+walk-slice-aggregate-sieve t c = refl
+
+walk-sieve-requires : (t : ℕ) → walk-lts.Need-sieve-requires (claims t) (walk-at t) walk.Post walk-Inv-loop walk-μ-loop
+walk-sieve-requires t c κs =
+    let a = c .before .before .before .before .before .before .before .args in
+    let N = c .before .before .before .before .before .before .before .pre .1 .0 in
+    let m = a .gens .now in
+    let h = a .h .now in
+    let eh : length h ≡ length m = ap length (N .left) ∙ residues-length m (rowsOf (a .b)) in
+    record {
+      alike = sym eh;
+      few = as-few eh (N .small);
+      begin = as-many eh (N .begin);
+      some = c .before .before .if1 .left;
+      most = few-missing (N .tidy);
+      rows-all = c .before .before .before .before .before .before .before .pre .1 .1;
+      blank = refl;
+    }
+
+walk-slice-aggregate-next-marked : (t : ℕ) → walk-lts.Need-slice-aggregate-next-marked (claims t) (walk-at t) walk.Post walk-Inv-loop walk-μ-loop
+walk-slice-aggregate-next-marked t c = sym (c .before .before .before .before .sieve .ensures .whole)
+
+walk-next-marked-requires : (t : ℕ) → walk-lts.Need-next-marked-requires (claims t) (walk-at t) walk.Post walk-Inv-loop walk-μ-loop
+walk-next-marked-requires t c κs = let N = c .before .before .before .before .before .before .before .before .before .before .before .before .pre .1 .0 in (N .begin, within (N .small) (c .before .before .before .before .sieve .ensures .whole))
+
+walk-same-length-2 : (t : ℕ) → walk-lts.Need-same-length-2 (claims t) (walk-at t) walk.Post walk-Inv-loop walk-μ-loop
+walk-same-length-2 t c = c .before .before .before .before .before .before .sieve .kept .1 .1 .1 .1 .1 .0
+
+walk-returns-3 : (t : ℕ) → walk-lts.Need-returns-3 (claims t) (walk-at t) walk.Post walk-Inv-loop walk-μ-loop
+walk-returns-3 t c =
+    let a = c .before .before .before .before .before .before .before .before .before .before .before .before .before .before .args in
+    let N = c .before .before .before .before .before .before .before .before .before .before .before .before .before .before .pre .1 .0 in
+    let m = a .gens .now in
+    let h = a .h .now in
+    let I = going-next m (a .k) (a .b) (a .c) (a .missing) (a .limit) (run (a .limit) (stateOf (a .t) (a .out .now)) (search m (a .k) (rowsOf (a .b)) (chainOf (a .c)) (length m - a .start) (a .start) (a .missing))) (length
+    (a .out .now)) h (N .left) (N .valid) (N .tidy) (c .before .before .before .before .before .before .before .before .before .if1 .left) (a .t) (a .out .now) (replicate 4096 0) (a .start)
+    (c .before .before .before .before .before .before .sieve .last .1 .1 .1 .1 .1 .1 .0) (c .before .before .before .before .before .before .sieve .ensures) (a .start) (c .before .next-marked .result) le-refl
+    (c .before .next-marked .ensures) (record { within = N .begin; rest = refl; sane = N .sane; same = refl; whole = mine-all }) in
+    going-end m (a .k) (a .b) (a .c) (a .missing) (a .limit) (run (a .limit) (stateOf (a .t) (a .out .now)) (search m (a .k) (rowsOf (a .b)) (chainOf (a .c)) (length m - a .start) (a .start) (a .missing))) (length (a .out .now)) h
+    (N .left) (N .valid) (N .tidy) (c .before .before .before .before .before .before .before .before .before .if1 .left) (c .before .next-marked .result) (a .t) (a .out .now) (replicate 4096 0) I (ends (c .if3 .taken))
+
+walk-loop-holds : (t : ℕ) → walk-lts.Need-loop-holds (claims t) (walk-at t) walk.Post walk-Inv-loop walk-μ-loop
+walk-loop-holds t c =
+    let a = c .before .before .before .before .before .before .before .before .before .before .before .before .before .before .args in
+    let S = c .before .before .before .before .before .before .sieve in
+    let N = c .before .before .before .before .before .before .before .before .before .before .before .before .before .before .pre .1 .0 in
+    let m = a .gens .now in
+    let h = a .h .now in (
+      c .before .next-marked .ensures .low,
+      going-next m (a .k) (a .b) (a .c) (a .missing) (a .limit) (run (a .limit) (stateOf (a .t) (a .out .now)) (search m (a .k) (rowsOf (a .b)) (chainOf (a .c)) (length m - a .start) (a .start) (a .missing))) (length (a .out .now)) h
+          (N .left) (N .valid) (N .tidy) (c .before .before .before .before .before .before .before .before .before .if1 .left) (a .t) (a .out .now) (replicate 4096 0) (a .start) (S .last .1 .1 .1 .1 .1 .1 .0) (S .ensures) (a .start)
+          (c .before .next-marked .result) le-refl (c .before .next-marked .ensures) (record { within = N .begin; rest = refl; sane = N .sane; same = refl; whole = mine-all }),
+      S .kept .1 .1 .1 .1 .1 .0 ∙ c .before .before .before .before .before .before .before .before .before .before .before .before .before .before .pre .1 .1,
+      c .before .next-marked .ensures .marked,
+    )
+
+walk-same-length-3 : (t : ℕ) → walk-lts.Need-same-length-3 (claims t) (walk-at t) walk.Post walk-Inv-loop walk-μ-loop
+walk-same-length-3 t c = c .before .before .before .loop .inv .2 ∙ sym (c .before .before .before .before .before .before .before .before .before .before .before .before .before .before .before .before .before .before .pre .1 .1)
+
+walk-same-length-4 : (t : ℕ) → walk-lts.Need-same-length-4 (claims t) (walk-at t) walk.Post walk-Inv-loop walk-μ-loop
+walk-same-length-4 t c = c .before .before .before .loop .inv .1 .same
+
+walk-returns-4 : (t : ℕ) → walk-lts.Need-returns-4 (claims t) (walk-at t) walk.Post walk-Inv-loop walk-μ-loop
+walk-returns-4 t c =
+    let a = c .before .before .before .before .before .before .before .before .before .before .before .before .before .before .before .before .before .before .args in
+    let N = c .before .before .before .before .before .before .before .before .before .before .before .before .before .before .before .before .before .before .pre .1 .0 in
+    let m = a .gens .now in
+    let h = a .h .now in
+    let l = c .before .before .before .loop in
+    let ne = c .before .before .before .before .before .before .before .before .before .before .before .before .before .if1 .left in
+    going-full m (a .k) (a .b) (a .c) (a .missing) (a .limit) _ _ h (N .left) (N .valid) (N .tidy) ne (l .j) (l .u) (l .out) (l .mine) (l .inv .1) (c .if4 .taken)
+
+walk-mul-x : (t : ℕ) → walk-lts.Need-mul-x (claims t) (walk-at t) walk.Post walk-Inv-loop walk-μ-loop
+walk-mul-x t c = eight-fits (c .before .before .loop-test .taken) (c .before .before .before .before .before .before .before .before .before .before .before .before .before .before .before .before .before .before .pre .1 .0 .small)
+
+walk-shared-slice-read-x : (t : ℕ) → walk-lts.Need-shared-slice-read-x (claims t) (walk-at t) walk.Post walk-Inv-loop walk-μ-loop
+walk-shared-slice-read-x t c =
+    let a = c .before .before .before .before .before .before .before .before .before .before .before .before .before .before .before .before .before .before .before .args in
+    let N = c .before .before .before .before .before .before .before .before .before .before .before .before .before .before .before .before .before .before .before .pre .1 .0 in
+    let m = a .gens .now in
+    let h = a .h .now in
+    let eh : length h ≡ length m = ap length (N .left) ∙ residues-length m (rowsOf (a .b)) in
+    inside eh (c .before .before .before .loop-test .taken)
+
+walk-slice-aggregate-child : (t : ℕ) → walk-lts.Need-slice-aggregate-child (claims t) (walk-at t) walk.Post walk-Inv-loop walk-μ-loop
+walk-slice-aggregate-child t c = sym (c .before .before .before .before .before .loop .inv .1 .whole)
+
+walk-child-requires : (t : ℕ) → walk-lts.Need-child-requires (claims t) (walk-at t) walk.Post walk-Inv-loop walk-μ-loop
+walk-child-requires t c κs =
+    let a = c .before .before .before .before .before .before .before .before .before .before .before .before .before .before .before .before .before .before .before .before .args in
+    let N = c .before .before .before .before .before .before .before .before .before .before .before .before .before .before .before .before .before .before .before .before .pre .1 .0 in
+    let eh : length (a .h .now) ≡ length (a .gens .now) = ap length (N .left) ∙ residues-length (a .gens .now) (rowsOf (a .b)) in
+    (as-few eh (N .small), c .before .before .before .before .before .loop .inv .1 .whole)
+
+walk-array-share-prefix-mine : (t : ℕ) → walk-lts.Need-array-share-prefix-mine (claims t) (walk-at t) walk.Post walk-Inv-loop walk-μ-loop
+walk-array-share-prefix-mine t c = within
+    (c .before .before .before .before .before .before .before .before .before .before .before .before .before .before .before .before .before .before .before .before .before .before .pre .1 .0 .small) (c .before .child .ensures .whole)
+
+walk-slice-aggregate-walk : (t : ℕ) → walk-lts.Need-slice-aggregate-walk (claims t) (walk-at t) walk.Post walk-Inv-loop walk-μ-loop
+walk-slice-aggregate-walk t c = sym (length-take-le (length
+    (c .before .before .before .before .before .before .before .before .before .before .before .before .before .before .before .before .before .before .before .before .before .before .before .args .gens .now))
+    (c .before .before .child .last .1 .1 .0) (within
+    (c .before .before .before .before .before .before .before .before .before .before .before .before .before .before .before .before .before .before .before .before .before .before .before .pre .1 .0 .small)
+    (c .before .before .child .ensures .whole)))
+
+walk-add-walk : (t : ℕ) → walk-lts.Need-add-walk (claims t) (walk-at t) walk.Post walk-Inv-loop walk-μ-loop
+walk-add-walk t c = one-fits (c .before .before .before .before .before .before .before .loop-test .taken)
+    (c .before .before .before .before .before .before .before .before .before .before .before .before .before .before .before .before .before .before .before .before .before .before .before .pre .1 .0 .small)
+
+walk-sub-walk : (t : ℕ) → walk-lts.Need-sub-walk (claims t) (walk-at t) walk.Post walk-Inv-loop walk-μ-loop
+walk-sub-walk t c = some (c .before .before .before .before .before .before .before .before .before .before .before .before .before .before .before .before .before .before .if1 .left)
+
+walk-insert-requires : (t : ℕ) → walk-lts.Need-insert-requires (claims t) (walk-at t) walk.Post walk-Inv-loop walk-μ-loop
+walk-insert-requires t c κs = c .before .before .before .before .before .before .before .before .before .before .before .before .before .before .before .before .before .before .before .before .before .before .before .pre .1 .0 .valid
+
+walk-push-requires : (t : ℕ) → walk-lts.Need-push-requires (claims t) (walk-at t) walk.Post walk-Inv-loop walk-μ-loop
+walk-push-requires t c κs =
+    let N = c .before .before .before .before .before .before .before .before .before .before .before .before .before .before .before .before .before .before .before .before .before .before .before .before .pre .1 .0 in
+    let ne = c .before .before .before .before .before .before .before .before .before .before .before .before .before .before .before .before .before .before .before .if1 .left in
+    tidy-one (N .tidy) ne
+
+walk-walk-requires : (t : ℕ) → walk-lts.Need-walk-requires (claims t) (walk-at t) walk.Post walk-Inv-loop walk-μ-loop
+walk-walk-requires t c κs =
+    let a = c .before .before .before .before .before .before .before .before .before .before .before .before .before .before .before .before .before .before .before .before .before .before .before .before .before .before .before .args in
+    let N = c .before .before .before .before .before .before .before .before .before .before .before .before .before .before .before .before .before .before .before .before .before .before .before .before .before .before .before .pre .1 .0 in
+    let m = a .gens .now in
+    let h = a .h .now in
+    let l = c .before .before .before .before .before .before .before .before .before .before .before .before .loop in
+    let ne = c .before .before .before .before .before .before .before .before .before .before .before .before .before .before .before .before .before .before .before .before .before .before .if1 .left in
+    let g : l .j < length m = c .before .before .before .before .before .before .before .before .before .before .before .loop-test .taken in
+    let e : false ≡ known h (l .j) = c .before .before .before .before .before .before .before .before .before .before .before .before .before .before .before .before .before .before .before .sieve .ensures .judged (l .j)
+    (l .inv .0) g .on (l .inv .3 g) in
+    let d : a .missing ≡ t = c .before .before .before .before .before .before .before .before .before .before .before .before .before .before .before .before .before .before .before .before .before .before .before .before .before .before .before .pre .0 in (
+      falls-one d ne,
+      (
+        node-down m (a .k) (a .b) (a .c) (a .missing) (a .limit) _ _ h (N .left) (N .valid) (N .tidy) ne (l .j) (l .u) (l .out) (l .mine) (l .inv .1) g e (N .small) (c .before .before .before .insert .result)
+            (c .before .before .before .insert .ensures) (c .before .before .push .result) (c .before .before .push .ensures) (c .before .before .before .before .before .before .child .last .1 .1 .0)
+            (c .before .before .before .before .before .before .child .ensures),
+        l .inv .2,
+      ),
+    )
+
+walk-slice-aggregate-next-marked-2 : (t : ℕ) → walk-lts.Need-slice-aggregate-next-marked-2 (claims t) (walk-at t) walk.Post walk-Inv-loop walk-μ-loop
+walk-slice-aggregate-next-marked-2 t c = sym
+    (c .before .before .before .before .before .before .before .before .before .before .before .before .before .before .before .before .before .before .before .before .before .before .before .before .before .sieve .ensures .whole)
+
+walk-add-next-marked : (t : ℕ) → walk-lts.Need-add-next-marked (claims t) (walk-at t) walk.Post walk-Inv-loop walk-μ-loop
+walk-add-next-marked t c = one-fits (c .before .before .before .before .before .before .before .before .before .before .before .before .before .before .before .before .before .loop-test .taken)
+    (c .before .before .before .before .before .before .before .before .before .before .before .before .before .before .before .before .before .before .before .before .before .before .before .before .before .before .before .before .before .before .before .before .before .pre .1 .0 .small)
+
+walk-next-marked-requires-2 : (t : ℕ) → walk-lts.Need-next-marked-requires-2 (claims t) (walk-at t) walk.Post walk-Inv-loop walk-μ-loop
+walk-next-marked-requires-2 t c κs = let N = c .before .before .before .before .before .before .before .before .before .before .before .before .before .before .before .before .before .before .before .before .before .before .before .before .before .before .before .before .before .before .before .before .before .pre .1 .0 in (next-le (c .before .before .before .before .before .before .before .before .before .before .before .before .before .before .before .before .before .loop-test .taken), within (N .small) (c .before .before .before .before .before .before .before .before .before .before .before .before .before .before .before .before .before .before .before .before .before .before .before .before .before .sieve .ensures .whole))
+
+walk-loop-less : (t : ℕ) → walk-lts.Need-loop-less (claims t) (walk-at t) walk.Post walk-Inv-loop walk-μ-loop
+walk-loop-less t c = fewer (c .before .before .before .before .before .before .before .before .before .before .before .before .before .before .before .before .before .before .loop-test .taken) (c .next-marked2 .ensures .low)
+    (c .next-marked2 .ensures .high)
+
+walk-loop-again : (t : ℕ) → walk-lts.Need-loop-again (claims t) (walk-at t) walk.Post walk-Inv-loop walk-μ-loop
+walk-loop-again t c =
+    let a = c .before .before .before .before .before .before .before .before .before .before .before .before .before .before .before .before .before .before .before .before .before .before .before .before .before .before .before .before .before .before .before .before .before .before .args in
+    let K = c .before .before .before .before .before .before .before .before .before .before .before .before .before .child in
+    let W = c .before .before .before .before .before .before .walk in
+    let S = c .before .before .before .before .before .before .before .before .before .before .before .before .before .before .before .before .before .before .before .before .before .before .before .before .before .before .sieve in
+    let N = c .before .before .before .before .before .before .before .before .before .before .before .before .before .before .before .before .before .before .before .before .before .before .before .before .before .before .before .before .before .before .before .before .before .before .pre .1 .0 in
+    let m = a .gens .now in
+    let h = a .h .now in
+    let l = c .before .before .before .before .before .before .before .before .before .before .before .before .before .before .before .before .before .before .before .loop in
+    let ne = c .before .before .before .before .before .before .before .before .before .before .before .before .before .before .before .before .before .before .before .before .before .before .before .before .before .before .before .before .before .if1 .left in
+    let g : l .j < length m = c .before .before .before .before .before .before .before .before .before .before .before .before .before .before .before .before .before .before .loop-test .taken in
+    let e : false ≡ known h (l .j) = S .ensures .judged (l .j) (l .inv .0) g .on (l .inv .3 g) in
+    let I = going-down m (a .k) (a .b) (a .c) (a .missing) (a .limit) (run (a .limit) (stateOf (a .t) (a .out .now)) (search m (a .k) (rowsOf (a .b)) (chainOf (a .c)) (length m - a .start) (a .start) (a .missing))) (length
+    (a .out .now)) h (N .left) (N .valid) (N .tidy) ne (l .j) (l .u) (l .out) (l .mine) (l .inv .1) g e (c .before .before .before .before .before .before .before .before .before .before .insert .result)
+    (c .before .before .before .before .before .before .before .before .before .before .insert .ensures) (c .before .before .before .before .before .before .before .before .before .push .result)
+    (c .before .before .before .before .before .before .before .before .before .push .ensures) (W .result) (W .last .1 .1 .1 .1 .1 .1 .1 .1 .1 .1 .0) (K .last .1 .1 .0)
+    (K .ensures .whole) (W .ensures) in (
+      after (l .inv .0) (c .next-marked2 .ensures .low),
+      going-next m (a .k) (a .b) (a .c) (a .missing) (a .limit) (run (a .limit) (stateOf (a .t) (a .out .now)) (search m (a .k) (rowsOf (a .b)) (chainOf (a .c)) (length m - a .start) (a .start) (a .missing))) (length (a .out .now)) h
+          (N .left) (N .valid) (N .tidy) ne (W .result) (W .last .1 .1 .1 .1 .1 .1 .1 .1 .1 .1 .0) (K .last .1 .1 .0) (a .start) (S .last .1 .1 .1 .1 .1 .1 .0) (S .ensures) (l .j + 1) (c .next-marked2 .result) (later (l .inv .0))
+          (c .next-marked2 .ensures) I,
+      W .kept .1 .1 .1 .1 .1 .1 .1 .1 .1 .0 ∙ l .inv .2,
+      c .next-marked2 .ensures .marked,
+    )
+
+walk-same-length-5 : (t : ℕ) → walk-lts.Need-same-length-5 (claims t) (walk-at t) walk.Post walk-Inv-loop walk-μ-loop
+walk-same-length-5 t c = c .before .loop .inv .2 ∙ sym (c .before .before .before .before .before .before .before .before .before .before .before .before .before .before .before .before .pre .1 .1)
+
+walk-same-length-6 : (t : ℕ) → walk-lts.Need-same-length-6 (claims t) (walk-at t) walk.Post walk-Inv-loop walk-μ-loop
+walk-same-length-6 t c = c .before .loop .inv .1 .same
+
+walk-returns-5 : (t : ℕ) → walk-lts.Need-returns-5 (claims t) (walk-at t) walk.Post walk-Inv-loop walk-μ-loop
+walk-returns-5 t c =
+    let a = c .before .before .before .before .before .before .before .before .before .before .before .before .before .before .before .before .args in
+    let N = c .before .before .before .before .before .before .before .before .before .before .before .before .before .before .before .before .pre .1 .0 in
+    let m = a .gens .now in
+    let h = a .h .now in
+    let l = c .before .loop in
+    let ne = c .before .before .before .before .before .before .before .before .before .before .before .if1 .left in
+    going-end m (a .k) (a .b) (a .c) (a .missing) (a .limit) _ _ h (N .left) (N .valid) (N .tidy) ne (l .j) (l .u) (l .out) (l .mine) (l .inv .1) (c .loop-test .left)
+
+pub +walk-spec : {M : Type 1} → statement M
++walk-spec = close μ-walk λ t. walk-lts.spec (claims t)
+    (walk-at t)
+    walk.Post
+    walk-Inv-loop
+    walk-μ-loop
+    (walk-spanned-requires t)
+    (walk-keep-requires t)
+    (walk-same-length t)
+    (walk-returns t)
+    (walk-returns-2 t)
+    (walk-slice-aggregate-sieve t)
+    (walk-sieve-requires t)
+    (walk-slice-aggregate-next-marked t)
+    (walk-next-marked-requires t)
+    (walk-same-length-2 t)
+    (walk-returns-3 t)
+    (walk-loop-holds t)
+    (walk-same-length-3 t)
+    (walk-same-length-4 t)
+    (walk-returns-4 t)
+    (walk-mul-x t)
+    (walk-shared-slice-read-x t)
+    (walk-slice-aggregate-child t)
+    (walk-child-requires t)
+    (walk-array-share-prefix-mine t)
+    (walk-slice-aggregate-walk t)
+    (walk-add-walk t)
+    (walk-sub-walk t)
+    (walk-insert-requires t)
+    (walk-push-requires t)
+    (walk-walk-requires t)
+    (walk-slice-aggregate-next-marked-2 t)
+    (walk-add-next-marked t)
+    (walk-next-marked-requires-2 t)
+    (walk-loop-less t)
+    (walk-loop-again t)
+    (walk-same-length-5 t)
+    (walk-same-length-6 t)
+    (walk-returns-5 t)

@@ -1,0 +1,5 @@
+-- Catalogue on numbers.
+pub mod Catalogue
+pub mod laws
+pub mod walk
+pub mod listing

@@ -1,0 +1,46 @@
+-- What a listing of the entries says, and what it writes.
+--   recordLength targets k == how many words the record of an entry for k has
+--   records gens targets k == the records of all entries for k, in order
+--   flat rs                == the words of records, one after the other
+--   fitting n c w          == how many records of n words, out of c, fit into w words
+--   Asked                  == what is asked of the generators and of k
+--   Listed                 == the promise: the dimension of the targets, the number of entries up to the limit, how many are shown, and the buffer's content
+-- The entries are those of the catalogue: linear's `Theorems` shows that none is missing and none comes twice. With the limit 2 ^ 64 - 1 all are counted: `found-all`
+-- (laws/Listing). Assumes nothing.
+use mathlib.Core.Path.{_≡_}
+use mathlib.Core.List.{List, [], _∷_, _++_, map}
+use Prim.Native.Nat.{ℕ, zero, suc, _+_, _-_, _*_, _/_, _≤_, min}
+use lib.ListN.{length, take, drop}
+use Rattle.linear.specs.Basis.{dim}
+use Rattle.linear.specs.Entry.{entries, space}
+use Rattle.linear.specs.Word.{word}
+use Rattle.catalogue.specs.declared.listing.Listing.{Listing}
+
+-- Document 01: "Each is recorded as the extension ascending, then the k rows of its reduced basis".
+--   | extension: k − ℓ numbers | basis: k rows |
+unfoldable pub records : List ℕ → List ℕ → ℕ → List (List ℕ)
+records gens targets k = map (λ es. es ++ space word gens targets es) (entries word gens targets k)
+
+-- Document 01: "the record's length, here 2k − ℓ".
+abbrev pub recordLength : List ℕ → ℕ → ℕ
+recordLength targets k = (k - dim word targets) + k
+
+unfoldable pub flat : List (List ℕ) → List ℕ
+flat [] = []
+flat (r ∷ rs) = r ++ flat rs
+
+-- Document 01: "Shown is the smaller of found and w divided by the record's length .., rounded down. A record of length 0 needs no room: shown is then found."
+unfoldable pub fitting : ℕ → ℕ → ℕ → ℕ
+fitting zero c w = c
+fitting (suc n) c w = min c (w / suc n)
+
+pub record Asked (gens targets : List ℕ) (k : ℕ) : Type 0 where
+  pub small : length gens ≤ 4095
+  pub near : k ≤ dim word targets + 6
+
+-- Document 01: "The first shown records fill the buffer from its start and every later word keeps its value."
+pub record Listed (gens targets : List ℕ) (k limit : ℕ) (before after : List ℕ) (r : Listing) : Type 0 where
+  pub ell : r .ell ≡ dim word targets
+  pub found : r .found ≡ min limit (length (entries word gens targets k))
+  pub shown : r .shown ≡ fitting (recordLength targets k) (r .found) (length before)
+  pub buffer : after ≡ flat (take (r .shown) (records gens targets k)) ++ drop (r .shown * recordLength targets k) before

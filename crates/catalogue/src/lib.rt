@@ -1,0 +1,51 @@
+// Catalogue on numbers.
+ghost use mathlib.Core.Path.{_≡_};
+ghost use Prim.Native.Nat.{_≤_};
+ghost use lib.ListN.{length};
+ghost use Rattle.catalogue.specs.Catalogue.{catalogue, seenCatalogue, lentCatalogue};
+ghost use Rattle.catalogue.specs.laws.Replies.{Given};
+use problems::Posed;
+
+pub mod listing;
+pub mod walk;
+
+// What Catalogue says: a refusal's number, or the targets' dimension, how many entries there are and how many are shown.
+pub enum Catalogued {
+    Refused(u64),
+    Entries(usize, u64, usize),
+}
+
+// The entries for `k` of a problem whose generators and targets are made; refusal 8.
+fn list_problem(gens: &[u64], targets: &[u64], k: u64, out: &mut [u64]) -> Catalogued
+    requires { ⌜ length (now gens) ≤ 4095 ⌝ }
+    ensures { λ r. ⌜ Given (now (gens .entry)) (now (targets .entry)) k (now (out .entry)) r (now (out .exit)) ⌝ }
+{
+    let ell = bases::basis_of(targets).len;
+    if k > ell as u64 + 6 {
+        return Catalogued::Refused(8);
+    }
+    let l = listing::list_entries(gens, targets, k as usize, 18446744073709551615, out);
+    Catalogued::Entries(l.ell, l.found, l.shown)
+}
+
+// The entries for `k` of the problem of the kind with that number and its sizes; `gs` and `ts` are the generators and targets of a list. The records that
+// fit go to `out`, from its start.
+pub fn catalogue(
+    number: u64,
+    p: u64,
+    q: u64,
+    r: u64,
+    k: u64,
+    gs: &[u64],
+    ts: &[u64],
+    out: &mut [u64],
+) -> Catalogued
+    ensures { λ x. ⌜ (catalogue number p q r k (now (gs .entry)) (now (ts .entry)) (now (out .entry)) ≡ seenCatalogue x (now (out .exit))) × (now (out .exit) ≡ lentCatalogue (catalogue number p q r k (now (gs .entry)) (now (ts .entry)) (now (out .entry))) (now (out .entry))) ⌝ }
+{
+    let mut g = [0u64; 4095];
+    let mut t = [0u64; 64];
+    match problems::pose(number, p, q, r, gs, ts, &gs[..0], &mut g, &mut t) {
+        Posed::Refused(e) => Catalogued::Refused(e),
+        Posed::Are(n, u) => list_problem(&g[..n], &t[..u], k, out),
+    }
+}

@@ -1,0 +1,68 @@
+// The walk over the spaces that the targets and some generators span: it finds every entry, each once, in order.
+use bases::Basis;
+use records::Chain;
+use records::Tally;
+ghost use mathlib.Core.Path.{_≡_};
+ghost use Prim.Native.Nat.{_-_};
+ghost use lib.ListN.{length};
+ghost use Rattle.bases.specs.Basis.{rowsOf};
+ghost use Rattle.records.specs.Records.{run};
+ghost use Rattle.records.specs.Keep.{chainOf, stateOf};
+ghost use Rattle.catalogue.specs.walk.Walk.{search, Node};
+
+// Goes on from the space of `b`, reached with the numbers of `c`, by `missing` numbers from `start` on. `h` holds the residues of the generators. What the lent
+// `stretches` hold plays no part.
+pub fn walk(
+    gens: &[u64],
+    h: &[u64],
+    start: usize,
+    missing: usize,
+    k: usize,
+    b: Basis,
+    c: Chain,
+    t: Tally,
+    limit: u64,
+    stretches: &mut [u64],
+    out: &mut [u64],
+) -> Tally
+    requires { ⌜ Node (now gens) (now h) start missing b c t limit (now out) × (length (now stretches) ≡ 32768) ⌝ }
+    ensures { λ r. ⌜ stateOf r (now (out .exit)) ≡ run limit (stateOf t (now (out .entry))) (search (now (gens .entry)) k (rowsOf b) (chainOf c) (length (now (gens .entry)) - start) start missing) ⌝ }
+{
+    if missing == 0 {
+        if residues::spanned(gens, h, k) {
+            return records::keep(b, c, t, limit, out);
+        }
+        return t;
+    }
+    let n = gens.len();
+    let mut marks = [0u8; 4096];
+    sieve::sieve(gens, h, start, k, missing, stretches, &mut marks);
+    let mut j = sieve::marked_numbers::next_marked(&marks, start, n);
+    if j == n {
+        return t;
+    }
+    let mut mine = [0u64; 4096];
+    let mut u = t;
+    while j < n {
+        if u.found == limit {
+            return u;
+        }
+        let x = h[j];
+        residues::child(h, x, &mut mine);
+        u = walk(
+            gens,
+            &mine[..n],
+            j + 1,
+            missing - 1,
+            k,
+            b.insert(x),
+            records::push(c, j),
+            u,
+            limit,
+            stretches,
+            out,
+        );
+        j = sieve::marked_numbers::next_marked(&marks, j + 1, n);
+    }
+    u
+}

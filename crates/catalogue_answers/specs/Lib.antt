@@ -1,3 +1,0 @@
--- A problem's Catalogue as text.
-pub mod CatalogueAnswers
-pub mod laws

@@ -1,4 +1,0 @@
--- The reply of Check as text.
-pub mod CheckAnswers
-pub mod Ready
-pub mod laws

@@ -1,1 +1,0 @@
-// Residues of the generators at a space, and children that lead nowhere: theory, in specs/.

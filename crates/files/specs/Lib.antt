@@ -1,6 +1,0 @@
--- The file of a formula, read.
-pub mod Outcome
-pub mod Lent
-pub mod Sound
-pub mod AcceptedSound
-pub mod laws

@@ -1,0 +1,83 @@
+-- `choice::first_formula` meets its contract: what is chosen among the generators looked at, and the rest as the greedy choice goes on. Assumes nothing.
+use native.Mathlib.Omega.{arith}
+use mathlib.Core.Path.{refl, sym, _∙_}
+use Prim.Native.Nat.{_-_}
+use borrow.Author.Needs.{needs}
+use Rattle.first_formula.specs.laws.Choosing.{Choosing, choosing-start, choosing-past, choosing-room, choosing-take, choosing-end}
+use Rattle.first_formula.proofs.first_formula.Statement.{statement}
+use Rattle.first_formula.proofs.first_formula.Tie as tie
+use Rattle.first_formula.proofs.first_formula.Reads as reads
+use Rattle.first_formula.proofs.first_formula.Lts as lts
+use Rattle.bases.proofs.Basis.empty.Reads as empty-reads
+use Rattle.bases.proofs.Basis.insert.Reads as insert-reads
+use Rattle.first_formula.proofs.add.Reads as add-reads
+use Rattle.bases.proofs.spans.is_wanted.Reads as is-wanted-reads
+
+abbrev Inv-loop : tie.InvT-loop
+Inv-loop gens w n b₀ c₀ i₀ b c i = Choosing gens w b c i
+
+abbrev μ-loop : tie.MeasureT-loop
+μ-loop gens w n b₀ c₀ i₀ b c i = n - i
+
+empty-requires : tie.Need-empty-requires Inv-loop μ-loop
+empty-requires c κs = search needs
+
+loop-holds : tie.Need-loop-holds Inv-loop μ-loop
+loop-holds c = choosing-start (c .before .before .before .args .gens .now) (c .before .before .before .args .w .now) _ _ (c .empty .ensures) (record { numbers = refl; forms = refl; room = omega arith }) refl
+
+mul-g : tie.Need-mul-g Inv-loop μ-loop
+mul-g c = omega arith
+
+shared-slice-read-g : tie.Need-shared-slice-read-g Inv-loop μ-loop
+shared-slice-read-g c = omega arith
+
+is-wanted-requires : tie.Need-is-wanted-requires Inv-loop μ-loop
+is-wanted-requires c κs = c .before .before .loop .inv .valid
+
+add-requires : tie.Need-add-requires Inv-loop μ-loop
+add-requires c κs = (c .before .before .before .before .loop .inv .chose .whole, choosing-room (c .before .before .before .before .before .before .before .before .args .gens .now) (c .before .before .before .before .before .before .before .before .args .w .now) (c .before .before .before .before .loop .b) (c .before .before .before .before .loop .c) (c .before .before .before .before .loop .i) (c .before .before .before .before .loop .inv) (c .before .before .before .loop-test .taken) (sym (c .before .is-wanted .ensures) ∙ c .if1 .taken) (c .before .before .before .before .before .before .before .before .pre))
+
+insert-requires : tie.Need-insert-requires Inv-loop μ-loop
+insert-requires c κs = c .before .before .before .before .before .loop .inv .valid
+
+add-i : tie.Need-add-i Inv-loop μ-loop
+add-i c = omega arith
+
+loop-less : tie.Need-loop-less Inv-loop μ-loop
+loop-less c = omega arith
+
+loop-again : tie.Need-loop-again Inv-loop μ-loop
+loop-again c = choosing-take (c .before .before .before .before .before .before .before .before .before .before .args .gens .now) (c .before .before .before .before .before .before .before .before .before .before .args .w .now) (c .before .before .before .before .before .before .loop .b) (c .before .before .before .before .before .before .loop .c) (c .before .before .before .before .before .before .loop .i) (c .before .before .before .before .before .before .loop .inv) (c .before .before .before .before .before .loop-test .taken) (sym (c .before .before .before .is-wanted .ensures) ∙ c .before .before .if1 .taken) _ _ (c .insert .ensures) (c .before .add .ensures)
+
+add-i-2 : tie.Need-add-i-2 Inv-loop μ-loop
+add-i-2 c = omega arith
+
+loop-less-2 : tie.Need-loop-less-2 Inv-loop μ-loop
+loop-less-2 c = omega arith
+
+loop-again-2 : tie.Need-loop-again-2 Inv-loop μ-loop
+loop-again-2 c = choosing-past (c .before .before .before .before .before .before .before .before .args .gens .now) (c .before .before .before .before .before .before .before .before .args .w .now) (c .before .before .before .before .loop .b) (c .before .before .before .before .loop .c) (c .before .before .before .before .loop .i) (c .before .before .before .before .loop .inv) (c .before .before .before .loop-test .taken) (sym (c .before .is-wanted .ensures) ∙ c .if1 .left)
+
+returns : tie.Need-returns Inv-loop μ-loop
+returns c = choosing-end (c .before .before .before .before .before .args .gens .now) (c .before .before .before .before .before .args .w .now) (c .before .loop .b) (c .before .loop .c) (c .before .loop .i) (c .before .loop .inv) (omega arith)
+
+pub first-formula-spec : {M : Type 1} → statement M
+first-formula-spec =
+    tie.close
+    (tie.spec
+    Inv-loop
+    μ-loop
+    empty-requires
+    loop-holds
+    mul-g
+    shared-slice-read-g
+    is-wanted-requires
+    add-requires
+    insert-requires
+    add-i
+    loop-less
+    loop-again
+    add-i-2
+    loop-less-2
+    loop-again-2
+    returns)

@@ -1,0 +1,2 @@
+-- forms: its parts.
+mod Making

@@ -1,4 +1,0 @@
--- Formulae: what Check says.
-pub mod Formula
-pub mod Replies
-pub mod laws

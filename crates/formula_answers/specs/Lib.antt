@@ -1,3 +1,0 @@
--- The formulae of an entry as text.
-pub mod FormulaAnswers
-pub mod laws

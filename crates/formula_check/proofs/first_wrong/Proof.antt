@@ -1,0 +1,66 @@
+-- `formula::first_wrong` meets its contract. Assumes nothing.
+use mathlib.Core.Path.{_≡_, refl, sym, _∙_}
+use Prim.Native.Nat.{_-_, _≤_}
+use lib.ListN.{length, drop}
+use Rattle.formula_check.specs.Formula.{firstWrong}
+use Rattle.formula_check.specs.laws.Loops.{wrong-here, wrong-later, wrong-end}
+use native.Mathlib.Omega.{arith}
+use Rattle.formula_check.proofs.first_wrong.Statement.{statement}
+use Rattle.formula_check.proofs.first_wrong.Tie as tie
+use Rattle.formula_check.proofs.first_wrong.Reads as reads
+use Rattle.formula_check.proofs.first_wrong.Lts as lts
+use Rattle.formula_check.proofs.sums.row_form.Reads as row-form-reads
+use Rattle.maps.proofs.target.Reads as target-reads
+
+abbrev Inv-loop : tie.InvT-loop
+Inv-loop kind p q r n m forms rows t₀ t = (t ≤ length rows) × (firstWrong kind p q r n m forms (drop t rows) t ≡ firstWrong kind p q r n m forms rows 0)
+
+abbrev μ-loop : tie.MeasureT-loop
+μ-loop kind p q r n m forms rows t₀ t = length rows - t
+
+loop-holds : tie.Need-loop-holds Inv-loop μ-loop
+loop-holds c = (omega arith, refl)
+
+mul-row-form : tie.Need-mul-row-form Inv-loop μ-loop
+mul-row-form c = omega arith
+
+shared-slice-read-row-form : tie.Need-shared-slice-read-row-form Inv-loop μ-loop
+shared-slice-read-row-form c = omega arith
+
+row-form-requires : tie.Need-row-form-requires Inv-loop μ-loop
+row-form-requires c κs = c .before .before .before .before .before .pre .few
+
+target-requires : tie.Need-target-requires Inv-loop μ-loop
+target-requires c κs = record { outputs = length (c .before .before .before .before .before .before .args .rows .now); sized = c .before .before .before .before .before .before .pre .sized; asked = omega arith }
+
+returns : tie.Need-returns Inv-loop μ-loop
+returns c = wrong-here (c .before .before .before .before .before .before .before .before .args .kind) (c .before .before .before .before .before .before .before .before .args .p) (c .before .before .before .before .before .before .before .before .args .q) (c .before .before .before .before .before .before .before .before .args .r) (c .before .before .before .before .before .before .before .before .args .n) (c .before .before .before .before .before .before .before .before .args .m) (c .before .before .before .before .before .before .before .before .args .forms .now) (c .before .before .before .before .before .before .before .before .args .rows .now) (c .before .before .before .before .before .loop .t) (firstWrong (c .before .before .before .before .before .before .before .before .args .kind) (c .before .before .before .before .before .before .before .before .args .p) (c .before .before .before .before .before .before .before .before .args .q) (c .before .before .before .before .before .before .before .before .args .r) (c .before .before .before .before .before .before .before .before .args .n) (c .before .before .before .before .before .before .before .before .args .m) (c .before .before .before .before .before .before .before .before .args .forms .now) (c .before .before .before .before .before .before .before .before .args .rows .now) 0) (omega arith) (c .before .before .before .before .before .loop .inv .1) (λ e. c .if1 .taken (c .before .before .row-form .ensures ∙ e ∙ sym (c .before .target .ensures)))
+
+add-t : tie.Need-add-t Inv-loop μ-loop
+add-t c = omega arith
+
+loop-less : tie.Need-loop-less Inv-loop μ-loop
+loop-less c = omega arith
+
+loop-again : tie.Need-loop-again Inv-loop μ-loop
+loop-again c = (omega arith, wrong-later (c .before .before .before .before .before .before .before .before .args .kind) (c .before .before .before .before .before .before .before .before .args .p) (c .before .before .before .before .before .before .before .before .args .q) (c .before .before .before .before .before .before .before .before .args .r) (c .before .before .before .before .before .before .before .before .args .n) (c .before .before .before .before .before .before .before .before .args .m) (c .before .before .before .before .before .before .before .before .args .forms .now) (c .before .before .before .before .before .before .before .before .args .rows .now) (c .before .before .before .before .before .loop .t) (firstWrong (c .before .before .before .before .before .before .before .before .args .kind) (c .before .before .before .before .before .before .before .before .args .p) (c .before .before .before .before .before .before .before .before .args .q) (c .before .before .before .before .before .before .before .before .args .r) (c .before .before .before .before .before .before .before .before .args .n) (c .before .before .before .before .before .before .before .before .args .m) (c .before .before .before .before .before .before .before .before .args .forms .now) (c .before .before .before .before .before .before .before .before .args .rows .now) 0) (omega arith) (c .before .before .before .before .before .loop .inv .1) (sym (c .before .before .row-form .ensures) ∙ c .if1 .left ∙ c .before .target .ensures))
+
+returns-2 : tie.Need-returns-2 Inv-loop μ-loop
+returns-2 c = wrong-end (c .before .before .before .before .args .kind) (c .before .before .before .before .args .p) (c .before .before .before .before .args .q) (c .before .before .before .before .args .r) (c .before .before .before .before .args .n) (c .before .before .before .before .args .m) (c .before .before .before .before .args .forms .now) (c .before .before .before .before .args .rows .now) (c .before .loop .t) (firstWrong (c .before .before .before .before .args .kind) (c .before .before .before .before .args .p) (c .before .before .before .before .args .q) (c .before .before .before .before .args .r) (c .before .before .before .before .args .n) (c .before .before .before .before .args .m) (c .before .before .before .before .args .forms .now) (c .before .before .before .before .args .rows .now) 0) (omega arith) (c .before .loop .inv .1)
+
+pub first-wrong-spec : {M : Type 1} → statement M
+first-wrong-spec =
+    tie.close
+    (tie.spec
+    Inv-loop
+    μ-loop
+    loop-holds
+    mul-row-form
+    shared-slice-read-row-form
+    row-form-requires
+    target-requires
+    returns
+    add-t
+    loop-less
+    loop-again
+    returns-2)

@@ -1,0 +1,44 @@
+-- `formula::verdict_on` meets its contract. Assumes nothing.
+use mathlib.Core.Path.{sym, ap, _∙_}
+use mathlib.Core.List.{List}
+use Prim.Native.Nat.{ℕ}
+use native.Mathlib.Omega.{arith}
+use lib.ListN.{length}
+use lib.Seq.{length-take-le}
+use Rattle.formula_check.specs.Formula.{firstWrong}
+use borrow.Author.Needs.{needs}
+use Rattle.formula_check.proofs.verdict_on.Statement.{statement}
+use Rattle.formula_check.proofs.verdict_on.Tie as tie
+use Rattle.formula_check.proofs.verdict_on.Reads as reads
+use Rattle.formula_check.proofs.verdict_on.Lts as lts
+use Rattle.formula_check.proofs.first_wrong.Reads as first-wrong-reads
+use Rattle.formula_check.proofs.sums.product_forms.Reads as product-forms-reads
+
+product-forms-requires : tie.Need-product-forms-requires
+product-forms-requires c κs = search needs
+
+array-share-prefix-products : tie.Need-array-share-prefix-products
+array-share-prefix-products c = search needs
+
+slice-aggregate-first-wrong : tie.Need-slice-aggregate-first-wrong
+slice-aggregate-first-wrong c = sym (length-take-le (length (c .before .before .before .before .before .before .args .a .now)) (c .before .product-forms .last .1 .1 .1 .1 .0) (let w = c .before .product-forms .ensures .whole in let f = c .before .before .before .before .before .before .pre .few in omega arith))
+
+first-wrong-requires : tie.Need-first-wrong-requires
+first-wrong-requires c κs =
+    record {
+      sized = c .before .before .before .before .before .before .pre .matching .sized;
+      few = (let w = c .before .product-forms .ensures .whole in let f = c .before .before .before .before .before .before .pre .few in let e = length-take-le (length (c .before .before .before .before .before .before .args .a .now)) (c .before .product-forms .last .1 .1 .1 .1 .0) (omega arith) in omega arith);
+    }
+
+returns : tie.Need-returns
+returns c = ap (λ (fs : List ℕ). firstWrong (c .before .before .before .before .before .before .before .args .kind) (c .before .before .before .before .before .before .before .args .p) (c .before .before .before .before .before .before .before .args .q) (c .before .before .before .before .before .before .before .args .r) (c .before .before .before .before .before .before .before .args .n) (c .before .before .before .before .before .before .before .args .m) fs (c .before .before .before .before .before .before .before .args .rows .now) 0) (sym (c .before .before .product-forms .ensures .start)) ∙ c .first-wrong .ensures
+
+pub verdict-on-spec : {M : Type 1} → statement M
+verdict-on-spec =
+    tie.close
+    (tie.spec
+    product-forms-requires
+    array-share-prefix-products
+    slice-aggregate-first-wrong
+    first-wrong-requires
+    returns)

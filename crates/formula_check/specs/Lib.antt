@@ -1,0 +1,7 @@
+-- Formulae: what Check says.
+pub mod Formula
+pub mod Replies
+pub mod laws
+pub mod sums
+pub mod verdicts
+pub mod meaning

@@ -1,0 +1,25 @@
+-- The parts of a formula.
+--   productForms n m xs ys  == the forms of the products, pairs of masks in n and m variables
+--   addersOf xs             == the adders of some masks
+--   Filled xs n out         == the first n words of the buffer are xs, and it has 64
+-- What a row sums: rowForm (forms, Row). Assumes nothing.
+use mathlib.Core.Path.{_≡_}
+use mathlib.Core.List.{List, [], _∷_}
+use Prim.Native.Nat.{ℕ, _+_, _-_}
+use lib.ListN.{length, take}
+use Rattle.forms.specs.products.Product.{productForm}
+use Rattle.forms.specs.Weight.{weight}
+
+unfoldable pub productForms : ℕ → ℕ → List ℕ → List ℕ → List ℕ
+productForms n m [] ys = []
+productForms n m (x ∷ xs) [] = []
+productForms n m (x ∷ xs) (y ∷ ys) = productForm n m x y ∷ productForms n m xs ys
+
+-- ---- adders: "every factor and every nonzero row with w ones needs w − 1; a zero row needs none" (0 − 1 is 0 here)
+unfoldable pub addersOf : List ℕ → ℕ
+addersOf [] = 0
+addersOf (x ∷ xs) = (weight 64 x - 1) + addersOf xs
+
+pub record Filled (xs : List ℕ) (n : ℕ) (out : List ℕ) : Type 0 where
+  pub whole : length out ≡ 64
+  pub start : take n out ≡ xs

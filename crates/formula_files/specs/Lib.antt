@@ -1,0 +1,8 @@
+-- The file of a formula, read.
+pub mod Outcome
+pub mod Lent
+pub mod Sound
+pub mod AcceptedSound
+pub mod laws
+pub mod lines
+pub mod refusals

@@ -1,0 +1,103 @@
+// Reading a formula's file into lent buffers.
+ghost use mathlib.Core.Path.{_≡_};
+ghost use lib.ListN.{length};
+ghost use Rattle.formula_files.specs.Outcome.{isList, outcome};
+ghost use Rattle.formula_files.specs.Lent.{reply, firstOf, secondOf, rowsOf};
+ghost use Rattle.formula_files.specs.laws.Outcome.{Left, Under};
+use kinds::Kind;
+use kinds::Known;
+use kinds::Sized;
+use lines::BodyRead;
+use text::heads::HeadRead;
+
+pub mod lines;
+pub mod refusals;
+
+fn is_list(kind: Kind) -> bool
+    ensures { λ r. ⌜ r ≡ isList kind ⌝ }
+{
+    match kind {
+        Kind::Poly => false,
+        Kind::Short => false,
+        Kind::Circ => false,
+        Kind::Mat => false,
+        Kind::List => true,
+    }
+}
+
+// Reads the lines of a formula under the first two: the refusal, 5 to 9, or 0, and the buffers are filled.
+fn read_under(
+    s: &[u8],
+    k: usize,
+    n: usize,
+    m: usize,
+    t: usize,
+    a: &mut [u64],
+    b: &mut [u64],
+    d: &mut [u64],
+) -> u64
+    ensures { λ e. ⌜ Under k n m t (now (s .entry)) (now (a .entry)) (now (b .entry)) (now (d .entry)) (now (a .exit)) (now (b .exit)) (now (d .exit)) e ⌝ }
+{
+    let BodyRead::Are(wide, zero) = lines::read_body(s, k, n, m, t, a, b, d) else {
+        return 5;
+    };
+    refusals::refusal(wide, zero, k, t, a.len(), b.len(), d.len())
+}
+
+// The reply of reading a formula: a refusal's number, or the kind and the four counts.
+pub enum Read {
+    Refused(u64),
+    Formula(Kind, u64, u64, u64, u64),
+}
+
+// The reply; where it is a formula, the buffers are filled.
+fn read_whole(s: &[u8], a: &mut [u64], b: &mut [u64], d: &mut [u64]) -> Read
+    ensures { λ x. ⌜ (x ≡ reply (outcome (now (s .entry)) (length (now (a .entry))) (length (now (b .entry))) (length (now (d .entry))))) × Left (outcome (now (s .entry)) (length (now (a .entry))) (length (now (b .entry))) (length (now (d .entry)))) (now (a .entry)) (now (b .entry)) (now (d .entry)) (now (a .exit)) (now (b .exit)) (now (d .exit)) ⌝ }
+{
+    let HeadRead::Is(known, p, q, r, k, u) = text::heads::head_lines(s) else {
+        return Read::Refused(1);
+    };
+    let Known::Is(kind) = known else {
+        return Read::Refused(2);
+    };
+    if is_list(kind) {
+        return Read::Refused(2);
+    }
+    let Sized::Are(n, m, t) = kinds::sizes_of(kind, p, q, r) else {
+        return Read::Refused(3);
+    };
+    let e = read_under(
+        &s[u..],
+        k as usize,
+        n as usize,
+        m as usize,
+        t as usize,
+        a,
+        b,
+        d,
+    );
+    if e != 0 {
+        return Read::Refused(e);
+    }
+    Read::Formula(kind, p, q, r, k)
+}
+
+// Reads a formula's file: the first refusal that applies, and all three buffers 0; or the formula, with its factors and rows from the
+// buffers' start.
+pub fn read_formula(s: &[u8], a: &mut [u64], b: &mut [u64], rows: &mut [u64]) -> Read
+    ensures { λ x. ⌜ (x ≡ reply (outcome (now (s .entry)) (length (now (a .entry))) (length (now (b .entry))) (length (now (rows .entry)))))
+        × (now (a .exit) ≡ firstOf (outcome (now (s .entry)) (length (now (a .entry))) (length (now (b .entry))) (length (now (rows .entry)))) (now (a .entry)))
+        × (now (b .exit) ≡ secondOf (outcome (now (s .entry)) (length (now (a .entry))) (length (now (b .entry))) (length (now (rows .entry)))) (now (b .entry)))
+        × (now (rows .exit) ≡ rowsOf (outcome (now (s .entry)) (length (now (a .entry))) (length (now (b .entry))) (length (now (rows .entry)))) (now (rows .entry))) ⌝ }
+{
+    let got = read_whole(s, a, b, rows);
+    match got {
+        Read::Refused(e) => {
+            words::clear(a);
+            words::clear(b);
+            words::clear(rows);
+            Read::Refused(e)
+        }
+        Read::Formula(kind, p, q, r, k) => Read::Formula(kind, p, q, r, k),
+    }
+}

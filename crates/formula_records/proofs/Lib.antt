@@ -1,2 +1,0 @@
--- What the proof of `keep` rests on.
-mod Keeping

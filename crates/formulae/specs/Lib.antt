@@ -1,2 +1,0 @@
--- The formulae of a space of a problem.
-pub mod Replies

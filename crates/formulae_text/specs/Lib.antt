@@ -1,0 +1,4 @@
+-- The formulae of an entry as text.
+pub mod FormulaAnswers
+pub mod laws
+pub mod lines

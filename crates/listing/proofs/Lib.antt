@@ -1,2 +1,0 @@
--- What the proof of the listing rests on.
-mod Root

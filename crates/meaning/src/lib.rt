@@ -1,1 +1,0 @@
-// What Check's reply means, for every choice of input bits: theory only. Start at `specs/Theorems.antt`.

@@ -1,3 +1,0 @@
--- Numbers and names, printed.
-pub mod Print
-pub mod laws

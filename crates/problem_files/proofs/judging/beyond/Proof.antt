@@ -1,0 +1,28 @@
+-- `problem_judging::beyond` meets its contract. Assumes nothing.
+use borrow.Author.Needs.{needs}
+use Rattle.bases.specs.Basis.{based-dim}
+use Rattle.problem_files.specs.judging.laws.Judging.{beyond-catalogue, beyond-rank}
+use Rattle.problem_files.proofs.judging.beyond.Statement.{statement}
+use Rattle.problem_files.proofs.judging.beyond.Tie as tie
+
+enum-told : tie.Need-enum-told
+enum-told c = search needs
+
+basis-of-requires : tie.Need-basis-of-requires
+basis-of-requires c κs = search needs
+
+add-result : tie.Need-add-result
+add-result c = search needs
+
+enum-told-2 : tie.Need-enum-told-2
+enum-told-2 c = search needs
+
+returns : tie.Need-returns
+returns c = beyond-catalogue (c .before .before .before .before .args .purpose) (c .before .before .before .before .args .k) _ (c .before .before .before .before .args .targets .now) (c .before .enum-told .given .1) (based-dim (c .before .before .before .before .args .targets .now) (c .basis-of .result) (c .basis-of .ensures))
+
+returns-2 : tie.Need-returns-2
+returns-2 c = beyond-rank (c .before .before .before .args .purpose) (c .before .before .before .args .k) (c .before .before .before .args .targets .now) (c .enum-told2 .given .1)
+
+pub beyond-spec : {M : Type 1} → statement M
+beyond-spec =
+    tie.close (tie.spec enum-told basis-of-requires add-result enum-told-2 returns returns-2)

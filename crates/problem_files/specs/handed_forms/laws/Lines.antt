@@ -1,0 +1,85 @@
+-- The lines of a problem's file, case by case.
+--   list-many .. map-none  refusals 4 and 5
+--   body-list, body-map    the lines, by the kind
+--   body-few, body-targets at most 4,095 generators and 64 targets are handed in
+-- Assumes nothing.
+use Prim.Native.Nat.{ℕ, _<_, _≤_}
+use mathlib.Core.Path.{_≡_, refl, subst}
+use mathlib.Core.List.{List, []}
+use mathlib.Core.Bool.{Bool, true, false, cond}
+use mathlib.Core.Option.{none, some}
+use native.Mathlib.Omega.{arith}
+use lib.ListN.{length, take}
+use lib.Dec.{ltb}
+use borrow.Author.Tests.{lt-ltb, le-ltb, ltb-false}
+use Rattle.kinds.specs.declared.Kind.{Kind}
+use Rattle.kinds.specs.declared.Kind.the-variants as kind
+use Rattle.kinds.specs.Sizes.{sizes, given}
+use Rattle.kinds.specs.Refusal.{refused, accepted, need}
+use Rattle.kinds.specs.RefusalLaws.{refuse-inv}
+use Rattle.maps.specs.Generators.{countOf}
+use Rattle.problems.specs.Replies.{refusedBy}
+use Rattle.problems.specs.laws.Laying.{list-targets}
+use Rattle.formula_files.specs.lines.laws.Body.{ended-not, ended-yes}
+use Rattle.formula_files.specs.Outcome.{isList}
+use Rattle.problem_files.specs.list_lines.Roles.{listBody}
+use Rattle.problem_files.specs.handed_forms.ProblemLines.{handed, listLines, mapLines, bodyOf, Ready}
+
+pub ready-list : (kd : Kind) (r : ℕ) (g t : List ℕ) → Ready kd r g t → isList kd ≡ true → (4095 ≤ length g) × (r ≤ length t)
+ready-list kd r g t R e =
+    let f : r ≤ 64 = subst (λ (b : Bool). cond b r 0 ≤ 64) e (R .few) in
+    let h = R .targets in
+    (R .generators, omega arith)
+
+-- ---- 4 and 5
+module _ (q r : ℕ) (s : List ℕ) where
+  pub list-many : 4095 < q → listLines q r s ≡ refused 4
+  unfolding listLines
+  list-many h = rw (lt-ltb 4095 q h)
+
+  pub list-taken : (gs ts : List ℕ) (b : Bool) → q ≤ 4095 → listBody q r s ≡ given b (gs, ts) → b ≡ true → listLines q r s ≡ accepted (gs, ts)
+  unfolding listLines
+  list-taken gs ts b h e t = rw (le-ltb 4095 q h, e, t)
+
+  pub list-not : (gs ts : List ℕ) (b : Bool) → q ≤ 4095 → listBody q r s ≡ given b (gs, ts) → b ≡ false → listLines q r s ≡ refused 5
+  unfolding listLines
+  list-not gs ts b h e t = rw (le-ltb 4095 q h, e, t)
+
+module _ (n m : ℕ) (s : List ℕ) where
+  pub map-many : countOf n m ≡ none → mapLines n m s ≡ refused 4
+  unfolding mapLines
+  map-many e = rw e
+
+  pub map-more : (c : ℕ) → countOf n m ≡ some c → 0 < length s → mapLines n m s ≡ refused 5
+  unfolding mapLines
+  map-more c e h = rw (e, ended-not s 0 h)
+
+  pub map-none : (c : ℕ) → countOf n m ≡ some c → length s ≤ 0 → mapLines n m s ≡ accepted ([], [])
+  unfolding mapLines
+  map-none c e h = rw (e, ended-yes s 0 h)
+
+module _ (kd : Kind) (q r n m : ℕ) (s g t : List ℕ) (e : ℕ) where
+  pub body-list : isList kd ≡ true → listLines q r s ≡ refusedBy e (take q g, take r t) → bodyOf kd q r n m s ≡ refusedBy e (take (handed kd q) g, take (handed kd r) t)
+  body-list k h = rw k h
+
+  pub body-map : isList kd ≡ false → mapLines n m s ≡ refusedBy e ([], []) → bodyOf kd q r n m s ≡ refusedBy e (take (handed kd q) g, take (handed kd r) t)
+  body-map k h = rw k h
+
+-- what a list's lines that are read say of its sizes
+list-few : (q r : ℕ) (s : List ℕ) (x : List ℕ × List ℕ) → listLines q r s ≡ accepted x → q ≤ 4095
+unfolding listLines
+list-few q r s x e = ltb-false 4095 q (refuse-inv 4 (ltb 4095 q) (need 5 (listBody q r s) accepted) x e .0)
+
+pub body-few : (kd : Kind) (q r n m : ℕ) (s : List ℕ) (x : List ℕ × List ℕ) → bodyOf kd q r n m s ≡ accepted x → handed kd q ≤ 4095
+body-few kd q r n m s x = go (isList kd)
+  where
+    go : (b : Bool) → cond b (listLines q r s) (mapLines n m s) ≡ accepted x → cond b q 0 ≤ 4095
+    go true e = list-few q r s x e
+    go false e = omega arith
+
+pub body-targets : (kd : Kind) (p q r : ℕ) (z : ℕ × ℕ × ℕ) → sizes kd p q r ≡ some z → handed kd r ≤ 64
+body-targets kind.Poly p q r z e = omega arith
+body-targets kind.Short p q r z e = omega arith
+body-targets kind.Circ p q r z e = omega arith
+body-targets kind.Mat p q r z e = omega arith
+body-targets kind.List p q r z e = list-targets p q r kind.List z refl e .1

@@ -1,2 +1,0 @@
--- What the proof of `product` uses.
-mod Making

@@ -1,0 +1,4 @@
+-- Rank on numbers.
+pub mod Rank
+pub mod laws
+pub mod fewest

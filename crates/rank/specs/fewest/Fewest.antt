@@ -1,0 +1,45 @@
+-- What Rank says of forms, with what it writes.
+--   Ranking            == r with the buffer's content, above, or beyond
+--   ranking gens targets old == what is said of the generators and targets, in a buffer that holds old
+--   seenRanked r after == what the code's answer r says, the buffer holding `after`
+--   lentRanking a old  == the buffer's content at exit: as it was, unless a formula was written
+-- Document 01: "Rank replies r with the first formula of the first entry for r"; refusal 9: "in a Rank, too short for the very formula it would reply".
+-- What `fewest` is and that it is the rank: linear's `Theorems` (rank-formula, rank-exactly, rank-above, rank-beyond). Assumes nothing.
+use mathlib.Core.List.{List}
+use Prim.Native.Nat.{ℕ, _+_}
+use lib.ListN.{length}
+use lib.Dec.{ltb}
+use Rattle.kinds.specs.Refusal.{Answer, refused, accepted, refuse}
+use Rattle.words.specs.Buffers.{filled}
+use Rattle.linear.specs.Formulae as formulae
+use Rattle.linear.specs.Formulae.{Fewest, fewest}
+use Rattle.linear.specs.Word.{word}
+use Rattle.first_formula.specs.Choice.{formulaRecord}
+use Rattle.rank.specs.declared.fewest.Ranked.{Ranked}
+use Rattle.rank.specs.declared.fewest.Ranked.the-variants as ranked
+
+pub data Ranking : Type 0 where
+  is : (r : ℕ) (buffer : List ℕ) → Ranking
+  above : Ranking
+  beyond : Ranking
+
+abbrev pub written : (gens targets old : List ℕ) → Fewest → Answer Ranking
+written gens targets old (formulae.formula es) = refuse 9 (ltb (length old) (length es + length targets)) (accepted (is (length es) (filled (formulaRecord gens targets es) old)))
+written gens targets old formulae.above = accepted above
+written gens targets old formulae.beyond = accepted beyond
+
+unfoldable pub ranking : (gens targets old : List ℕ) → Answer Ranking
+ranking gens targets old = written gens targets old (fewest word gens targets)
+
+-- the answer of the code
+abbrev pub seenRanked : Ranked → List ℕ → Answer Ranking
+seenRanked (ranked.Refused e) after = refused e
+seenRanked (ranked.Is r) after = accepted (is r after)
+seenRanked ranked.Above after = accepted above
+seenRanked ranked.Beyond after = accepted beyond
+
+abbrev pub lentRanking : Answer Ranking → List ℕ → List ℕ
+lentRanking (refused e) old = old
+lentRanking (accepted (is r buffer)) old = buffer
+lentRanking (accepted above) old = old
+lentRanking (accepted beyond) old = old

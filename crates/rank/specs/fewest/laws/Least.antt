@@ -1,0 +1,254 @@
+-- The least number of dimensions with an entry, and its first formula.
+--   Asking     == what `least` asks
+--   Looking    == no number of dimensions below k has an entry
+--   Found      == what `least` says: no entry, or the number of dimensions and the rows of the first entry in its record
+--   Finishing  == w has the rows of the first entry for the least number of dimensions, at most 64
+-- Assumes nothing.
+use mathlib.Core.Path.{_≡_, refl, sym, ap, ap₂, _∙_, subst}
+use mathlib.Core.Logic.{_≢_}
+use mathlib.Core.Bool.{Bool, true, false, not}
+use mathlib.Core.List.{List, [], _∷_, _++_, map, List·Memᴰ, List·Memᴰ·head, append-nil, append-assoc}
+use mathlib.Core.Option.{Option, none, some}
+use Prim.Native.Nat.{ℕ, zero, suc, _+_, _-_, _*_, _/_, _<_, _≤_, min}
+use native.Mathlib.Omega.{arith}
+use native.Mathlib.Nat.{le-div-iff-mul-le, one-mul}
+use lib.ListN.{length, take, drop, length-append, length-map}
+use lib.Seq.{take-append-seam, drop-append-seam, paste}
+use lib.Dec.{ltb}
+use borrow.Author.Tests.{lt-ltb, le-ltb}
+use Rattle.kinds.specs.Refusal.{refused, accepted, refuse}
+use Rattle.words.specs.Buffers.{filled}
+use Rattle.linear.specs.Basis.{basisOf, dim}
+use Rattle.linear.specs.Entry.{inside, Solution, space, entries}
+use Rattle.linear.specs.Select.{anyOf}
+use Rattle.linear.specs.Formulae.{first, orElse, formula, leastFrom, missed, fewest}
+use Rattle.linear.specs.Word.{word}
+use Rattle.linear.specs.laws.Entry.{entries-sound}
+use Rattle.linear.specs.laws.Extension.{extension, extension-length}
+use Rattle.linear.specs.laws.Rank.{solution-within}
+use Rattle.linear.specs.laws.Formulae.{first-some, free}
+use Rattle.linear.specs.laws.Fewest.{least-some, fewest-entry, fewest-none, fewest-missed}
+use Rattle.bases.specs.declared.Basis.{Basis}
+use Rattle.bases.specs.Basis.{rowsOf, Holds, rows-length}
+use Rattle.catalogue.specs.declared.listing.Listing.{Listing}
+use Rattle.catalogue.specs.listing.Listing.{records, recordLength, flat, fitting, Listed}
+use Rattle.catalogue.specs.listing.laws.Listing.{record-length}
+use Rattle.first_formula.specs.declared.Choice.{Choice}
+use Rattle.first_formula.specs.Choice.{numbersOf, formsOf, Chose, recordOf, chose-record, formulaRecord}
+use Rattle.first_formula.specs.laws.Writing.{numbers-length, written-first}
+use Rattle.bases.specs.rows.Rows.{rowOf}
+use Rattle.rank.specs.declared.fewest.Least.{Least as Answered}
+use Rattle.rank.specs.declared.fewest.Least.the-variants as answered
+use Rattle.rank.specs.fewest.Fewest.{is, above, beyond, written, ranking}
+
+module _ (gens targets : List ℕ) where
+  pub record Asking (ell : ℕ) (buffer : List ℕ) : Type 0 where
+    pub small : length gens ≤ 4095
+    pub dims : ell ≡ dim word targets
+    pub narrow : ell ≤ 64
+    pub room : length buffer ≡ 128
+
+  pub record Looking (ell k : ℕ) (buffer : List ℕ) : Type 0 where
+    pub from : ell ≤ k
+    pub upto : k ≤ ell + 7
+    pub room : length buffer ≡ 128
+    pub is : leastFrom word gens targets 7 ell ≡ leastFrom word gens targets (ell + 7 - k) k
+
+  -- the first entry for the least number of dimensions, k, and where its rows stand
+  pub record Here (ell k : ℕ) (buffer : List ℕ) : Type 0 where
+    pub entry : List ℕ
+    pub least : leastFrom word gens targets 7 ell ≡ some entry
+    pub rows : take k (drop (k - ell) buffer) ≡ space word gens targets entry
+    pub from : ell ≤ k
+    pub near : k ≤ ell + 6
+    pub room : length buffer ≡ 128
+
+  abbrev pub Found : ℕ → Answered → List ℕ → Type 0
+  Found ell answered.No buffer = leastFrom word gens targets 7 ell ≡ none
+  Found ell (answered.Is k) buffer = Here ell k buffer
+
+  pub record Finishing (w : List ℕ) : Type 0 where
+    pub entry : List ℕ
+    pub least : leastFrom word gens targets 7 (dim word targets) ≡ some entry
+    pub rows : w ≡ space word gens targets entry
+    pub all : missed word gens targets ≡ false
+    pub few : length (extension word gens [] w) ≤ 64
+
+  -- ---- looking
+  pub looking-start : (ell : ℕ) (buffer : List ℕ) → Asking ell buffer → Looking ell ell buffer
+  looking-start ell buffer A = record { from = omega arith; upto = omega arith; room = A .room; is = ap (λ (n : ℕ). leastFrom word gens targets n ell) (let e : 7 ≡ ell + 7 - ell = omega arith in e) }
+
+  step : (ell k : ℕ) → k < ell + 7 → leastFrom word gens targets (ell + 7 - k) k ≡ orElse (first (entries word gens targets k)) (leastFrom word gens targets (ell + 7 - (k + 1)) (k + 1))
+  unfolding leastFrom
+  step ell k h =
+      ap (λ (n : ℕ). leastFrom word gens targets n k) (let e : ell + 7 - k ≡ suc (ell + 7 - (k + 1)) = omega arith in e)
+      ∙ ap (λ (j : ℕ). orElse (first (entries word gens targets k)) (leastFrom word gens targets (ell + 7 - (k + 1)) j)) (let e : suc k ≡ k + 1 = omega arith in e)
+
+  pub looking-next : (ell k : ℕ) (before after last : List ℕ) (r : Listing) → Looking ell k before → k < ell + 7 → Listed gens targets k 1 before after r → r .found ≡ 0 → length last ≡ length before
+      → Looking ell (k + 1) last
+  looking-next ell k before after last r L h D z m =
+      record {
+        from = (let a = L .from in omega arith);
+        upto = omega arith;
+        room = m ∙ L .room;
+        is = L .is ∙ step ell k h ∙ ap (λ (o : Option (List ℕ)). orElse o (leastFrom word gens targets (ell + 7 - (k + 1)) (k + 1))) (empty (entries word gens targets k) refl);
+      }
+    where
+      empty : (l : List (List ℕ)) → entries word gens targets k ≡ l → first (entries word gens targets k) ≡ none
+      empty [] e = ap first e
+      empty (es ∷ l) e = absurd (let a = D .found in let b = ap length e in omega arith)
+
+  -- the record of the first entry
+  one-fits : (n w : ℕ) → n ≤ w → fitting n 1 w ≡ 1
+  unfolding fitting
+  one-fits zero w h = refl
+  one-fits (suc n) w h = small (w / suc n) (le-div-iff-mul-le (omega arith) .1 (let e : 1 * suc n ≤ w = omega arith in e))
+    where
+      small : (q : ℕ) → 0 < q → min 1 q ≡ 1
+      small q h = omega arith
+
+  pub record FirstEntry (k : ℕ) (before after : List ℕ) : Type 0 where
+    pub entry : List ℕ
+    pub is : first (entries word gens targets k) ≡ some entry
+    pub size : length (space word gens targets entry) ≡ k
+    pub numbers : length entry ≡ k - dim word targets
+    pub buffer : after ≡ (entry ++ space word gens targets entry) ++ drop (recordLength targets k) before
+
+  pub first-entry : (k : ℕ) (before after : List ℕ) (r : Listing) → Listed gens targets k 1 before after r → r .found ≢ 0 → recordLength targets k ≤ length before → FirstEntry k before after
+  first-entry k before after r D n h = go (entries word gens targets k) refl
+    where
+      go : (l : List (List ℕ)) → entries word gens targets k ≡ l → FirstEntry k before after
+      go [] e = absurd (n (let a = D .found in let b = ap length e in omega arith))
+      go (es ∷ l) e =
+          record {
+            entry = es;
+            is = ap first e;
+            size = S .size;
+            numbers = omega (arith, S .size, record-length gens targets k (es ++ space word gens targets es) there, length-append es (space word gens targets es));
+            buffer =
+                D .buffer ∙ ap₂ (λ (x y : ℕ). flat (take x (records gens targets k)) ++ drop y before) one (ap (λ (x : ℕ). x * recordLength targets k) one ∙ one-mul (recordLength targets k))
+                ∙ ap (λ (x : List ℕ). x ++ drop (recordLength targets k) before) head;
+          }
+        where
+          m : List·Memᴰ es (entries word gens targets k)
+          m = subst (List·Memᴰ es) (sym e) (List·Memᴰ·head refl)
+
+          S : Solution word gens targets k (space word gens targets es)
+          S = entries-sound word gens targets k es m
+
+          listed : records gens targets k ≡ (es ++ space word gens targets es) ∷ map (λ es. es ++ space word gens targets es) l
+          listed = unfold records in ap (map (λ es. es ++ space word gens targets es)) e
+
+          there : List·Memᴰ (es ++ space word gens targets es) (records gens targets k)
+          there = subst (List·Memᴰ (es ++ space word gens targets es)) (sym listed) (List·Memᴰ·head refl)
+
+          one : r .shown ≡ 1
+          one = D .shown ∙ ap (λ (c : ℕ). fitting (recordLength targets k) c (length before)) (D .found ∙ (let b = ap length e in let z : min 1 (length (entries word gens targets k)) ≡ 1 = omega arith in z)) ∙ one-fits (recordLength targets k) (length before) h
+
+          head : flat (take 1 (records gens targets k)) ≡ es ++ space word gens targets es
+          head = unfold flat in ap (λ (x : List (List ℕ)). flat (take 1 x)) listed ∙ append-nil (es ++ space word gens targets es)
+
+  pub looking-found : (ell k : ℕ) (before after : List ℕ) (r : Listing) → Looking ell k before → ell ≡ dim word targets → ell ≤ 64 → k < ell + 7 → Listed gens targets k 1 before after r → r .found ≢ 0
+      → length after ≡ length before → Here ell k after
+  looking-found ell k before after r L d w h D n m =
+      record {
+        entry = F .entry;
+        least = L .is ∙ step ell k h ∙ ap (λ (o : Option (List ℕ)). orElse o (leastFrom word gens targets (ell + 7 - (k + 1)) (k + 1))) (F .is);
+        rows = ap (λ (b : List ℕ). take k (drop (k - ell) b)) (F .buffer) ∙ cut (F .entry) (space word gens targets (F .entry)) (drop (recordLength targets k) before) (F .numbers ∙ ap (λ (x : ℕ). k - x) (sym d)) (F .size);
+        from = L .from;
+        near = omega arith;
+        room = m ∙ L .room;
+      }
+    where
+      F : FirstEntry k before after
+      F = first-entry k before after r D n (let a = L .from in let b = L .room in omega arith)
+
+      cut : (es W rest : List ℕ) → length es ≡ k - ell → length W ≡ k → take k (drop (k - ell) ((es ++ W) ++ rest)) ≡ W
+      cut es W rest a b =
+          ap (λ (x : List ℕ). take k (drop (k - ell) x)) (append-assoc es W rest) ∙ ap (λ (x : ℕ). take k (drop x (es ++ (W ++ rest)))) (sym a)
+          ∙ ap (take k) (drop-append-seam es (W ++ rest)) ∙ ap (λ (x : ℕ). take x (W ++ rest)) (sym b) ∙ take-append-seam W rest
+
+  pub looking-none : (ell k : ℕ) (buffer : List ℕ) → Looking ell k buffer → ell + 7 ≤ k → leastFrom word gens targets 7 ell ≡ none
+  looking-none ell k buffer L h = L .is ∙ ap (λ (n : ℕ). leastFrom word gens targets n k) (let e : ell + 7 - k ≡ 0 = omega arith in e) ∙ (unfold leastFrom in refl)
+
+  -- ---- finishing
+  -- at the first entry of the least number of dimensions
+  pub entry-solves : (es : List ℕ) → leastFrom word gens targets 7 (dim word targets) ≡ some es → (k : ℕ) × Solution word gens targets k (space word gens targets es)
+  entry-solves es e =
+      let L = least-some word gens targets 7 (dim word targets) es e in
+      let r = first-some (entries word gens targets (L .dims)) es (L .is) in
+      (L .dims, entries-sound word gens targets (L .dims) es (subst (List·Memᴰ es) (sym (r .1)) (List·Memᴰ·head refl)))
+
+  pub finishing : (ell k : ℕ) (buffer w : List ℕ) (b : Basis) → Here ell k buffer → ell ≡ dim word targets → missed word gens targets ≡ false → Holds (basisOf word gens) b → w ≡ take k (drop (k - ell) buffer)
+      → Finishing w
+  finishing ell k buffer w b H d q B e =
+      record {
+        entry = H .entry;
+        least = l;
+        rows = e ∙ H .rows;
+        all = q;
+        few = subst (λ (x : List ℕ). length (extension word gens [] x) ≤ 64) (sym (e ∙ H .rows)) short;
+      }
+    where
+      l : leastFrom word gens targets 7 (dim word targets) ≡ some (H .entry)
+      l = ap (leastFrom word gens targets 7) (sym d) ∙ H .least
+
+      s : (k : ℕ) × Solution word gens targets k (space word gens targets (H .entry))
+      s = entry-solves (H .entry) l
+
+      short : length (extension word gens [] (space word gens targets (H .entry))) ≤ 64
+      short = unfold dim in
+          let a = extension-length word gens [] (s .0) (space word gens targets (H .entry)) (free word gens targets (s .0) (space word gens targets (H .entry)) (s .1)) in
+          let c = solution-within word gens targets (s .0) (space word gens targets (H .entry)) (s .1) in
+          let n = rows-length b (B .valid) in
+          let g = ap length (B .is) in
+          let r = B .valid .room in
+          omega arith
+
+  module _ (w old : List ℕ) (F : Finishing w) (c : Choice) (C : Chose gens (extension word gens [] w) c) where
+    said : fewest word gens targets ≡ formula (numbersOf c)
+    said =
+        fewest-entry word gens targets (F .entry) (F .all) (F .least) ∙ ap (λ (x : List ℕ). formula (extension word gens [] x)) (sym (F .rows)) ∙ ap formula (sym (C .numbers))
+
+    answer : ranking gens targets old ≡ refuse 9 (ltb (length old) (length (numbersOf c) + length targets)) (accepted (is (length (numbersOf c)) (filled (formulaRecord gens targets (numbersOf c)) old)))
+    answer = unfold ranking in ap (written gens targets old) said
+
+    pub too-short : length old < c .len + length targets → ranking gens targets old ≡ refused 9
+    too-short h =
+        answer
+        ∙ ap (λ (b : Bool). refuse 9 b (accepted (is (length (numbersOf c)) (filled (formulaRecord gens targets (numbersOf c)) old))))
+        (lt-ltb (length old) (length (numbersOf c) + length targets) (let e = numbers-length c (C .whole) in omega arith))
+
+    pub finished : c .len + length targets ≤ length old → (last : List ℕ) → last ≡ paste old 0 (recordOf c targets) (c .len + length targets) → ranking gens targets old ≡ accepted (is (c .len) last)
+    finished h last e =
+        answer
+        ∙ ap (λ (b : Bool). refuse 9 b (accepted (is (length (numbersOf c)) (filled (formulaRecord gens targets (numbersOf c)) old))))
+        (le-ltb (length old) (length (numbersOf c) + length targets) (let e = numbers-length c (C .whole) in omega arith))
+        ∙ ap₂ (λ (n : ℕ) (x : List ℕ). accepted (is n x)) (sym (numbers-length c (C .whole))) (sym (e ∙ written-first (recordOf c targets) old (c .len + length targets) size ∙ ap (λ (x : List ℕ). filled x old) same))
+      where
+        size : c .len + length targets ≡ length (recordOf c targets)
+        size = omega (arith, numbers-length c (C .whole), length-append (numbersOf c) (map (rowOf (formsOf c)) targets), length-map targets (rowOf (formsOf c)))
+
+        same : recordOf c targets ≡ formulaRecord gens targets (numbersOf c)
+        same = chose-record gens (extension word gens [] w) targets c C ∙ ap (formulaRecord gens targets) (sym (C .numbers))
+
+  -- ---- no formula
+  pub says-above : (old : List ℕ) → missed word gens targets ≡ false → leastFrom word gens targets 7 (dim word targets) ≡ none → ranking gens targets old ≡ accepted above
+  says-above old q e = unfold ranking in ap (written gens targets old) (fewest-none word gens targets q e)
+
+  pub says-beyond : (old : List ℕ) → missed word gens targets ≡ true → ranking gens targets old ≡ accepted beyond
+  says-beyond old q = unfold ranking in ap (written gens targets old) (fewest-missed word gens targets q)
+
+  pub missed-is : (t : Bool) (b : Basis) → Holds (basisOf word gens) b → t ≡ anyOf (λ t. not (inside word (rowsOf b) t)) targets → missed word gens targets ≡ t
+  missed-is t b B e = unfold missed in ap (λ (C : List ℕ). anyOf (λ t. not (inside word C t)) targets) (sym (B .is)) ∙ sym e
+
+  -- ---- what `least_entry` said, by its answer
+  pub found-none : (ell : ℕ) (r : Answered) (buffer : List ℕ) → Found ell r buffer → r ≡ answered.No → ell ≡ dim word targets → leastFrom word gens targets 7 (dim word targets) ≡ none
+  found-none ell r buffer F e d = ap (leastFrom word gens targets 7) (sym d) ∙ subst (λ (x : Answered). Found ell x buffer) e F
+
+  pub found-here : (ell : ℕ) (r : Answered) (k : ℕ) (buffer : List ℕ) → Found ell r buffer → r ≡ answered.Is k → Here ell k buffer
+  found-here ell r k buffer F e = subst (λ (x : Answered). Found ell x buffer) e F
+
+-- the part of a slice from d to d + k
+pub part-is : (d k : ℕ) (buffer : List ℕ) → take (d + k - d) (drop d buffer) ≡ take k (drop d buffer)
+part-is d k buffer = ap (λ (n : ℕ). take n (drop d buffer)) (let z : d + k - d ≡ k = omega arith in z)

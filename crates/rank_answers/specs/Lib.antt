@@ -1,3 +1,0 @@
--- A problem's Rank as text.
-pub mod RankAnswers
-pub mod laws

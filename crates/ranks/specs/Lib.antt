@@ -1,3 +1,0 @@
--- Rank on numbers.
-pub mod Rank
-pub mod laws

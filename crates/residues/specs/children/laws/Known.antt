@@ -1,0 +1,144 @@
+-- What a known number is.
+--   known-zero, known-found, known-none   by what stands in the residues
+--   known-ne                              the residue of a number that is not known is not 0
+--   known-yes, known-no                   at a space with these residues: a known number brings in nothing, or what an earlier one does; any other is next
+-- Assumes nothing.
+use mathlib.Core.Path.{_≡_, refl, sym, ap, _∙_}
+use mathlib.Core.Logic.{_≢_, _⊎_, inl, inr}
+use mathlib.Core.Bool.{Bool, true, false, _||_, true≢false, false≢true}
+use mathlib.Core.List.{List, [], _∷_, List·Memᴰ, List·Memᴰ·head, List·Memᴰ·tail, List·Memᴰ·not-nil}
+use Prim.Native.Nat.{ℕ, zero, suc, _<_}
+use native.Mathlib.Omega.{arith}
+use native.Mathlib.Decide.{decLt}
+use lib.ListN.{length, getD, take, length-take, List·getD-eq-default}
+use lib.Seq.{getD-take}
+use lib.Dec.{eqb}
+use borrow.Author.Tests.{eq-eqb, ne-eqb, eqb-true}
+use Rattle.linear.specs.Span.{Span}
+use Rattle.linear.specs.Basis.{reduce, insert, Reduced}
+use Rattle.linear.specs.Select.{anyOf}
+use Rattle.linear.specs.Entry.{generator}
+use Rattle.linear.specs.Walk.{Next}
+use Rattle.linear.specs.Word.{word, scaleW, isZero}
+use Rattle.linear.specs.laws.Reduce.{member}
+use Rattle.linear.specs.laws.Insert.{insert-reduced}
+use Rattle.linear.specs.laws.Select.{anyOf-no, no-anyOf, anyOf-yes}
+use Rattle.linear.specs.laws.Order.{mem-index, mem-getD}
+use Rattle.residues.specs.children.Residues.{residues, known}
+use Rattle.residues.specs.children.laws.Child.{residue-at, reduce-child, clear-zero, zero-yes, zero-no}
+
+isZero-of : (x : ℕ) → x ≢ 0 → isZero x ≡ false
+isZero-of zero n = absurd (n refl)
+isZero-of (suc x) n = refl
+
+any-here : (p : ℕ → Bool) (l : List ℕ) (x : ℕ) → List·Memᴰ x l → p x ≡ true → anyOf p l ≡ true
+unfolding anyOf
+any-here p [] x m e = absurd (List·Memᴰ·not-nil m)
+any-here p (y ∷ l) x m e = go (p y) refl m (λ k. any-here p l x k e)
+  where
+    go : (t : Bool) → p y ≡ t → List·Memᴰ x (y ∷ l) → (List·Memᴰ x l → anyOf p l ≡ true) → t || anyOf p l ≡ true
+    go true q m ih = refl
+    go false q (List·Memᴰ·head d) ih = absurd (false≢true (sym q ∙ ap p (sym d) ∙ e))
+    go false q (List·Memᴰ·tail k) ih = ih k
+
+pub known-zero : (h : List ℕ) (j : ℕ) → getD h j 0 ≡ 0 → true ≡ known h j
+unfolding known
+known-zero h j e = sym (ap (λ (x : ℕ). isZero x || anyOf (eqb (getD h j 0)) (take j h)) e)
+
+pub known-found : (h : List ℕ) (j i : ℕ) → getD h j 0 ≢ 0 → i < j → j < length h → getD h i 0 ≡ getD h j 0 → true ≡ known h j
+unfolding known
+known-found h j i n l k e =
+    let z : i < length (take j h) = omega (arith, length-take j h) in
+    sym
+    (ap (λ (t : Bool). t || anyOf (eqb (getD h j 0)) (take j h)) (isZero-of (getD h j 0) n)
+    ∙ any-here (eqb (getD h j 0)) (take j h) (getD (take j h) i 0) (mem-getD (take j h) i 0 z) (eq-eqb (getD h j 0) (getD (take j h) i 0) (sym
+    (getD-take j h i 0 l ∙ e))))
+
+pub known-none : (h : List ℕ) (j : ℕ) → getD h j 0 ≢ 0 → ((i : ℕ) → i < j → getD h i 0 ≢ getD h j 0) → false ≡ known h j
+unfolding known
+known-none h j n f =
+    sym
+    (ap (λ (t : Bool). t || anyOf (eqb (getD h j 0)) (take j h)) (isZero-of (getD h j 0) n)
+    ∙ no-anyOf (eqb (getD h j 0)) (take j h) each)
+  where
+    each : (x : ℕ) → List·Memᴰ x (take j h) → eqb (getD h j 0) x ≡ false
+    each x m =
+        let r = mem-index 0 m in
+        let l : r .0 < length (take j h) = r .1 in
+        let k : r .0 < j = omega (arith, l, length-take j h) in
+        ne-eqb (getD h j 0) x (λ e. f (r .0) k (sym (getD-take j h (r .0) 0 k) ∙ sym (r .2) ∙ sym e))
+
+-- the residue of a number that is not known
+pub known-ne : (h : List ℕ) (j : ℕ) → false ≡ known h j → getD h j 0 ≢ 0
+unfolding known
+known-ne h j e z = true≢false (sym (ap (λ (x : ℕ). isZero x || anyOf (eqb (getD h j 0)) (take j h)) z) ∙ sym e)
+
+-- ---- at a space
+module _ (gens : List ℕ) where
+  pub known-yes : (C : List ℕ) (i : ℕ) → Reduced word C → known (residues gens C) i ≡ true
+      → (reduce word C (generator word gens i) ≡ 0)
+      ⊎ ((j : ℕ) × (j < i) × (c : Bool) × (d : Bool) × (reduce word C (generator word gens j) ≡ scaleW c (reduce word C (generator word gens i))) ×
+      (reduce word C (generator word gens i) ≡ scaleW d (reduce word C (generator word gens j))))
+  unfolding known
+  known-yes C i ρ = go (isZero v) refl
+    where
+      h : List ℕ
+      h = residues gens C
+
+      v : ℕ
+      v = getD h i 0
+
+      go : (t : Bool) → isZero v ≡ t → t || anyOf (eqb v) (take i h) ≡ true
+          → (reduce word C (generator word gens i) ≡ 0)
+          ⊎ ((j : ℕ) × (j < i) × (c : Bool) × (d : Bool) × (reduce word C (generator word gens j) ≡ scaleW c (reduce word C (generator word gens i))) ×
+          (reduce word C (generator word gens i) ≡ scaleW d (reduce word C (generator word gens j))))
+      go true q e = inl (sym (residue-at gens C i) ∙ zero-yes v q)
+      go false q e =
+          let r = anyOf-yes (eqb v) (take i h) e in
+          let s = mem-index 0 (r .1) in
+          let l : s .0 < length (take i h) = s .1 in
+          let k : s .0 < i = omega (arith, l, length-take i h) in
+          let f : reduce word C (generator word gens i) ≡ reduce word C (generator word gens (s .0)) =
+          sym (residue-at gens C i) ∙ eqb-true v (r .0) (r .2) ∙ s .2 ∙ getD-take i h (s .0) 0 k ∙ residue-at gens C (s .0) in
+          inr (s .0, k, true, true, sym f, f)
+
+  pub known-no : (C : List ℕ) (i : ℕ) → Reduced word C → known (residues gens C) i ≡ false → Next word gens C i
+  unfolding known
+  known-no C i ρ = go (isZero v) refl
+    where
+      h : List ℕ
+      h = residues gens C
+
+      v : ℕ
+      v = getD h i 0
+
+      g : ℕ
+      g = generator word gens i
+
+      go : (t : Bool) → isZero v ≡ t → t || anyOf (eqb v) (take i h) ≡ false → Next word gens C i
+      go true q e = absurd (true≢false e)
+      go false q e =
+          record {
+            new = λ s. ne (member word C ρ g .0 s);
+            first = λ j l s. back j l (clear-zero (reduce word C g) (reduce word C (generator word gens j)) (sym (reduce-child C ρ g
+                (generator word gens j) ne) ∙ member word (insert word C g) (insert-reduced word C g ρ) (generator word gens j) .0 s));
+          }
+        where
+          ne : reduce word C g ≢ 0
+          ne z = zero-no v q (residue-at gens C i ∙ z)
+
+          inside-h : i < length h
+          inside-h = at (decLt i (length h))
+            where
+              at : Dec (i < length h) → i < length h
+              at (yes l) = l
+              at (no n) = absurd (zero-no v q (List·getD-eq-default h 0 {n = i} (omega arith)))
+
+          back : (j : ℕ) → j < i → (reduce word C (generator word gens j) ≡ 0) ⊎ (reduce word C g ≡ reduce word C (generator word gens j))
+              → Span word C (generator word gens j)
+          back j l (inl z) = member word C ρ (generator word gens j) .1 z
+          back j l (inr z) =
+              let k : j < length (take i h) = omega (arith, inside-h, length-take i h) in
+              let m : List·Memᴰ (getD (take i h) j 0) (take i h) = mem-getD (take i h) j 0 k in
+              absurd (true≢false (sym (eq-eqb v (getD (take i h) j 0) (residue-at gens C i ∙ z ∙ sym (residue-at gens C j) ∙ sym
+              (getD-take i h j 0 l))) ∙ anyOf-no (eqb v) (take i h) e (getD (take i h) j 0) m))

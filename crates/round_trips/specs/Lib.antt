@@ -1,0 +1,3 @@
+-- round_trips: its parts.
+pub mod formulae
+pub mod problems

@@ -1,0 +1,1 @@
+// round_trips

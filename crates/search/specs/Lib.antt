@@ -1,3 +1,0 @@
--- Catalogue on numbers.
-pub mod Catalogue
-pub mod laws

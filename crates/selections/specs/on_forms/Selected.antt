@@ -1,0 +1,50 @@
+-- Two questions on a selection of generator numbers.
+--   misfit n sel          == the selection has a number that is not below n, or one twice
+--   without j sel         == the selection with j left out
+--   missedBy gens targets sel == some target is no sum of the selected generators
+--   sumAnswer x sel form  == is the form a sum of the selected generators of the problem x; refusal 11
+--   redundantAnswer x sel j == do the selected generators but j still span the targets (document 01: is j spare); refusal 11
+--   seenSaid a            == what the code's answer stands for
+-- Document 01: "For a selection of menu numbers two questions exist: is a given form a sum of selected forms; and is the selected product with menu
+-- number j spare, meaning that the others still span T." Refusal 11: "A selection has a number outside the menu, or one twice, or (when spares are
+-- asked for) doesn't span T or lacks j." What the answers mean is in crate selections. Assumes nothing.
+use mathlib.Core.Bool.{Bool, true, false, not, _||_}
+use mathlib.Core.List.{List}
+use Prim.Native.Nat.{ℕ}
+use lib.ListN.{length}
+use lib.Dec.{eqb, ltb}
+use Rattle.kinds.specs.Refusal.{Answer, refused, accepted, refuse}
+use Rattle.problems.specs.Problem.{Problem}
+use Rattle.words.specs.lists.Lists.{repeats}
+use Rattle.linear.specs.Basis.{basisOf}
+use Rattle.linear.specs.Select.{anyOf, only}
+use Rattle.linear.specs.Entry.{inside, chosen}
+use Rattle.linear.specs.Word.{word}
+use Rattle.selections.specs.declared.on_forms.Said.{Said}
+use Rattle.selections.specs.declared.on_forms.Said.the-variants as said
+
+unfoldable pub misfit : ℕ → List ℕ → Bool
+misfit n sel = anyOf (λ e. not (ltb e n)) sel || repeats sel
+
+unfoldable pub without : ℕ → List ℕ → List ℕ
+without j sel = only (λ e. not (eqb j e)) sel
+
+unfoldable pub missedBy : (gens targets sel : List ℕ) → Bool
+missedBy gens targets sel = anyOf (λ t. not (inside word (basisOf word (chosen word gens sel)) t)) targets
+
+unfoldable pub sumAnswer : Problem → List ℕ → ℕ → Answer Bool
+sumAnswer x sel form =
+    refuse 11 (misfit (length (x .generators)) sel)
+    (accepted (inside word (basisOf word (chosen word (x .generators) sel)) form))
+
+unfoldable pub redundantAnswer : Problem → List ℕ → ℕ → Answer Bool
+redundantAnswer x sel j =
+    refuse 11 (misfit (length (x .generators)) sel)
+    (refuse 11 (missedBy (x .generators) (x .targets) sel)
+    (refuse 11 (not (anyOf (eqb j) sel))
+    (accepted (not (missedBy (x .generators) (x .targets) (without j sel))))))
+
+abbrev pub seenSaid : Said → Answer Bool
+seenSaid (said.Refused e) = refused e
+seenSaid said.Yes = accepted true
+seenSaid said.No = accepted false

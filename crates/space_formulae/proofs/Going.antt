@@ -1,0 +1,120 @@
+-- The loop over the numbers of a node.
+-- Going == the records so far are written, and those to come, written, give the final state.
+-- going-leaf: no number is missing. going-skip, going-down: one number more, passed or taken. going-full, going-stop, going-end: the limit is reached; the
+-- space can't be completed; all numbers are done. node-down: what the child's node is.
+-- Assumes nothing.
+use mathlib.Core.Path.{_≡_, refl, sym, ap, ap₂, _∙_, subst}
+use mathlib.Core.Logic.{_≢_}
+use mathlib.Core.Bool.{true, false, not, _&&_}
+use mathlib.Core.List.{List, [], _∷_, _++_}
+use Prim.Native.Nat.{ℕ, _+_, _-_, _<_, _≤_}
+use native.Mathlib.Omega.{arith}
+use lib.ListN.{length, getD, length-append}
+use Rattle.linear.specs.Basis.{Reduced, insert}
+use Rattle.linear.specs.Entry.{inside, generator, chosen}
+use Rattle.linear.specs.Spread.{completes, Inner}
+use Rattle.linear.specs.Word.{word}
+use Rattle.linear.specs.laws.Extension.{chosen-append}
+use Rattle.linear.specs.laws.Spread.{inner-down, spread-leaf, spread-none, spread-end, spread-skip, spread-down}
+use Rattle.bases.specs.Basis.{rowsOf, Valid, Holds}
+use Rattle.bases.specs.declared.Basis.{Basis}
+use Rattle.first_formula.specs.declared.Choice.{Choice}
+use Rattle.first_formula.specs.Choice.{numbersOf, recordOf, formulaRecord, chose-record}
+use Rattle.first_formula.specs.laws.Choosing.{Added}
+use Rattle.first_formula.specs.laws.Writing.{numbers-length}
+use Rattle.records.specs.declared.Tally.{Tally}
+use Rattle.records.specs.Records.{State, note, run, Sane}
+use Rattle.records.specs.Keep.{stateOf}
+use Rattle.records.specs.laws.Records.{run-append, run-full, run-sane}
+use Rattle.space_formulae.specs.enumeration.Spread.{formulaeFrom, Node}
+
+pub record Going (gens w targets C p : List ℕ) (missing limit : ℕ) (final : State) (size j : ℕ) (t : Tally) (out : List ℕ) : Type 0 where
+  pub rest : run limit (stateOf t out) (formulaeFrom gens w targets C p (length gens - j) j missing) ≡ final
+  pub sane : Sane limit (stateOf t out)
+  pub same : length out ≡ size
+
+-- no number is missing
+pub going-leaf : (gens w targets : List ℕ) (start missing : ℕ) (b : Basis) (c : Choice) (t : Tally) (limit : ℕ) (out : List ℕ) → Node gens w missing b c t limit out → missing ≡ 0 → (end : State)
+    → end ≡ note limit (stateOf t out) (recordOf c targets) → end ≡ run limit (stateOf t out) (formulaeFrom gens w targets (rowsOf b) (numbersOf c) (length gens - start) start missing)
+unfolding run
+going-leaf gens w targets start missing b c t limit out N z end e =
+    e ∙ ap (note limit (stateOf t out)) (chose-record gens (numbersOf c) targets c (N .chose))
+    ∙ ap (run limit (stateOf t out)) (sym (spread-leaf word gens w (N .space) (formulaRecord gens targets) (rowsOf b) (numbersOf c) (length gens - start) start missing z (N .inner)))
+
+-- at a node: what it asks, as plain facts
+module _ (gens w targets : List ℕ) (missing : ℕ) (b : Basis) (c : Choice) (t₀ : Tally) (limit : ℕ) (out₀ : List ℕ) (N : Node gens w missing b c t₀ limit out₀) (ne : missing ≢ 0)
+    (final : State) (size j : ℕ) (t : Tally) (out : List ℕ) (I : Going gens w targets (rowsOf b) (numbersOf c) missing limit final size j t out) where
+  abbrev from : ℕ → List (List ℕ)
+  from i = formulaeFrom gens w targets (rowsOf b) (numbersOf c) (length gens - i) i missing
+
+  pub going-full : t .found ≡ limit → stateOf t out ≡ final
+  going-full e = sym (run-full limit (stateOf t out) (from j) e) ∙ I .rest
+
+  pub going-end : length gens ≤ j → stateOf t out ≡ final
+  unfolding run
+  going-end g = ap (run limit (stateOf t out)) (sym (spread-end word gens w (N .space) (formulaRecord gens targets) (rowsOf b) (numbersOf c) j missing ne g)) ∙ I .rest
+
+  pub going-skip : j < length gens → inside word w (getD gens j 0) && not (inside word (rowsOf b) (getD gens j 0)) ≡ false
+      → Going gens w targets (rowsOf b) (numbersOf c) missing limit final size (j + 1) t out
+  unfolding generator
+  going-skip g e =
+      record {
+        rest = ap (run limit (stateOf t out)) (sym (spread-skip word gens w (N .space) (formulaRecord gens targets) (rowsOf b) (numbersOf c) j missing ne g e)) ∙ I .rest;
+        sane = I .sane;
+        same = I .same;
+      }
+
+  module _ (g : j < length gens) (e : inside word w (getD gens j 0) && not (inside word (rowsOf b) (getD gens j 0)) ≡ true)
+      (b′ : Basis) (H : Holds (insert word (rowsOf b) (getD gens j 0)) b′) (c′ : Choice) (A : Added c j (getD gens j 0) c′) where
+    pub node-down : Node gens w (missing - 1) b′ c′ t limit out
+    unfolding chosen generator
+    node-down =
+        record {
+          space = N .space;
+          valid = H .valid;
+          inner = subst (λ (X : List ℕ). Inner word w X (missing - 1)) (sym (H .is)) (inner-down word gens w (N .space) (rowsOf b) j missing ne (N .inner) e);
+          chose =
+              record {
+                whole = A .whole;
+                numbers = refl;
+                forms =
+                    A .forms ∙ ap (λ (p : List ℕ). p ++ getD gens j 0 ∷ []) (N .chose .forms) ∙ sym (chosen-append word gens [] (numbersOf c) (j ∷ []))
+                    ∙ ap (chosen word gens) (sym (A .numbers));
+              };
+          room =
+              omega (
+                arith,
+                N .room,
+                ne,
+                numbers-length c (N .chose .whole),
+                numbers-length c′ (A .whole),
+                ap length (A .numbers),
+                length-append (numbersOf c) (j ∷ []),
+              );
+          sane = I .sane;
+        }
+
+    pub going-down : (r : Tally) (out′ : List ℕ)
+        → stateOf r out′ ≡ run limit (stateOf t out) (formulaeFrom gens w targets (rowsOf b′) (numbersOf c′) (length gens - (j + 1)) (j + 1) (missing - 1))
+        → Going gens w targets (rowsOf b) (numbersOf c) missing limit final size (j + 1) r out′
+    unfolding generator
+    going-down r out′ q =
+        let here : List (List ℕ) = formulaeFrom gens w targets (rowsOf b′) (numbersOf c′) (length gens - (j + 1)) (j + 1) (missing - 1) in
+        let v = run-sane limit (stateOf t out) here (I .sane) in
+        record {
+          rest =
+              ap (λ (x : State). run limit x (from (j + 1))) q ∙ sym (run-append limit (stateOf t out) here (from (j + 1)))
+              ∙ ap (λ (x : List (List ℕ)). run limit (stateOf t out) (x ++ from (j + 1)))
+              (ap₂ (λ (x y : List ℕ). formulaeFrom gens w targets x y (length gens - (j + 1)) (j + 1) (missing - 1)) (H .is) (A .numbers))
+              ∙ ap (run limit (stateOf t out)) (sym (spread-down word gens w (N .space) (formulaRecord gens targets) (rowsOf b) (numbersOf c) j missing ne g e)) ∙ I .rest;
+          sane = subst (Sane limit) (sym q) (v .0);
+          same = ap (λ (x : State). length (x .buf)) q ∙ v .1 ∙ I .same;
+        }
+
+-- the space can't be completed from the next number on
+pub going-stop : (gens w targets : List ℕ) (missing : ℕ) (b : Basis) (c : Choice) (limit : ℕ) → Reduced word w → Valid b → (final : State) (size j : ℕ) (t : Tally) (out : List ℕ)
+    → Going gens w targets (rowsOf b) (numbersOf c) missing limit final size (j + 1) t out → j < length gens → completes word gens w (rowsOf b) (j + 1) ≡ false → stateOf t out ≡ final
+unfolding run
+going-stop gens w targets missing b c limit ρ G final size j t out I g e =
+    ap (run limit (stateOf t out))
+    (sym (spread-none word gens w ρ (formulaRecord gens targets) (rowsOf b) (numbersOf c) (length gens - (j + 1)) (j + 1) missing (G .reduced) (omega arith) e)) ∙ I .rest

@@ -1,0 +1,3 @@
+-- space_formulae: its parts.
+mod Keeping
+mod Going

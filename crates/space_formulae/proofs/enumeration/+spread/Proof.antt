@@ -1,0 +1,201 @@
+-- `spread::spread` meets its contract, by recursion on the number of missing generators: the records so far are written, and those to come, written, give the
+-- final state. Assumes nothing.
+use native.Mathlib.Omega.{arith}
+use mathlib.Core.Path.{_≡_, refl, sym, _∙_}
+use mathlib.Core.Logic.{_≢_}
+use mathlib.Core.List.{List}
+use Prim.Native.Nat.{ℕ, _+_, _-_, _*_, _^_, _<_, _≤_}
+use mir.Syntax.{w64}
+use mir.Val.{Fits}
+use lib.ListN.{length, getD}
+use borrow.Author.Tests.{not-true}
+use Rattle.linear.specs.Basis.{insert}
+use Rattle.linear.specs.Word.{word}
+use Rattle.bases.specs.Basis.{rowsOf, Holds}
+use Rattle.bases.specs.declared.Basis.{Basis}
+use Rattle.first_formula.specs.Choice.{numbersOf}
+use Rattle.first_formula.specs.declared.Choice.{Choice}
+use Rattle.records.specs.Records.{run}
+use Rattle.records.specs.Keep.{stateOf}
+use Rattle.records.specs.declared.Tally.{Tally}
+use Rattle.space_formulae.specs.enumeration.Spread.{formulaeFrom, Node}
+use Rattle.space_formulae.proofs.Going.{Going, going-leaf, going-full, going-stop, going-end, going-skip, node-down, going-down}
+use borrow.Fn.Kinds.{In}
+use borrow.Fn.PlainCycle.{Measures, is, falls, and}
+use Rattle.space_formulae.proofs.enumeration.spread.Reads as spread
+use Rattle.space_formulae.proofs.enumeration.spread.Kinds as spread-kinds
+use Rattle.space_formulae.proofs.enumeration.+spread.Lts-spread as spread-lts
+use Rattle.bases.proofs.Basis.insert.Reads as insert-reads
+use Rattle.first_formula.proofs.add.Reads as add-reads
+use Rattle.bases.proofs.spans.is_wanted.Reads as is-wanted-reads
+use Rattle.bases.proofs.spans.completes.Reads as completes-reads
+use Rattle.space_formulae.proofs.formula_records.keep.Reads as keep-reads
+use Rattle.space_formulae.proofs.enumeration.+spread.{statement}
+use Rattle.space_formulae.proofs.enumeration.+spread.Tie.{close}
+
+abbrev μ-spread : Measures 4 spread-kinds.ps ℕ
+μ-spread κs a = a .1 .1 .1 .1 .0
+
+abbrev spread-at : ℕ → In 4 spread-kinds.ps
+spread-at t = and 4 spread-kinds.ps (is 4 spread-kinds.ps μ-spread t) spread.Pre
+
+abbrev spread-below : ℕ → In 4 spread-kinds.ps
+spread-below t = and 4 spread-kinds.ps (falls 4 spread-kinds.ps _<_ μ-spread t) spread.Pre
+
+-- what the calls ask and promise; the recursion's own call is for fewer missing dimensions
+abbrev claims : ℕ → spread-lts.Claims
+claims t = (
+  keep-reads.Asked,
+  keep-reads.Learnt,
+  is-wanted-reads.Asked,
+  is-wanted-reads.Learnt,
+  insert-reads.Asked,
+  insert-reads.Learnt,
+  add-reads.Asked,
+  add-reads.Learnt,
+  spread-below t,
+  spread.Post,
+  completes-reads.Asked,
+  completes-reads.Learnt,
+)
+
+abbrev spread-Inv-loop : spread-lts.InvT-loop
+spread-Inv-loop gens w targets start missing b c limit out₀ n u₀ j₀ out u j = Going gens w targets (rowsOf b) (numbersOf c) missing limit (run limit (stateOf u₀ out₀) (formulaeFrom gens w targets (rowsOf b) (numbersOf c) (length gens - start) start missing)) (length out₀) j u out
+
+abbrev spread-μ-loop : spread-lts.MeasureT-loop
+spread-μ-loop gens w targets start missing b c limit out₀ n u₀ j₀ out u j = length gens - j
+
+-- facts on numbers
+some : {m : ℕ} → m ≢ 0 → 1 ≤ m
+some n = omega arith
+
+falls-one : {m t : ℕ} → m ≡ t → m ≢ 0 → m - 1 < t
+falls-one e n = omega arith
+
+fewer : {j n : ℕ} → j < n → n - (j + 1) < n - j
+fewer l = omega arith
+
+one-fits : {j n : ℕ} → j < n → n * 8 < 2 ^ 63 → Fits w64 (j + 1)
+one-fits l k = record { fits = omega arith }
+
+eight-fits : {j n : ℕ} → j < n → n * 8 < 2 ^ 63 → Fits w64 (j * 8)
+eight-fits l k = record { fits = omega arith }
+
+room-more : {gens w : List ℕ} {missing : ℕ} {b : Basis} {c : Choice} {t : Tally} {limit : ℕ} {out : List ℕ} → Node gens w missing b c t limit out → missing ≢ 0 → c .len < 64
+room-more N n = omega (arith, N .room)
+
+spread-keep-requires : (t : ℕ) → spread-lts.Need-keep-requires (claims t) (spread-at t) spread.Post spread-Inv-loop spread-μ-loop
+spread-keep-requires t c κs = record { whole = c .before .before .before .before .before .before .pre .1 .chose .whole; sane = c .before .before .before .before .before .before .pre .1 .sane }
+
+spread-same-length : (t : ℕ) → spread-lts.Need-same-length (claims t) (spread-at t) spread.Post spread-Inv-loop spread-μ-loop
+spread-same-length t c = c .before .before .keep .kept .1 .1 .1 .1 .0
+
+spread-returns : (t : ℕ) → spread-lts.Need-returns (claims t) (spread-at t) spread.Post spread-Inv-loop spread-μ-loop
+spread-returns t c = going-leaf (c .before .before .before .before .before .before .before .before .before .args .gens .now) (c .before .before .before .before .before .before .before .before .before .args .w .now) (c .before .before .before .before .before .before .before .before .before .args .targets .now) (c .before .before .before .before .before .before .before .before .before .args .start) (c .before .before .before .before .before .before .before .before .before .args .missing) (c .before .before .before .before .before .before .before .before .before .args .b) (c .before .before .before .before .before .before .before .before .before .args .c) (c .before .before .before .before .before .before .before .before .before .args .t) (c .before .before .before .before .before .before .before .before .before .args .limit) (c .before .before .before .before .before .before .before .before .before .args .out .now) (c .before .before .before .before .before .before .before .before .before .pre .1) (c .before .before .before .before .if1 .taken) _ (c .before .before .keep .ensures)
+
+spread-loop-holds : (t : ℕ) → spread-lts.Need-loop-holds (claims t) (spread-at t) spread.Post spread-Inv-loop spread-μ-loop
+spread-loop-holds t c = record { rest = refl; sane = c .before .before .before .before .before .pre .1 .sane; same = refl }
+
+spread-same-length-2 : (t : ℕ) → spread-lts.Need-same-length-2 (claims t) (spread-at t) spread.Post spread-Inv-loop spread-μ-loop
+spread-same-length-2 t c = c .before .before .before .loop .inv .same
+
+spread-returns-2 : (t : ℕ) → spread-lts.Need-returns-2 (claims t) (spread-at t) spread.Post spread-Inv-loop spread-μ-loop
+spread-returns-2 t c = going-full (c .before .before .before .before .before .before .before .before .before .args .gens .now) (c .before .before .before .before .before .before .before .before .before .args .w .now) (c .before .before .before .before .before .before .before .before .before .args .targets .now) (c .before .before .before .before .before .before .before .before .before .args .missing) (c .before .before .before .before .before .before .before .before .before .args .b) (c .before .before .before .before .before .before .before .before .before .args .c) (c .before .before .before .before .before .before .before .before .before .args .t) (c .before .before .before .before .before .before .before .before .before .args .limit) (c .before .before .before .before .before .before .before .before .before .args .out .now) (c .before .before .before .before .before .before .before .before .before .pre .1) (c .before .before .before .before .if1 .left) _ _ (c .before .before .before .loop .j) (c .before .before .before .loop .u) (c .before .before .before .loop .out) (c .before .before .before .loop .inv) (c .if2 .taken)
+
+spread-mul-g : (t : ℕ) → spread-lts.Need-mul-g (claims t) (spread-at t) spread.Post spread-Inv-loop spread-μ-loop
+spread-mul-g t c = eight-fits (c .before .before .loop-test .taken) (c .before .before .before .before .before .before .before .before .before .good .0 .1)
+
+spread-shared-slice-read-g : (t : ℕ) → spread-lts.Need-shared-slice-read-g (claims t) (spread-at t) spread.Post spread-Inv-loop spread-μ-loop
+spread-shared-slice-read-g t c = c .before .before .before .loop-test .taken
+
+spread-is-wanted-requires : (t : ℕ) → spread-lts.Need-is-wanted-requires (claims t) (spread-at t) spread.Post spread-Inv-loop spread-μ-loop
+spread-is-wanted-requires t c κs = c .before .before .before .before .before .before .before .before .before .before .pre .1 .valid
+
+spread-add-spread : (t : ℕ) → spread-lts.Need-add-spread (claims t) (spread-at t) spread.Post spread-Inv-loop spread-μ-loop
+spread-add-spread t c = omega arith
+
+spread-sub-spread : (t : ℕ) → spread-lts.Need-sub-spread (claims t) (spread-at t) spread.Post spread-Inv-loop spread-μ-loop
+spread-sub-spread t c = some (c .before .before .before .before .before .before .before .if1 .left)
+
+spread-insert-requires : (t : ℕ) → spread-lts.Need-insert-requires (claims t) (spread-at t) spread.Post spread-Inv-loop spread-μ-loop
+spread-insert-requires t c κs = c .before .before .before .before .before .before .before .before .before .before .before .before .pre .1 .valid
+
+spread-add-requires : (t : ℕ) → spread-lts.Need-add-requires (claims t) (spread-at t) spread.Post spread-Inv-loop spread-μ-loop
+spread-add-requires t c κs = (c .before .before .before .before .before .before .before .before .before .before .before .before .before .pre .1 .chose .whole, room-more (c .before .before .before .before .before .before .before .before .before .before .before .before .before .pre .1) (c .before .before .before .before .before .before .before .before .if1 .left))
+
+-- the child's basis is the node's with the generator at the number
+child-basis : (t : ℕ) (c : spread-lts.After-insert (claims t) (spread-at t) spread.Post spread-Inv-loop spread-μ-loop)
+    → Holds (insert word (rowsOf (c .before .before .before .before .before .before .before .before .before .before .before .before .before .args .b)) (getD (c .before .before .before .before .before .before .before .before .before .before .before .before .before .args .gens .now) (c .before .before .before .before .before .before .before .loop .j) 0)) (c .insert .result)
+child-basis t c = c .insert .ensures
+
+spread-spread-requires : (t : ℕ) → spread-lts.Need-spread-requires (claims t) (spread-at t) spread.Post spread-Inv-loop spread-μ-loop
+spread-spread-requires t c κs = let d : c .before .before .before .before .before .before .before .before .before .before .before .before .before .before .before .args .missing ≡ t = c .before .before .before .before .before .before .before .before .before .before .before .before .before .before .before .pre .0 in let e = c .before .before .before .before .before .before .before .before .before .before .if1 .left in (falls-one d e, node-down (c .before .before .before .before .before .before .before .before .before .before .before .before .before .before .before .args .gens .now) (c .before .before .before .before .before .before .before .before .before .before .before .before .before .before .before .args .w .now) (c .before .before .before .before .before .before .before .before .before .before .before .before .before .before .before .args .targets .now) (c .before .before .before .before .before .before .before .before .before .before .before .before .before .before .before .args .missing) (c .before .before .before .before .before .before .before .before .before .before .before .before .before .before .before .args .b) (c .before .before .before .before .before .before .before .before .before .before .before .before .before .before .before .args .c) (c .before .before .before .before .before .before .before .before .before .before .before .before .before .before .before .args .t) (c .before .before .before .before .before .before .before .before .before .before .before .before .before .before .before .args .limit) (c .before .before .before .before .before .before .before .before .before .before .before .before .before .before .before .args .out .now) (c .before .before .before .before .before .before .before .before .before .before .before .before .before .before .before .pre .1) (c .before .before .before .before .before .before .before .before .before .before .if1 .left) _ _ (c .before .before .before .before .before .before .before .before .before .loop .j) (c .before .before .before .before .before .before .before .before .before .loop .u) (c .before .before .before .before .before .before .before .before .before .loop .out) (c .before .before .before .before .before .before .before .before .before .loop .inv) (c .before .before .before .before .before .before .before .before .loop-test .taken) (sym (c .before .before .before .before .is-wanted .ensures) ∙ c .before .before .before .if3 .taken) (c .before .before .insert .result) (child-basis t (c .before .before)) (c .before .add .result) (c .before .add .ensures))
+
+spread-add-completes : (t : ℕ) → spread-lts.Need-add-completes (claims t) (spread-at t) spread.Post spread-Inv-loop spread-μ-loop
+spread-add-completes t c = omega (arith, c .before .before .before .before .before .before .before .before .before .before .before .loop-test .taken, c .before .before .before .before .before .before .before .before .before .before .before .before .before .before .before .before .before .before .good, c .before .before .before .before .before .before .before .before .before .before .before .before .before .before .before .before .before .before .fits)
+
+spread-completes-requires : (t : ℕ) → spread-lts.Need-completes-requires (claims t) (spread-at t) spread.Post spread-Inv-loop spread-μ-loop
+spread-completes-requires t c κs = c .before .before .before .before .before .before .before .before .before .before .before .before .before .before .before .before .before .before .pre .1 .valid
+
+spread-same-length-3 : (t : ℕ) → spread-lts.Need-same-length-3 (claims t) (spread-at t) spread.Post spread-Inv-loop spread-μ-loop
+spread-same-length-3 t c = (going-down (c .before .before .before .before .before .before .before .before .before .before .before .before .before .before .before .before .before .before .before .before .args .gens .now) (c .before .before .before .before .before .before .before .before .before .before .before .before .before .before .before .before .before .before .before .before .args .w .now) (c .before .before .before .before .before .before .before .before .before .before .before .before .before .before .before .before .before .before .before .before .args .targets .now) (c .before .before .before .before .before .before .before .before .before .before .before .before .before .before .before .before .before .before .before .before .args .missing) (c .before .before .before .before .before .before .before .before .before .before .before .before .before .before .before .before .before .before .before .before .args .b) (c .before .before .before .before .before .before .before .before .before .before .before .before .before .before .before .before .before .before .before .before .args .c) (c .before .before .before .before .before .before .before .before .before .before .before .before .before .before .before .before .before .before .before .before .args .t) (c .before .before .before .before .before .before .before .before .before .before .before .before .before .before .before .before .before .before .before .before .args .limit) (c .before .before .before .before .before .before .before .before .before .before .before .before .before .before .before .before .before .before .before .before .args .out .now) (c .before .before .before .before .before .before .before .before .before .before .before .before .before .before .before .before .before .before .before .before .pre .1) (c .before .before .before .before .before .before .before .before .before .before .before .before .before .before .before .if1 .left) _ _ (c .before .before .before .before .before .before .before .before .before .before .before .before .before .before .loop .j) (c .before .before .before .before .before .before .before .before .before .before .before .before .before .before .loop .u) (c .before .before .before .before .before .before .before .before .before .before .before .before .before .before .loop .out) (c .before .before .before .before .before .before .before .before .before .before .before .before .before .before .loop .inv) (c .before .before .before .before .before .before .before .before .before .before .before .before .before .loop-test .taken) (sym (c .before .before .before .before .before .before .before .before .before .is-wanted .ensures) ∙ c .before .before .before .before .before .before .before .before .if3 .taken) (c .before .before .before .before .before .before .before .insert .result) (child-basis t (c .before .before .before .before .before .before .before)) (c .before .before .before .before .before .before .add .result) (c .before .before .before .before .before .before .add .ensures) (c .before .before .before .before .spread .result) _ (c .before .before .before .before .spread .ensures)) .same
+
+spread-returns-3 : (t : ℕ) → spread-lts.Need-returns-3 (claims t) (spread-at t) spread.Post spread-Inv-loop spread-μ-loop
+spread-returns-3 t c = going-stop (c .before .before .before .before .before .before .before .before .before .before .before .before .before .before .before .before .before .before .before .before .args .gens .now) (c .before .before .before .before .before .before .before .before .before .before .before .before .before .before .before .before .before .before .before .before .args .w .now) (c .before .before .before .before .before .before .before .before .before .before .before .before .before .before .before .before .before .before .before .before .args .targets .now) (c .before .before .before .before .before .before .before .before .before .before .before .before .before .before .before .before .before .before .before .before .args .missing) (c .before .before .before .before .before .before .before .before .before .before .before .before .before .before .before .before .before .before .before .before .args .b) (c .before .before .before .before .before .before .before .before .before .before .before .before .before .before .before .before .before .before .before .before .args .c) (c .before .before .before .before .before .before .before .before .before .before .before .before .before .before .before .before .before .before .before .before .args .limit) (c .before .before .before .before .before .before .before .before .before .before .before .before .before .before .before .before .before .before .before .before .pre .1 .space) (c .before .before .before .before .before .before .before .before .before .before .before .before .before .before .before .before .before .before .before .before .pre .1 .valid) _ _ (c .before .before .before .before .before .before .before .before .before .before .before .before .before .before .loop .j) (c .before .before .before .before .spread .result) _ (going-down (c .before .before .before .before .before .before .before .before .before .before .before .before .before .before .before .before .before .before .before .before .args .gens .now) (c .before .before .before .before .before .before .before .before .before .before .before .before .before .before .before .before .before .before .before .before .args .w .now) (c .before .before .before .before .before .before .before .before .before .before .before .before .before .before .before .before .before .before .before .before .args .targets .now) (c .before .before .before .before .before .before .before .before .before .before .before .before .before .before .before .before .before .before .before .before .args .missing) (c .before .before .before .before .before .before .before .before .before .before .before .before .before .before .before .before .before .before .before .before .args .b) (c .before .before .before .before .before .before .before .before .before .before .before .before .before .before .before .before .before .before .before .before .args .c) (c .before .before .before .before .before .before .before .before .before .before .before .before .before .before .before .before .before .before .before .before .args .t) (c .before .before .before .before .before .before .before .before .before .before .before .before .before .before .before .before .before .before .before .before .args .limit) (c .before .before .before .before .before .before .before .before .before .before .before .before .before .before .before .before .before .before .before .before .args .out .now) (c .before .before .before .before .before .before .before .before .before .before .before .before .before .before .before .before .before .before .before .before .pre .1) (c .before .before .before .before .before .before .before .before .before .before .before .before .before .before .before .if1 .left) _ _ (c .before .before .before .before .before .before .before .before .before .before .before .before .before .before .loop .j) (c .before .before .before .before .before .before .before .before .before .before .before .before .before .before .loop .u) (c .before .before .before .before .before .before .before .before .before .before .before .before .before .before .loop .out) (c .before .before .before .before .before .before .before .before .before .before .before .before .before .before .loop .inv) (c .before .before .before .before .before .before .before .before .before .before .before .before .before .loop-test .taken) (sym (c .before .before .before .before .before .before .before .before .before .is-wanted .ensures) ∙ c .before .before .before .before .before .before .before .before .if3 .taken) (c .before .before .before .before .before .before .before .insert .result) (child-basis t (c .before .before .before .before .before .before .before)) (c .before .before .before .before .before .before .add .result) (c .before .before .before .before .before .before .add .ensures) (c .before .before .before .before .spread .result) _ (c .before .before .before .before .spread .ensures)) (c .before .before .before .before .before .before .before .before .before .before .before .before .before .loop-test .taken) (sym (c .before .completes .ensures) ∙ not-true (c .before .completes .result) (c .if4 .taken))
+
+spread-add-j : (t : ℕ) → spread-lts.Need-add-j (claims t) (spread-at t) spread.Post spread-Inv-loop spread-μ-loop
+spread-add-j t c = one-fits (c .before .before .before .before .before .before .before .before .before .before .before .before .before .loop-test .taken) (c .before .before .before .before .before .before .before .before .before .before .before .before .before .before .before .before .before .before .before .before .good .0 .1)
+
+spread-loop-less : (t : ℕ) → spread-lts.Need-loop-less (claims t) (spread-at t) spread.Post spread-Inv-loop spread-μ-loop
+spread-loop-less t c = fewer (c .before .before .before .before .before .before .before .before .before .before .before .before .before .loop-test .taken)
+
+spread-loop-again : (t : ℕ) → spread-lts.Need-loop-again (claims t) (spread-at t) spread.Post spread-Inv-loop spread-μ-loop
+spread-loop-again t c = going-down (c .before .before .before .before .before .before .before .before .before .before .before .before .before .before .before .before .before .before .before .before .args .gens .now) (c .before .before .before .before .before .before .before .before .before .before .before .before .before .before .before .before .before .before .before .before .args .w .now) (c .before .before .before .before .before .before .before .before .before .before .before .before .before .before .before .before .before .before .before .before .args .targets .now) (c .before .before .before .before .before .before .before .before .before .before .before .before .before .before .before .before .before .before .before .before .args .missing) (c .before .before .before .before .before .before .before .before .before .before .before .before .before .before .before .before .before .before .before .before .args .b) (c .before .before .before .before .before .before .before .before .before .before .before .before .before .before .before .before .before .before .before .before .args .c) (c .before .before .before .before .before .before .before .before .before .before .before .before .before .before .before .before .before .before .before .before .args .t) (c .before .before .before .before .before .before .before .before .before .before .before .before .before .before .before .before .before .before .before .before .args .limit) (c .before .before .before .before .before .before .before .before .before .before .before .before .before .before .before .before .before .before .before .before .args .out .now) (c .before .before .before .before .before .before .before .before .before .before .before .before .before .before .before .before .before .before .before .before .pre .1) (c .before .before .before .before .before .before .before .before .before .before .before .before .before .before .before .if1 .left) _ _ (c .before .before .before .before .before .before .before .before .before .before .before .before .before .before .loop .j) (c .before .before .before .before .before .before .before .before .before .before .before .before .before .before .loop .u) (c .before .before .before .before .before .before .before .before .before .before .before .before .before .before .loop .out) (c .before .before .before .before .before .before .before .before .before .before .before .before .before .before .loop .inv) (c .before .before .before .before .before .before .before .before .before .before .before .before .before .loop-test .taken) (sym (c .before .before .before .before .before .before .before .before .before .is-wanted .ensures) ∙ c .before .before .before .before .before .before .before .before .if3 .taken) (c .before .before .before .before .before .before .before .insert .result) (child-basis t (c .before .before .before .before .before .before .before)) (c .before .before .before .before .before .before .add .result) (c .before .before .before .before .before .before .add .ensures) (c .before .before .before .before .spread .result) _ (c .before .before .before .before .spread .ensures)
+
+spread-add-j-2 : (t : ℕ) → spread-lts.Need-add-j-2 (claims t) (spread-at t) spread.Post spread-Inv-loop spread-μ-loop
+spread-add-j-2 t c = one-fits (c .before .before .before .before .before .loop-test .taken) (c .before .before .before .before .before .before .before .before .before .before .before .before .good .0 .1)
+
+spread-loop-less-2 : (t : ℕ) → spread-lts.Need-loop-less-2 (claims t) (spread-at t) spread.Post spread-Inv-loop spread-μ-loop
+spread-loop-less-2 t c = fewer (c .before .before .before .before .before .loop-test .taken)
+
+spread-loop-again-2 : (t : ℕ) → spread-lts.Need-loop-again-2 (claims t) (spread-at t) spread.Post spread-Inv-loop spread-μ-loop
+spread-loop-again-2 t c = going-skip (c .before .before .before .before .before .before .before .before .before .before .before .before .args .gens .now) (c .before .before .before .before .before .before .before .before .before .before .before .before .args .w .now) (c .before .before .before .before .before .before .before .before .before .before .before .before .args .targets .now) (c .before .before .before .before .before .before .before .before .before .before .before .before .args .missing) (c .before .before .before .before .before .before .before .before .before .before .before .before .args .b) (c .before .before .before .before .before .before .before .before .before .before .before .before .args .c) (c .before .before .before .before .before .before .before .before .before .before .before .before .args .t) (c .before .before .before .before .before .before .before .before .before .before .before .before .args .limit) (c .before .before .before .before .before .before .before .before .before .before .before .before .args .out .now) (c .before .before .before .before .before .before .before .before .before .before .before .before .pre .1) (c .before .before .before .before .before .before .before .if1 .left) _ _ (c .before .before .before .before .before .before .loop .j) (c .before .before .before .before .before .before .loop .u) (c .before .before .before .before .before .before .loop .out) (c .before .before .before .before .before .before .loop .inv) (c .before .before .before .before .before .loop-test .taken) (sym (c .before .is-wanted .ensures) ∙ c .if3 .left)
+
+spread-same-length-4 : (t : ℕ) → spread-lts.Need-same-length-4 (claims t) (spread-at t) spread.Post spread-Inv-loop spread-μ-loop
+spread-same-length-4 t c = c .before .loop .inv .same
+
+spread-returns-4 : (t : ℕ) → spread-lts.Need-returns-4 (claims t) (spread-at t) spread.Post spread-Inv-loop spread-μ-loop
+spread-returns-4 t c = going-end (c .before .before .before .before .before .before .before .args .gens .now) (c .before .before .before .before .before .before .before .args .w .now) (c .before .before .before .before .before .before .before .args .targets .now) (c .before .before .before .before .before .before .before .args .missing) (c .before .before .before .before .before .before .before .args .b) (c .before .before .before .before .before .before .before .args .c) (c .before .before .before .before .before .before .before .args .t) (c .before .before .before .before .before .before .before .args .limit) (c .before .before .before .before .before .before .before .args .out .now) (c .before .before .before .before .before .before .before .pre .1) (c .before .before .if1 .left) _ _ (c .before .loop .j) (c .before .loop .u) (c .before .loop .out) (c .before .loop .inv) (c .loop-test .left)
+
+pub +spread-spec : {M : Type 1} → statement M
++spread-spec = close μ-spread λ t. spread-lts.spec (claims t)
+    (spread-at t)
+    spread.Post
+    spread-Inv-loop
+    spread-μ-loop
+    (spread-keep-requires t)
+    (spread-same-length t)
+    (spread-returns t)
+    (spread-loop-holds t)
+    (spread-same-length-2 t)
+    (spread-returns-2 t)
+    (spread-mul-g t)
+    (spread-shared-slice-read-g t)
+    (spread-is-wanted-requires t)
+    (spread-add-spread t)
+    (spread-sub-spread t)
+    (spread-insert-requires t)
+    (spread-add-requires t)
+    (spread-spread-requires t)
+    (spread-add-completes t)
+    (spread-completes-requires t)
+    (spread-same-length-3 t)
+    (spread-returns-3 t)
+    (spread-add-j t)
+    (spread-loop-less t)
+    (spread-loop-again t)
+    (spread-add-j-2 t)
+    (spread-loop-less-2 t)
+    (spread-loop-again-2 t)
+    (spread-same-length-4 t)
+    (spread-returns-4 t)

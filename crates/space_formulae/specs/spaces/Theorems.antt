@@ -1,0 +1,108 @@
+-- What the formulae of a space are, in the words of document 01's demand: none missing, none twice. To be read from top to bottom.
+--   FormulaeMeans, formulae-means   an accepted reply lists, in dictionary order, the first of exactly all sets of k independent generators that span the space
+--   RankFirst, rank-first           Rank's formula is the first of the list for the first entry's space
+-- The definitions: formulaeOf, isEntry (Spaces), posed (problems), Solution (linear, Entry), Formula (linear, laws/Formulae), formulaRecord (choice). Assumes nothing.
+use mathlib.Core.Path.{_≡_, refl, sym, _∙_, subst}
+use mathlib.Core.Logic.{_↔_}
+use mathlib.Core.Bool.{true, false, not}
+use mathlib.Core.List.{List, [], _++_, map, List·Memᴰ, List·Memᴰ·head}
+use mathlib.Core.Option.{some}
+use Prim.Native.Nat.{ℕ, _+_, _*_, _^_, _<_}
+use lib.ListN.{length, take, drop}
+use lib.Dec.{ltb}
+use borrow.Author.Tests.{eqb-true, eq-eqb, not-false}
+use Rattle.kinds.specs.Refusal.{accepted, refuse}
+use Rattle.kinds.specs.RefusalLaws.{accepted-inj, follow-inv, refuse-inv}
+use Rattle.forms.specs.Row.{rowForm}
+use Rattle.problems.specs.Problem.{Problem, posed}
+use Rattle.linear.specs.Basis.{dim}
+use Rattle.linear.specs.Order.{Before, Ordered}
+use Rattle.linear.specs.Entry.{Solution, chosen, space, entries}
+use Rattle.linear.specs.Formulae.{first, formula, formulae, fewest}
+use Rattle.linear.specs.Word.{word}
+use Rattle.linear.specs.Theorems.{entry-solves, formulae-exactly, rank-formula}
+use Rattle.linear.specs.laws.Extension.{chosen-length}
+use Rattle.linear.specs.laws.Formulae.{first-some, Formula, formulae-ordered}
+use Rattle.bases.specs.rows.Rows.{rowOf}
+use Rattle.bases.specs.rows.laws.Rows.{row-sum, row-only}
+use Rattle.catalogue.specs.listing.Listing.{flat, fitting}
+use Rattle.first_formula.specs.Choice.{formulaRecord}
+use Rattle.space_formulae.specs.spaces.Spaces.{Formulae, isEntry, recordSize, listing, formulaeOf}
+use Rattle.space_formulae.specs.spaces.laws.Entry.{is-entry}
+
+pub record FormulaeMeans (gens targets rows old : List ℕ) (f : Formulae) : Type 0 where
+  -- the rows are the reduced basis of a solution space of as many dimensions
+  pub entry : Solution word gens targets (length rows) rows
+  -- the formulae, each by the numbers of its products
+  pub all : List (List ℕ)
+  -- exactly the sets (rising lists of numbers) of k independent generators that span the space, in dictionary order, so each once
+  pub exactly : (es : List ℕ) → List·Memᴰ es all ↔ Formula word gens rows es
+  pub ordered : Ordered Before all
+  -- as many as fit are listed; the reply is All exactly if none is left out
+  pub listed : f .listed ≡ fitting (recordSize targets rows) (length all) (length old)
+  pub whole : (f .whole ≡ true) ↔ (f .listed ≡ length all)
+  -- their records: the numbers, then a row for every target; then the old content
+  pub buffer : f .buffer ≡ flat (take (f .listed) (map (λ es. es ++ map (rowOf (chosen word gens es)) targets) all)) ++ drop (f .listed * recordSize targets rows) old
+  -- each target is the sum that its row says, and no other row of k bits says it
+  pub row : (es : List ℕ) → List·Memᴰ es all → (t : ℕ) → List·Memᴰ t targets → rowForm (chosen word gens es) (rowOf (chosen word gens es) t) 0 ≡ t
+  pub only-row : (es : List ℕ) → List·Memᴰ es all → (t mask : ℕ) → mask < 2 ^ length rows → rowForm (chosen word gens es) mask 0 ≡ t → mask ≡ rowOf (chosen word gens es) t
+
+module _ (x : Problem) (rows : List ℕ) (E : Solution word (x .generators) (x .targets) (length rows) rows) where
+  abbrev gens : List ℕ
+  gens = x .generators
+
+  formula-of : (es : List ℕ) → List·Memᴰ es (formulae word gens rows) → Formula word gens rows es
+  formula-of es m = formulae-exactly word gens (x .targets) rows (E .reduced) es .0 m
+
+  listing-means : (old : List ℕ) → FormulaeMeans (x .generators) (x .targets) rows old (listing x rows old)
+  unfolding listing formulaRecord
+  listing-means old =
+      record {
+        entry = E;
+        all = formulae word gens rows;
+        exactly = formulae-exactly word gens (x .targets) rows (E .reduced);
+        ordered = formulae-ordered word gens rows;
+        listed = refl;
+        whole = (eqb-true l c, eq-eqb l c);
+        buffer = refl;
+        row = (λ es m t k. row-sum (chosen word gens es) t (formula-of es m .spanning .1 t (E .holds t k)));
+        only-row = (λ es m t mask h e. row-only (chosen word gens es) t mask (formula-of es m .independent) (subst (λ (k : ℕ). mask < 2 ^ k) (sym (chosen-length word gens [] es ∙ formula-of es m .number)) h) e);
+      }
+    where
+      c : ℕ
+      c = length (formulae word gens rows)
+
+      l : ℕ
+      l = fitting (recordSize (x .targets) rows) c (length old)
+
+pub formulae-means : (number p q r : ℕ) (gs ts rows old : List ℕ) (f : Formulae) → formulaeOf number p q r gs ts rows old ≡ accepted f
+    → (x : Problem) × (posed number p q r gs ts rows ≡ accepted x) × (ltb (dim word (x .targets) + 6) (length rows) ≡ false) × FormulaeMeans (x .generators) (x .targets) rows old f
+unfolding formulaeOf
+formulae-means number p q r gs ts rows old f e =
+    let i = follow-inv (posed number p q r gs ts rows)
+    (λ x. refuse 8 (ltb (dim word (x .targets) + 6) (length rows)) (refuse 10 (not (isEntry (x .generators) (x .targets) rows)) (accepted (listing x rows old)))) f e in
+    let x : Problem = i .0 in
+    let j = refuse-inv 8 (ltb (dim word (x .targets) + 6) (length rows)) (refuse 10 (not (isEntry (x .generators) (x .targets) rows)) (accepted (listing x rows old))) f (i .2) in
+    let k = refuse-inv 10 (not (isEntry (x .generators) (x .targets) rows)) (accepted (listing x rows old)) f (j .1) in
+    let E = is-entry (x .generators) (x .targets) rows .0 (not-false (isEntry (x .generators) (x .targets) rows) (k .0)) in
+    (x, i .1, j .0, subst (FormulaeMeans (x .generators) (x .targets) rows old) (accepted-inj (listing x rows old) f (k .1)) (listing-means x rows E old))
+
+-- Rank says the first formula of the first entry's space. The rows of that space are accepted, and the list for them begins with Rank's formula.
+pub record RankFirst (gens targets es : List ℕ) : Type 0 where
+  pub entry : List ℕ
+  pub first-entry : first (entries word gens targets (length es)) ≡ some entry
+  pub accepted-rows : isEntry gens targets (space word gens targets entry) ≡ true
+  pub first-listed : first (formulae word gens (space word gens targets entry)) ≡ some es
+
+pub rank-first : (gens targets es : List ℕ) → fewest word gens targets ≡ formula es → RankFirst gens targets es
+rank-first gens targets es e =
+    let R = rank-formula word gens targets es e in
+    let W : List ℕ = space word gens targets (R .entry) in
+    let l = first-some (entries word gens targets (length es)) (R .entry) (R .first-entry) in
+    let E = entry-solves word gens targets (length es) (R .entry) (subst (List·Memᴰ (R .entry)) (sym (l .1)) (List·Memᴰ·head refl)) in
+    record {
+      entry = R .entry;
+      first-entry = R .first-entry;
+      accepted-rows = is-entry gens targets W .1 (subst (λ (k : ℕ). Solution word gens targets k W) (sym (E .size)) E);
+      first-listed = R .first-formula-of;
+    }

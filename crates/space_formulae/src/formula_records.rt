@@ -1,0 +1,33 @@
+// The records of formulae, counted and written one after the other.
+use first_formula::Choice;
+use records::Tally;
+ghost use mathlib.Core.Path.{_≡_};
+ghost use Rattle.first_formula.specs.Choice.{recordOf};
+ghost use Rattle.records.specs.Records.{note};
+ghost use Rattle.records.specs.Keep.{stateOf};
+ghost use Rattle.space_formulae.specs.formula_records.Keep.{Keeping};
+
+// Counts the formula whose products `c` holds, unless the limit is reached, and writes its record where it fits.
+pub fn keep(c: Choice, targets: &[u64], t: Tally, limit: u64, out: &mut [u64]) -> Tally
+    requires { ⌜ Keeping c t limit (now out) ⌝ }
+    ensures { λ r. ⌜ stateOf r (now (out .exit)) ≡ note limit (stateOf t (now (out .entry))) (recordOf c (now (targets .entry))) ⌝ }
+{
+    if t.found == limit {
+        return t;
+    }
+    let at = t.at;
+    let size = c.len + targets.len();
+    if out.len() - at < size {
+        return Tally {
+            found: t.found + 1,
+            shown: t.shown,
+            at: at,
+        };
+    }
+    first_formula::write_formula(c, targets, out, at);
+    Tally {
+        found: t.found + 1,
+        shown: t.shown + 1,
+        at: at + size,
+    }
+}

@@ -1,0 +1,47 @@
+// The formulae of a space of a problem, on numbers.
+use problems::Posed;
+use spaces::Listed;
+ghost use mathlib.Core.Path.{_≡_};
+ghost use Rattle.space_formulae.specs.spaces.Spaces.{formulaeOf, seenFormulae, lentFormulae};
+ghost use Rattle.space_formulae.specs.Replies.{Some, Given};
+
+pub mod enumeration;
+pub mod formula_records;
+pub mod spaces;
+
+// The formulae of a space of a problem whose generators and targets are made; refusals 8 and 10.
+fn list_problem(gens: &[u64], targets: &[u64], rows: &[u64], out: &mut [u64]) -> Listed
+    requires { ⌜ Some (now targets) ⌝ }
+    ensures { λ r. ⌜ Given (now (gens .entry)) (now (targets .entry)) (now (rows .entry)) (now (out .entry)) r (now (out .exit)) ⌝ }
+{
+    let ell = bases::basis_of(targets).len;
+    if rows.len() > ell + 6 {
+        return Listed::Refused(8);
+    }
+    if !spaces::is_entry(gens, targets, rows) {
+        return Listed::Refused(10);
+    }
+    spaces::list_space(gens, targets, rows, out)
+}
+
+// The formulae of the space with these rows, for the problem of the kind with that number and its sizes; `gs` and `ts` are the generators and targets of a list.
+// The records that fit go to `out`, from its start.
+pub fn formulae(
+    number: u64,
+    p: u64,
+    q: u64,
+    r: u64,
+    gs: &[u64],
+    ts: &[u64],
+    rows: &[u64],
+    out: &mut [u64],
+) -> Listed
+    ensures { λ x. ⌜ (formulaeOf number p q r (now (gs .entry)) (now (ts .entry)) (now (rows .entry)) (now (out .entry)) ≡ seenFormulae x (now (out .exit))) × (now (out .exit) ≡ lentFormulae (formulaeOf number p q r (now (gs .entry)) (now (ts .entry)) (now (rows .entry)) (now (out .entry))) (now (out .entry))) ⌝ }
+{
+    let mut g = [0u64; 4095];
+    let mut t = [0u64; 64];
+    match problems::pose(number, p, q, r, gs, ts, rows, &mut g, &mut t) {
+        Posed::Refused(e) => Listed::Refused(e),
+        Posed::Are(n, u) => list_problem(&g[..n], &t[..u], rows, out),
+    }
+}

@@ -1,2 +1,0 @@
--- What the proof of the recursion rests on.
-mod Going

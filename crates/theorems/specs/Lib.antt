@@ -1,0 +1,3 @@
+-- theorems: its parts.
+pub mod catalogue_and_rank
+pub mod worked_entries
