@@ -51,10 +51,13 @@ module _ {b : Basis} {c : Chain} {t : Tally} {limit : ℕ} {out : List ℕ} (K :
 paste-paste : (d : List ℕ) (at : ℕ) (p q : List ℕ) → at + length p ≤ length d
     → paste (paste d at p (length p)) (at + length p) q (length q) ≡ paste d at (p ++ q) (length (p ++ q))
 paste-paste d at p q h =
-    ap₂ (λ (x y : List ℕ). x ++ take (length q) q ++ y) (take-paste d at p (length p) (omega arith) (omega arith) ∙ ap (λ (x : List ℕ). take at d ++ x) (take-length p))
-    (sym (drop-drop (length q) (at + length p) (paste d at p (length p))) ∙ ap (drop (length q)) (drop-paste d at p (length p) (omega arith) (omega arith)) ∙ drop-drop (length q) (at + length p) d)
+    ap₂ (λ (x y : List ℕ). x ++ take (length q) q ++ y)
+    (take-paste d at p (length p) (omega arith) (omega arith) ∙ ap (λ (x : List ℕ). take at d ++ x) (take-length p))
+    (sym (drop-drop (length q) (at + length p) (paste d at p (length p))) ∙ ap (drop (length q))
+    (drop-paste d at p (length p) (omega arith) (omega arith)) ∙ drop-drop (length q) (at + length p) d)
     ∙ ap (λ (x : List ℕ). take at d ++ p ++ x ++ drop (at + length p + length q) d) (take-length q)
-    ∙ ap₂ (λ (x : List ℕ) (n : ℕ). x ++ drop n d) (append-assoc (take at d) p q ∙ ap (λ (x : List ℕ). take at d ++ x) (sym (take-length (p ++ q)))) (let e : at + length p + length q ≡ at + length (p ++ q) = omega (arith, length-append p q) in e)
+    ∙ ap₂ (λ (x : List ℕ) (n : ℕ). x ++ drop n d) (append-assoc (take at d) p q ∙ ap (λ (x : List ℕ). take at d ++ x) (sym (take-length (p ++ q))))
+    (let e : at + length p + length q ≡ at + length (p ++ q) = omega (arith, length-append p q) in e)
 
 module _ (limit : ℕ) (t : Tally) (out p q : List ℕ) where
   pub keep-full : t .found ≡ limit → stateOf t out ≡ note limit (stateOf t out) (p ++ q)

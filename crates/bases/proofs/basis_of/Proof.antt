@@ -18,20 +18,8 @@ empty-requires c κs = tt
 loop-holds : tie.Need-loop-holds Inv-loop μ-loop
 loop-holds c = basing-start (c .before .before .args .xs .now) (c .empty .result) (c .empty .ensures)
 
-mul-insert : tie.Need-mul-insert Inv-loop μ-loop
-mul-insert c = omega arith
-
-shared-slice-read-insert : tie.Need-shared-slice-read-insert Inv-loop μ-loop
-shared-slice-read-insert c = omega arith
-
 insert-requires : tie.Need-insert-requires Inv-loop μ-loop
 insert-requires c κs = c .before .before .loop .inv .valid
-
-add-i : tie.Need-add-i Inv-loop μ-loop
-add-i c = omega arith
-
-loop-less : tie.Need-loop-less Inv-loop μ-loop
-loop-less c = omega arith
 
 loop-again : tie.Need-loop-again Inv-loop μ-loop
 loop-again c =
@@ -49,10 +37,10 @@ basis-of-spec =
     μ-loop
     empty-requires
     loop-holds
-    mul-insert
-    shared-slice-read-insert
+    (λ c. omega arith)
+    (λ c. omega arith)
     insert-requires
-    add-i
-    loop-less
+    (λ c. omega arith)
+    (λ c. omega arith)
     loop-again
     returns)

@@ -12,63 +12,98 @@ use Rattle.catalogue.proofs.catalogue.Lts as lts
 use Rattle.problems.proofs.pose.Reads as pose-reads
 use Rattle.catalogue.proofs.list_problem.Reads as list-problem-reads
 
-slice-aggregate-pose : tie.Need-slice-aggregate-pose
-slice-aggregate-pose c = search needs
-
-slice-aggregate-pose-2 : tie.Need-slice-aggregate-pose-2
-slice-aggregate-pose-2 c = search needs
-
-slice-aggregate-pose-3 : tie.Need-slice-aggregate-pose-3
-slice-aggregate-pose-3 c = search needs
-
-pose-requires : tie.Need-pose-requires
-pose-requires c κs = search needs
-
-enum-known-e : tie.Need-enum-known-e
-enum-known-e c = search needs
-
-enum-known-n : tie.Need-enum-known-n
-enum-known-n c = search needs
-
 array-share-prefix-g : tie.Need-array-share-prefix-g
-array-share-prefix-g c = let m = made-room (c .before .before .before .before .before .before .before .before .before .before .before .before .args .number) (c .before .before .before .before .before .before .before .before .before .before .before .before .args .p) (c .before .before .before .before .before .before .before .before .before .before .before .before .args .q) (c .before .before .before .before .before .before .before .before .before .before .before .before .args .r) (c .before .before .before .before .before .before .before .before .before .before .before .before .args .k) (c .before .before .before .before .before .before .before .before .before .before .before .before .args .gs .now) (c .before .before .before .before .before .before .before .before .before .before .before .before .args .ts .now) (c .before .before .before .before .before .before .before .before .before .before .before .before .args .out .now) _ _ (c .before .before .before .before .before .pose .result) (c .before .before .before .before .before .pose .ensures) (c .before .n .given .0 .0) (c .before .n .given .0 .1 .0) (c .before .n .given .1) in let a = m .generators in let l = c .before .before .before .before .before .pose .kept .1 .1 .1 .1 .1 .1 .1 .0 in omega arith
+array-share-prefix-g c =
+    let args = c .before .before .before .before .before .before .before .before .before .before .before .before .args in
+    let pose = c .before .before .before .before .before .pose in
+    let m = made-room (args .number) (args .p) (args .q) (args .r) (args .k) (args .gs .now) (args .ts .now) (args .out .now) _ _ (pose .result)
+    (pose .ensures) (c .before .n .given .0 .0) (c .before .n .given .0 .1 .0) (c .before .n .given .1) in
+    let a = m .generators in
+    let l = pose .kept .1 .1 .1 .1 .1 .1 .1 .0 in
+    omega arith
 
 slice-aggregate-list-problem : tie.Need-slice-aggregate-list-problem
-slice-aggregate-list-problem c = let m = made-room (c .before .before .before .before .before .before .before .before .before .before .before .before .before .args .number) (c .before .before .before .before .before .before .before .before .before .before .before .before .before .args .p) (c .before .before .before .before .before .before .before .before .before .before .before .before .before .args .q) (c .before .before .before .before .before .before .before .before .before .before .before .before .before .args .r) (c .before .before .before .before .before .before .before .before .before .before .before .before .before .args .k) (c .before .before .before .before .before .before .before .before .before .before .before .before .before .args .gs .now) (c .before .before .before .before .before .before .before .before .before .before .before .before .before .args .ts .now) (c .before .before .before .before .before .before .before .before .before .before .before .before .before .args .out .now) _ _ (c .before .before .before .before .before .before .pose .result) (c .before .before .before .before .before .before .pose .ensures) (c .before .before .n .given .0 .0) (c .before .before .n .given .0 .1 .0) (c .before .before .n .given .1) in let a = m .generators in let l = c .before .before .before .before .before .before .pose .kept .1 .1 .1 .1 .1 .1 .1 .0 in sym (length-take-le _ _ (omega arith))
+slice-aggregate-list-problem c =
+    let far = c .before .before .before .before .before .before .before .before .before .before .before .before in
+    let args = far .before .args in
+    let pose = c .before .before .before .before .before .before .pose in
+    let n = c .before .before .n in
+    let m = made-room (args .number) (args .p) (args .q) (args .r) (args .k) (args .gs .now) (args .ts .now) (args .out .now) _ _ (pose .result)
+    (pose .ensures) (n .given .0 .0) (n .given .0 .1 .0) (n .given .1) in
+    let a = m .generators in
+    let l = pose .kept .1 .1 .1 .1 .1 .1 .1 .0 in
+    sym (length-take-le _ _ (omega arith))
 
 array-share-prefix-t : tie.Need-array-share-prefix-t
-array-share-prefix-t c = let m = made-room (c .before .before .before .before .before .before .before .before .before .before .before .before .before .args .number) (c .before .before .before .before .before .before .before .before .before .before .before .before .before .args .p) (c .before .before .before .before .before .before .before .before .before .before .before .before .before .args .q) (c .before .before .before .before .before .before .before .before .before .before .before .before .before .args .r) (c .before .before .before .before .before .before .before .before .before .before .before .before .before .args .k) (c .before .before .before .before .before .before .before .before .before .before .before .before .before .args .gs .now) (c .before .before .before .before .before .before .before .before .before .before .before .before .before .args .ts .now) (c .before .before .before .before .before .before .before .before .before .before .before .before .before .args .out .now) _ _ (c .before .before .before .before .before .before .pose .result) (c .before .before .before .before .before .before .pose .ensures) (c .before .before .n .given .0 .0) (c .before .before .n .given .0 .1 .0) (c .before .before .n .given .1) in let a = m .targets in let l = c .before .before .before .before .before .before .pose .kept .1 .1 .1 .1 .1 .1 .1 .1 .0 in omega arith
+array-share-prefix-t c =
+    let far = c .before .before .before .before .before .before .before .before .before .before .before .before in
+    let args = far .before .args in
+    let pose = c .before .before .before .before .before .before .pose in
+    let n = c .before .before .n in
+    let m = made-room (args .number) (args .p) (args .q) (args .r) (args .k) (args .gs .now) (args .ts .now) (args .out .now) _ _ (pose .result)
+    (pose .ensures) (n .given .0 .0) (n .given .0 .1 .0) (n .given .1) in
+    let a = m .targets in
+    let l = pose .kept .1 .1 .1 .1 .1 .1 .1 .1 .0 in
+    omega arith
 
 slice-aggregate-list-problem-2 : tie.Need-slice-aggregate-list-problem-2
-slice-aggregate-list-problem-2 c = let m = made-room (c .before .before .before .before .before .before .before .before .before .before .before .before .before .before .args .number) (c .before .before .before .before .before .before .before .before .before .before .before .before .before .before .args .p) (c .before .before .before .before .before .before .before .before .before .before .before .before .before .before .args .q) (c .before .before .before .before .before .before .before .before .before .before .before .before .before .before .args .r) (c .before .before .before .before .before .before .before .before .before .before .before .before .before .before .args .k) (c .before .before .before .before .before .before .before .before .before .before .before .before .before .before .args .gs .now) (c .before .before .before .before .before .before .before .before .before .before .before .before .before .before .args .ts .now) (c .before .before .before .before .before .before .before .before .before .before .before .before .before .before .args .out .now) _ _ (c .before .before .before .before .before .before .before .pose .result) (c .before .before .before .before .before .before .before .pose .ensures) (c .before .before .before .n .given .0 .0) (c .before .before .before .n .given .0 .1 .0) (c .before .before .before .n .given .1) in let a = m .targets in let l = c .before .before .before .before .before .before .before .pose .kept .1 .1 .1 .1 .1 .1 .1 .1 .0 in sym (length-take-le _ _ (omega arith))
+slice-aggregate-list-problem-2 c =
+    let far = c .before .before .before .before .before .before .before .before .before .before .before .before in
+    let args = far .before .before .args in
+    let pose = c .before .before .before .before .before .before .before .pose in
+    let n = c .before .before .before .n in
+    let m = made-room (args .number) (args .p) (args .q) (args .r) (args .k) (args .gs .now) (args .ts .now) (args .out .now) _ _ (pose .result)
+    (pose .ensures) (n .given .0 .0) (n .given .0 .1 .0) (n .given .1) in
+    let a = m .targets in
+    let l = pose .kept .1 .1 .1 .1 .1 .1 .1 .1 .0 in
+    sym (length-take-le _ _ (omega arith))
 
 list-problem-requires : tie.Need-list-problem-requires
-list-problem-requires c κs = let m = made-room (c .before .before .before .before .before .before .before .before .before .before .before .before .before .before .before .args .number) (c .before .before .before .before .before .before .before .before .before .before .before .before .before .before .before .args .p) (c .before .before .before .before .before .before .before .before .before .before .before .before .before .before .before .args .q) (c .before .before .before .before .before .before .before .before .before .before .before .before .before .before .before .args .r) (c .before .before .before .before .before .before .before .before .before .before .before .before .before .before .before .args .k) (c .before .before .before .before .before .before .before .before .before .before .before .before .before .before .before .args .gs .now) (c .before .before .before .before .before .before .before .before .before .before .before .before .before .before .before .args .ts .now) (c .before .before .before .before .before .before .before .before .before .before .before .before .before .before .before .args .out .now) _ _ (c .before .before .before .before .before .before .before .before .pose .result) (c .before .before .before .before .before .before .before .before .pose .ensures) (c .before .before .before .before .n .given .0 .0) (c .before .before .before .before .n .given .0 .1 .0) (c .before .before .before .before .n .given .1) in part-few _ _ (m .generators)
+list-problem-requires c κs =
+    let far = c .before .before .before .before .before .before .before .before .before .before .before .before in
+    let args = far .before .before .before .args in
+    let pose = c .before .before .before .before .before .before .before .before .pose in
+    let n = c .before .before .before .before .n in
+    let m = made-room (args .number) (args .p) (args .q) (args .r) (args .k) (args .gs .now) (args .ts .now) (args .out .now) _ _ (pose .result)
+    (pose .ensures) (n .given .0 .0) (n .given .0 .1 .0) (n .given .1) in
+    part-few _ _ (m .generators)
 
 returns : tie.Need-returns
-returns c = replied-refused (catalogue (c .before .before .before .before .before .before .before .before .before .before .before .before .args .number) (c .before .before .before .before .before .before .before .before .before .before .before .before .args .p) (c .before .before .before .before .before .before .before .before .before .before .before .before .args .q) (c .before .before .before .before .before .before .before .before .before .before .before .before .args .r) (c .before .before .before .before .before .before .before .before .before .before .before .before .args .k) (c .before .before .before .before .before .before .before .before .before .before .before .before .args .gs .now) (c .before .before .before .before .before .before .before .before .before .before .before .before .args .ts .now) (c .before .before .before .before .before .before .before .before .before .before .before .before .args .out .now)) (c .before .before .before .before .before .before .before .before .before .before .before .before .args .out .now) (c .before .e .given .0 .0) (catalogue-refused (c .before .before .before .before .before .before .before .before .before .before .before .before .args .number) (c .before .before .before .before .before .before .before .before .before .before .before .before .args .p) (c .before .before .before .before .before .before .before .before .before .before .before .before .args .q) (c .before .before .before .before .before .before .before .before .before .before .before .before .args .r) (c .before .before .before .before .before .before .before .before .before .before .before .before .args .k) (c .before .before .before .before .before .before .before .before .before .before .before .before .args .gs .now) (c .before .before .before .before .before .before .before .before .before .before .before .before .args .ts .now) (c .before .before .before .before .before .before .before .before .before .before .before .before .args .out .now) _ _ (c .before .before .before .before .before .pose .result) (c .before .before .before .before .before .pose .ensures) (c .before .e .given .0 .0) (c .before .e .given .1))
-
-same-length : tie.Need-same-length
-same-length c = search needs
+returns c =
+    let args = c .before .before .before .before .before .before .before .before .before .before .before .before .args in
+    let pose = c .before .before .before .before .before .pose in
+    replied-refused (catalogue (args .number) (args .p) (args .q) (args .r) (args .k) (args .gs .now) (args .ts .now) (args .out .now))
+    (args .out .now) (c .before .e .given .0 .0)
+    (catalogue-refused (args .number) (args .p) (args .q) (args .r) (args .k) (args .gs .now) (args .ts .now) (args .out .now) _ _ (pose .result)
+    (pose .ensures) (c .before .e .given .0 .0) (c .before .e .given .1))
 
 returns-2 : tie.Need-returns-2
-returns-2 c = replied-given (catalogue (c .before .before .before .before .before .before .before .before .before .before .before .before .before .before .before .before .before .before .args .number) (c .before .before .before .before .before .before .before .before .before .before .before .before .before .before .before .before .before .before .args .p) (c .before .before .before .before .before .before .before .before .before .before .before .before .before .before .before .before .before .before .args .q) (c .before .before .before .before .before .before .before .before .before .before .before .before .before .before .before .before .before .before .args .r) (c .before .before .before .before .before .before .before .before .before .before .before .before .before .before .before .before .before .before .args .k) (c .before .before .before .before .before .before .before .before .before .before .before .before .before .before .before .before .before .before .args .gs .now) (c .before .before .before .before .before .before .before .before .before .before .before .before .before .before .before .before .before .before .args .ts .now) (c .before .before .before .before .before .before .before .before .before .before .before .before .before .before .before .before .before .before .args .out .now)) _ _ (c .before .before .before .before .before .before .before .before .before .before .before .before .before .before .before .before .before .before .args .k) (c .before .before .before .before .before .before .before .before .before .before .before .before .before .before .before .before .before .before .args .out .now) (c .before .before .list-problem .result) _ (catalogue-made (c .before .before .before .before .before .before .before .before .before .before .before .before .before .before .before .before .before .before .args .number) (c .before .before .before .before .before .before .before .before .before .before .before .before .before .before .before .before .before .before .args .p) (c .before .before .before .before .before .before .before .before .before .before .before .before .before .before .before .before .before .before .args .q) (c .before .before .before .before .before .before .before .before .before .before .before .before .before .before .before .before .before .before .args .r) (c .before .before .before .before .before .before .before .before .before .before .before .before .before .before .before .before .before .before .args .k) (c .before .before .before .before .before .before .before .before .before .before .before .before .before .before .before .before .before .before .args .gs .now) (c .before .before .before .before .before .before .before .before .before .before .before .before .before .before .before .before .before .before .args .ts .now) (c .before .before .before .before .before .before .before .before .before .before .before .before .before .before .before .before .before .before .args .out .now) _ _ (c .before .before .before .before .before .before .before .before .before .before .before .pose .result) (c .before .before .before .before .before .before .before .before .before .before .before .pose .ensures) (c .before .before .before .before .before .before .before .n .given .0 .0) (c .before .before .before .before .before .before .before .n .given .0 .1 .0) (c .before .before .before .before .before .before .before .n .given .1)) (c .before .before .list-problem .ensures)
+returns-2 c =
+    let far = c .before .before .before .before .before .before .before .before .before .before .before .before in
+    let args = far .before .before .before .before .before .before .args in
+    let pose = c .before .before .before .before .before .before .before .before .before .before .before .pose in
+    let n = c .before .before .before .before .before .before .before .n in
+    let list-problem = c .before .before .list-problem in
+    replied-given (catalogue (args .number) (args .p) (args .q) (args .r) (args .k) (args .gs .now) (args .ts .now) (args .out .now)) _ _ (args .k)
+    (args .out .now) (list-problem .result) _
+    (catalogue-made (args .number) (args .p) (args .q) (args .r) (args .k) (args .gs .now) (args .ts .now) (args .out .now) _ _ (pose .result)
+    (pose .ensures) (n .given .0 .0) (n .given .0 .1 .0) (n .given .1)) (list-problem .ensures)
 
 pub catalogue-spec : {M : Type 1} → statement M
 catalogue-spec =
     tie.close
     (tie.spec
-    slice-aggregate-pose
-    slice-aggregate-pose-2
-    slice-aggregate-pose-3
-    pose-requires
-    enum-known-e
-    enum-known-n
+    (λ c. search needs)
+    (λ c. search needs)
+    (λ c. search needs)
+    (λ c κs. search needs)
+    (λ c. search needs)
+    (λ c. search needs)
     array-share-prefix-g
     slice-aggregate-list-problem
     array-share-prefix-t
     slice-aggregate-list-problem-2
     list-problem-requires
     returns
-    same-length
+    (λ c. search needs)
     returns-2)

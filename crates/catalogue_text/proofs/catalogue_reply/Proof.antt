@@ -39,19 +39,43 @@ slice-aggregate-catalogue-text : tie.Need-slice-aggregate-catalogue-text
 slice-aggregate-catalogue-text c = sym (c .before .before .before .before .before .catalogue .kept .1 .1 .1 .1 .1 .1 .1 .0 ∙ length-replicate {A = ℕ} _ 0)
 
 catalogue-text-requires : tie.Need-catalogue-text-requires
-catalogue-text-requires c κs = reply-records (c .before .before .before .before .before .before .before .before .before .before .before .before .args .kind) (c .before .before .before .before .before .before .before .before .before .before .before .before .args .p) (c .before .before .before .before .before .before .before .before .before .before .before .before .args .q) (c .before .before .before .before .before .before .before .before .before .before .before .before .args .r) (c .before .before .before .before .before .before .before .before .before .before .before .before .args .k) (c .before .before .before .before .before .before .before .before .before .before .before .before .args .gs .now) (c .before .before .before .before .before .before .before .before .before .before .before .before .args .ts .now) _ (c .before .before .before .before .before .before .catalogue .result) _ (record { named = c .before .before .before .before .before .before .before .before .number-of .ensures; answer = c .before .before .before .before .before .before .catalogue .ensures .0; size = c .before .before .before .before .before .before .catalogue .kept .1 .1 .1 .1 .1 .1 .1 .0 }) (c .before .before .before .said2 .given .0 .0) (c .before .before .before .said2 .given .0 .1 .0) (c .before .before .before .said2 .given .0 .1 .1 .0) (c .before .before .before .said2 .given .1)
+catalogue-text-requires c κs =
+    let args = c .before .before .before .before .before .before .before .before .before .before .before .before .args in
+    let number-of = c .before .before .before .before .before .before .before .before .number-of in
+    let catalogue = c .before .before .before .before .before .before .catalogue in
+    let said2 = c .before .before .before .said2 in
+    reply-records (args .kind) (args .p) (args .q) (args .r) (args .k) (args .gs .now) (args .ts .now) _ (catalogue .result) _
+    (record { named = number-of .ensures; answer = catalogue .ensures .0; size = catalogue .kept .1 .1 .1 .1 .1 .1 .1 .0 }) (said2 .given .0 .0)
+    (said2 .given .0 .1 .0) (said2 .given .0 .1 .1 .0) (said2 .given .1)
 
 same-length : tie.Need-same-length
 same-length c = c .before .before .refused-page .kept .1 .0
 
 returns : tie.Need-returns
-returns c = reply-refused (c .before .before .before .before .before .before .before .before .before .before .before .before .before .before .args .kind) (c .before .before .before .before .before .before .before .before .before .before .before .before .before .before .args .p) (c .before .before .before .before .before .before .before .before .before .before .before .before .before .before .args .q) (c .before .before .before .before .before .before .before .before .before .before .before .before .before .before .args .r) (c .before .before .before .before .before .before .before .before .before .before .before .before .before .before .args .k) (c .before .before .before .before .before .before .before .before .before .before .before .before .before .before .args .gs .now) (c .before .before .before .before .before .before .before .before .before .before .before .before .before .before .args .ts .now) _ (c .before .before .before .before .before .before .before .before .catalogue .result) _ (record { named = c .before .before .before .before .before .before .before .before .before .before .number-of .ensures; answer = c .before .before .before .before .before .before .before .before .catalogue .ensures .0; size = c .before .before .before .before .before .before .before .before .catalogue .kept .1 .1 .1 .1 .1 .1 .1 .0 }) (c .before .before .before .before .before .said .given .0 .0) _ _ (c .before .before .before .before .before .said .given .1) (c .before .before .refused-page .ensures)
+returns c =
+    let far = c .before .before .before .before .before .before .before .before .before .before .before .before in
+    let args = far .before .before .args in
+    let number-of = c .before .before .before .before .before .before .before .before .before .before .number-of in
+    let catalogue = c .before .before .before .before .before .before .before .before .catalogue in
+    let said = c .before .before .before .before .before .said in
+    reply-refused (args .kind) (args .p) (args .q) (args .r) (args .k) (args .gs .now) (args .ts .now) _ (catalogue .result) _
+    (record { named = number-of .ensures; answer = catalogue .ensures .0; size = catalogue .kept .1 .1 .1 .1 .1 .1 .1 .0 }) (said .given .0 .0) _
+    _ (said .given .1) (c .before .before .refused-page .ensures)
 
 same-length-2 : tie.Need-same-length-2
 same-length-2 c = c .before .before .catalogue-text .kept .1 .1 .1 .1 .1 .1 .1 .1 .1 .0
 
 returns-2 : tie.Need-returns-2
-returns-2 c = reply-entries (c .before .before .before .before .before .before .before .before .before .before .before .before .before .before .before .args .kind) (c .before .before .before .before .before .before .before .before .before .before .before .before .before .before .before .args .p) (c .before .before .before .before .before .before .before .before .before .before .before .before .before .before .before .args .q) (c .before .before .before .before .before .before .before .before .before .before .before .before .before .before .before .args .r) (c .before .before .before .before .before .before .before .before .before .before .before .before .before .before .before .args .k) (c .before .before .before .before .before .before .before .before .before .before .before .before .before .before .before .args .gs .now) (c .before .before .before .before .before .before .before .before .before .before .before .before .before .before .before .args .ts .now) _ (c .before .before .before .before .before .before .before .before .before .catalogue .result) _ (record { named = c .before .before .before .before .before .before .before .before .before .before .before .number-of .ensures; answer = c .before .before .before .before .before .before .before .before .before .catalogue .ensures .0; size = c .before .before .before .before .before .before .before .before .before .catalogue .kept .1 .1 .1 .1 .1 .1 .1 .0 }) (c .before .before .before .before .before .before .said2 .given .0 .0) (c .before .before .before .before .before .before .said2 .given .0 .1 .0) (c .before .before .before .before .before .before .said2 .given .0 .1 .1 .0) (c .before .before .before .before .before .before .said2 .given .1) (c .before .before .before .before .before .before .before .before .before .before .before .before .before .before .before .args .page .now) _ _ (c .before .before .before .before .before .before .before .before .before .before .before .before .before .before .before .pre) (c .before .before .catalogue-text .ensures)
+returns-2 c =
+    let far = c .before .before .before .before .before .before .before .before .before .before .before .before in
+    let args = far .before .before .before .args in
+    let pre = far .before .before .before .pre in
+    let number-of = c .before .before .before .before .before .before .before .before .before .before .before .number-of in
+    let catalogue = c .before .before .before .before .before .before .before .before .before .catalogue in
+    let said2 = c .before .before .before .before .before .before .said2 in
+    reply-entries (args .kind) (args .p) (args .q) (args .r) (args .k) (args .gs .now) (args .ts .now) _ (catalogue .result) _
+    (record { named = number-of .ensures; answer = catalogue .ensures .0; size = catalogue .kept .1 .1 .1 .1 .1 .1 .1 .0 }) (said2 .given .0 .0)
+    (said2 .given .0 .1 .0) (said2 .given .0 .1 .1 .0) (said2 .given .1) (args .page .now) _ _ pre (c .before .before .catalogue-text .ensures)
 
 pub catalogue-reply-spec : {M : Type 1} → statement M
 catalogue-reply-spec =

@@ -40,9 +40,6 @@ check-program-requires c κs = length-replicate {A = ℕ} 256 0
 write-all-requires : tie.Need-write-all-requires
 write-all-requires c κs = tt
 
-slice-aggregate-write-all : tie.Need-slice-aggregate-write-all
-slice-aggregate-write-all c = refl
-
 write-all-requires-2 : tie.Need-write-all-requires-2
 write-all-requires-2 c κs = tt
 
@@ -50,7 +47,10 @@ array-share-prefix-out : tie.Need-array-share-prefix-out
 array-share-prefix-out c = let p = c .before .before .before .before .check-program in at-most (p .kept .1 .0 ∙ length-replicate {A = ℕ} 256 0) (p .ensures .1)
 
 slice-aggregate-write-all-2 : tie.Need-slice-aggregate-write-all-2
-slice-aggregate-write-all-2 c = let p = c .before .before .before .before .before .check-program in sym (length-take-le (p .result) (p .last .1 .0) (at-most (p .kept .1 .0 ∙ length-replicate {A = ℕ} 256 0) (p .ensures .1)))
+slice-aggregate-write-all-2 c =
+    let check-program = c .before .before .before .before .before .check-program in
+    let p = check-program in
+    sym (length-take-le (p .result) (p .last .1 .0) (at-most (p .kept .1 .0 ∙ length-replicate {A = ℕ} 256 0) (p .ensures .1)))
 
 write-all-requires-3 : tie.Need-write-all-requires-3
 write-all-requires-3 c κs = tt
@@ -73,7 +73,7 @@ run-spec =
     slice-aggregate-check-program-2
     check-program-requires
     write-all-requires
-    slice-aggregate-write-all
+    (λ c. refl)
     write-all-requires-2
     array-share-prefix-out
     slice-aggregate-write-all-2

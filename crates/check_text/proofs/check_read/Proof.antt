@@ -29,33 +29,54 @@ enum-told c = c .match .keys2
 
 returns : tie.Need-returns
 returns c =
-    let e = c .before .before .before .before .before .before .pre .sized in
-    let f : sizes (c .before .before .before .before .before .before .args .kind) (c .before .before .before .before .before .before .args .p) (c .before .before .before .before .before .before .args .q) (c .before .before .before .before .before .before .args .r) ≡ none = c .before .before .sizes-of .ensures ∙ ap seenSizes (c .enum-told .given .1) in
+    let args = c .before .before .before .before .before .before .args in
+    let pre = c .before .before .before .before .before .before .pre in
+    let e = pre .sized in
+    let f : sizes (args .kind) (args .p) (args .q) (args .r) ≡ none = c .before .before .sizes-of .ensures ∙ ap seenSizes (c .enum-told .given .1) in
     absurd (let z : _≡_ {A = ℕ} 0 1 = cc in omega arith)
 
 number-of-requires : tie.Need-number-of-requires
 number-of-requires c κs = tt
 
 slice-aggregate-check : tie.Need-slice-aggregate-check
-slice-aggregate-check c = sym (length-take-le (c .before .before .before .before .before .before .before .before .before .args .k) (c .before .before .before .before .before .before .before .before .before .args .a .now) (c .before .before .before .before .before .before .before .before .before .pre .firsts))
+slice-aggregate-check c =
+    let args = c .before .before .before .before .before .before .before .before .before .args in
+    let pre = c .before .before .before .before .before .before .before .before .before .pre in
+    sym (length-take-le (args .k) (args .a .now) (pre .firsts))
 
 slice-aggregate-check-2 : tie.Need-slice-aggregate-check-2
-slice-aggregate-check-2 c = sym (length-take-le (c .before .before .before .before .before .before .before .before .before .before .args .k) (c .before .before .before .before .before .before .before .before .before .before .args .b .now) (c .before .before .before .before .before .before .before .before .before .before .pre .seconds))
+slice-aggregate-check-2 c =
+    let args = c .before .before .before .before .before .before .before .before .before .before .args in
+    let pre = c .before .before .before .before .before .before .before .before .before .before .pre in
+    sym (length-take-le (args .k) (args .b .now) (pre .seconds))
 
 slice-aggregate-check-3 : tie.Need-slice-aggregate-check-3
 slice-aggregate-check-3 c =
-    let o = outs (c .before .before .before .before .before .before .before .before .before .before .before .args .kind) (c .before .before .before .before .before .before .before .before .before .before .before .args .p) (c .before .before .before .before .before .before .before .before .before .before .before .args .q) (c .before .before .before .before .before .before .before .before .before .before .before .args .r) _ (c .before .before .before .before .before .before .before .sizes-of .ensures ∙ ap seenSizes (c .before .before .before .before .before .outputs .given .1)) in
-    let s = outs (c .before .before .before .before .before .before .before .before .before .before .before .args .kind) (c .before .before .before .before .before .before .before .before .before .before .before .args .p) (c .before .before .before .before .before .before .before .before .before .before .before .args .q) (c .before .before .before .before .before .before .before .before .before .before .before .args .r) _ (c .before .before .before .before .before .before .before .before .before .before .before .pre .sized) in
-    sym (length-take-le (c .before .before .before .before .before .outputs .given .0 .1 .1 .0) (c .before .before .before .before .before .before .before .before .before .before .before .args .rows .now) (let h = c .before .before .before .before .before .before .before .before .before .before .before .pre .outputs in omega arith))
+    let args = c .before .before .before .before .before .before .before .before .before .before .before .args in
+    let pre = c .before .before .before .before .before .before .before .before .before .before .before .pre in
+    let sizes-of = c .before .before .before .before .before .before .before .sizes-of in
+    let outputs = c .before .before .before .before .before .outputs in
+    let o = outs (args .kind) (args .p) (args .q) (args .r) _ (sizes-of .ensures ∙ ap seenSizes (outputs .given .1)) in
+    let s = outs (args .kind) (args .p) (args .q) (args .r) _ (pre .sized) in
+    sym (length-take-le (outputs .given .0 .1 .1 .0) (args .rows .now) (let h = pre .outputs in omega arith))
 
 check-requires : tie.Need-check-requires
 check-requires c κs = tt
 
 returns-2 : tie.Need-returns-2
 returns-2 c =
-    let o : outputsOf (c .before .before .before .before .before .before .before .before .before .before .before .before .args .kind) (c .before .before .before .before .before .before .before .before .before .before .before .before .args .p) (c .before .before .before .before .before .before .before .before .before .before .before .before .args .q) (c .before .before .before .before .before .before .before .before .before .before .before .before .args .r) ≡ (c .before .before .before .before .before .before .outputs .given .0 .1 .1 .0) = outs (c .before .before .before .before .before .before .before .before .before .before .before .before .args .kind) (c .before .before .before .before .before .before .before .before .before .before .before .before .args .p) (c .before .before .before .before .before .before .before .before .before .before .before .before .args .q) (c .before .before .before .before .before .before .before .before .before .before .before .before .args .r) _ (c .before .before .before .before .before .before .before .before .sizes-of .ensures ∙ ap seenSizes (c .before .before .before .before .before .before .outputs .given .1)) in
-    ap (λ (u : ℕ). check (numberOf (c .before .before .before .before .before .before .before .before .before .before .before .before .args .kind)) (c .before .before .before .before .before .before .before .before .before .before .before .before .args .p) (c .before .before .before .before .before .before .before .before .before .before .before .before .args .q) (c .before .before .before .before .before .before .before .before .before .before .before .before .args .r) (c .before .before .before .before .before .before .before .before .before .before .before .before .args .k) (take (c .before .before .before .before .before .before .before .before .before .before .before .before .args .k) (c .before .before .before .before .before .before .before .before .before .before .before .before .args .a .now)) (take (c .before .before .before .before .before .before .before .before .before .before .before .before .args .k) (c .before .before .before .before .before .before .before .before .before .before .before .before .args .b .now)) (take u (c .before .before .before .before .before .before .before .before .before .before .before .before .args .rows .now))) o
-    ∙ ap (λ (x : ℕ). check x (c .before .before .before .before .before .before .before .before .before .before .before .before .args .p) (c .before .before .before .before .before .before .before .before .before .before .before .before .args .q) (c .before .before .before .before .before .before .before .before .before .before .before .before .args .r) (c .before .before .before .before .before .before .before .before .before .before .before .before .args .k) (take (c .before .before .before .before .before .before .before .before .before .before .before .before .args .k) (c .before .before .before .before .before .before .before .before .before .before .before .before .args .a .now)) (take (c .before .before .before .before .before .before .before .before .before .before .before .before .args .k) (c .before .before .before .before .before .before .before .before .before .before .before .before .args .b .now)) (take (c .before .before .before .before .before .before .outputs .given .0 .1 .1 .0) (c .before .before .before .before .before .before .before .before .before .before .before .before .args .rows .now))) (sym (c .before .before .before .before .number-of .ensures))
+    let args = c .before .before .before .before .before .before .before .before .before .before .before .before .args in
+    let sizes-of = c .before .before .before .before .before .before .before .before .sizes-of in
+    let outputs = c .before .before .before .before .before .before .outputs in
+    let number-of = c .before .before .before .before .number-of in
+    let o : outputsOf (args .kind) (args .p) (args .q) (args .r) ≡ (outputs .given .0 .1 .1 .0) = outs (args .kind) (args .p) (args .q) (args .r) _
+    (sizes-of .ensures ∙ ap seenSizes (outputs .given .1)) in
+    ap
+    (λ (u : ℕ). check (numberOf (args .kind)) (args .p) (args .q) (args .r) (args .k) (take (args .k) (args .a .now))
+    (take (args .k) (args .b .now)) (take u (args .rows .now))) o
+    ∙ ap
+    (λ (x : ℕ). check x (args .p) (args .q) (args .r) (args .k) (take (args .k) (args .a .now)) (take (args .k) (args .b .now))
+    (take (outputs .given .0 .1 .1 .0) (args .rows .now))) (sym (number-of .ensures))
     ∙ c .check .ensures
 
 pub check-read-spec : {M : Type 1} → statement M

@@ -33,18 +33,34 @@ check-text-requires c κs = tt
 
 returns : tie.Need-returns
 returns c =
-    let e : replyText (c .before .before .before .before .before .before .before .before .args .kind) (c .before .before .before .before .before .before .before .before .args .p) (c .before .before .before .before .before .before .before .before .args .q) (c .before .before .before .before .before .before .before .before .args .r) (c .before .before .before .before .before .before .before .before .args .k) (check (numberOf (c .before .before .before .before .before .before .before .before .args .kind)) (c .before .before .before .before .before .before .before .before .args .p) (c .before .before .before .before .before .before .before .before .args .q) (c .before .before .before .before .before .before .before .before .args .r) (c .before .before .before .before .before .before .before .before .args .k) (take (c .before .before .before .before .before .before .before .before .args .k) (c .before .before .before .before .before .before .before .before .args .a .now)) (take (c .before .before .before .before .before .before .before .before .args .k) (c .before .before .before .before .before .before .before .before .args .b .now)) (take (outputsOf (c .before .before .before .before .before .before .before .before .args .kind) (c .before .before .before .before .before .before .before .before .args .p) (c .before .before .before .before .before .before .before .before .args .q) (c .before .before .before .before .before .before .before .before .args .r)) (c .before .before .before .before .before .before .before .before .args .rows .now))) ≡ refused (c .before .said .given .0 .0) = ap (replyText (c .before .before .before .before .before .before .before .before .args .kind) (c .before .before .before .before .before .before .before .before .args .p) (c .before .before .before .before .before .before .before .before .args .q) (c .before .before .before .before .before .before .before .before .args .r) (c .before .before .before .before .before .before .before .before .args .k)) (c .before .before .before .check-read .ensures ∙ ap seenReply (c .before .said .given .1)) in
-    (ap (λ (x : Answer (List ℕ)). replyOf x (c .before .before .before .before .before .before .before .before .args .out .now)) (sym e), ap (λ (x : Answer (List ℕ)). bytesOf x (c .before .before .before .before .before .before .before .before .args .out .now)) (sym e))
+    let args = c .before .before .before .before .before .before .before .before .args in
+    let check-read = c .before .before .before .check-read in
+    let e : replyText (args .kind) (args .p) (args .q) (args .r) (args .k)
+    (check (numberOf (args .kind)) (args .p) (args .q) (args .r) (args .k) (take (args .k) (args .a .now)) (take (args .k) (args .b .now))
+    (take (outputsOf (args .kind) (args .p) (args .q) (args .r)) (args .rows .now))) ≡ refused (c .before .said .given .0 .0) = ap
+    (replyText (args .kind) (args .p) (args .q) (args .r) (args .k)) (check-read .ensures ∙ ap seenReply (c .before .said .given .1)) in
+    (ap (λ (x : Answer (List ℕ)). replyOf x (args .out .now)) (sym e), ap (λ (x : Answer (List ℕ)). bytesOf x (args .out .now)) (sym e))
 
 same-length : tie.Need-same-length
 same-length c = c .before .before .before .check-text .kept .1 .1 .1 .1 .1 .1 .1 .0
 
 returns-2 : tie.Need-returns-2
 returns-2 c =
-    let e : replyText (c .before .before .before .before .before .before .before .before .before .before .before .before .before .args .kind) (c .before .before .before .before .before .before .before .before .before .before .before .before .before .args .p) (c .before .before .before .before .before .before .before .before .before .before .before .before .before .args .q) (c .before .before .before .before .before .before .before .before .before .before .before .before .before .args .r) (c .before .before .before .before .before .before .before .before .before .before .before .before .before .args .k) (check (numberOf (c .before .before .before .before .before .before .before .before .before .before .before .before .before .args .kind)) (c .before .before .before .before .before .before .before .before .before .before .before .before .before .args .p) (c .before .before .before .before .before .before .before .before .before .before .before .before .before .args .q) (c .before .before .before .before .before .before .before .before .before .before .before .before .before .args .r) (c .before .before .before .before .before .before .before .before .before .before .before .before .before .args .k) (take (c .before .before .before .before .before .before .before .before .before .before .before .before .before .args .k) (c .before .before .before .before .before .before .before .before .before .before .before .before .before .args .a .now)) (take (c .before .before .before .before .before .before .before .before .before .before .before .before .before .args .k) (c .before .before .before .before .before .before .before .before .before .before .before .before .before .args .b .now)) (take (outputsOf (c .before .before .before .before .before .before .before .before .before .before .before .before .before .args .kind) (c .before .before .before .before .before .before .before .before .before .before .before .before .before .args .p) (c .before .before .before .before .before .before .before .before .before .before .before .before .before .args .q) (c .before .before .before .before .before .before .before .before .before .before .before .before .before .args .r)) (c .before .before .before .before .before .before .before .before .before .before .before .before .before .args .rows .now))) ≡ accepted (checkText (c .before .before .before .before .before .before .before .before .before .before .before .before .before .args .kind) (c .before .before .before .before .before .before .before .before .before .before .before .before .before .args .p) (c .before .before .before .before .before .before .before .before .before .before .before .before .before .args .q) (c .before .before .before .before .before .before .before .before .before .before .before .before .before .args .r) (c .before .before .before .before .before .before .before .before .before .before .before .before .before .args .k) (c .before .before .before .before .before .before .said2 .given .0 .0) (c .before .before .before .before .before .before .said2 .given .0 .1 .0)) =
-    ap (replyText (c .before .before .before .before .before .before .before .before .before .before .before .before .before .args .kind) (c .before .before .before .before .before .before .before .before .before .before .before .before .before .args .p) (c .before .before .before .before .before .before .before .before .before .before .before .before .before .args .q) (c .before .before .before .before .before .before .before .before .before .before .before .before .before .args .r) (c .before .before .before .before .before .before .before .before .before .before .before .before .before .args .k)) (c .before .before .before .before .before .before .before .before .check-read .ensures ∙ ap seenReply (c .before .before .before .before .before .before .said2 .given .1)) ∙ ap (λ (v : Verdict). accepted (checkText (c .before .before .before .before .before .before .before .before .before .before .before .before .before .args .kind) (c .before .before .before .before .before .before .before .before .before .before .before .before .before .args .p) (c .before .before .before .before .before .before .before .before .before .before .before .before .before .args .q) (c .before .before .before .before .before .before .before .before .before .before .before .before .before .args .r) (c .before .before .before .before .before .before .before .before .before .before .before .before .before .args .k) v (c .before .before .before .before .before .before .said2 .given .0 .1 .0))) (verdict-same (c .before .before .before .before .before .before .said2 .given .0 .0)) in (
-      text-short (c .before .before .before .before .before .before .before .before .before .before .before .before .before .args .kind) (c .before .before .before .before .before .before .before .before .before .before .before .before .before .args .p) (c .before .before .before .before .before .before .before .before .before .before .before .before .before .args .q) (c .before .before .before .before .before .before .before .before .before .before .before .before .before .args .r) (c .before .before .before .before .before .before .before .before .before .before .before .before .before .args .k) (c .before .before .before .before .before .before .said2 .given .0 .0) (c .before .before .before .before .before .before .said2 .given .0 .1 .0) (c .before .before .before .before .before .before .before .before .before .before .before .before .before .args .out .now) (sym (c .before .before .before .check-text .ensures .0) ∙ c .if1 .taken) ∙ ap (λ (x : Answer (List ℕ)). replyOf x (c .before .before .before .before .before .before .before .before .before .before .before .before .before .args .out .now)) (sym e),
-      c .before .before .before .check-text .ensures .1 ∙ ap (λ (x : Answer (List ℕ)). bytesOf x (c .before .before .before .before .before .before .before .before .before .before .before .before .before .args .out .now)) (sym e),
+    let far = c .before .before .before .before .before .before .before .before .before .before .before .before in
+    let args = far .before .args in
+    let check-read = c .before .before .before .before .before .before .before .before .check-read in
+    let said2 = c .before .before .before .before .before .before .said2 in
+    let check-text = c .before .before .before .check-text in
+    let e : replyText (args .kind) (args .p) (args .q) (args .r) (args .k)
+    (check (numberOf (args .kind)) (args .p) (args .q) (args .r) (args .k) (take (args .k) (args .a .now)) (take (args .k) (args .b .now))
+    (take (outputsOf (args .kind) (args .p) (args .q) (args .r)) (args .rows .now))) ≡ accepted
+    (checkText (args .kind) (args .p) (args .q) (args .r) (args .k) (said2 .given .0 .0) (said2 .given .0 .1 .0)) =
+    ap (replyText (args .kind) (args .p) (args .q) (args .r) (args .k)) (check-read .ensures ∙ ap seenReply (said2 .given .1)) ∙ ap
+    (λ (v : Verdict). accepted (checkText (args .kind) (args .p) (args .q) (args .r) (args .k) v (said2 .given .0 .1 .0)))
+    (verdict-same (said2 .given .0 .0)) in (
+      text-short (args .kind) (args .p) (args .q) (args .r) (args .k) (said2 .given .0 .0) (said2 .given .0 .1 .0) (args .out .now)
+          (sym (check-text .ensures .0) ∙ c .if1 .taken) ∙ ap (λ (x : Answer (List ℕ)). replyOf x (args .out .now)) (sym e),
+      check-text .ensures .1 ∙ ap (λ (x : Answer (List ℕ)). bytesOf x (args .out .now)) (sym e),
     )
 
 same-length-2 : tie.Need-same-length-2
@@ -52,10 +68,21 @@ same-length-2 c = c .before .before .before .check-text .kept .1 .1 .1 .1 .1 .1 
 
 returns-3 : tie.Need-returns-3
 returns-3 c =
-    let e : replyText (c .before .before .before .before .before .before .before .before .before .before .before .before .before .args .kind) (c .before .before .before .before .before .before .before .before .before .before .before .before .before .args .p) (c .before .before .before .before .before .before .before .before .before .before .before .before .before .args .q) (c .before .before .before .before .before .before .before .before .before .before .before .before .before .args .r) (c .before .before .before .before .before .before .before .before .before .before .before .before .before .args .k) (check (numberOf (c .before .before .before .before .before .before .before .before .before .before .before .before .before .args .kind)) (c .before .before .before .before .before .before .before .before .before .before .before .before .before .args .p) (c .before .before .before .before .before .before .before .before .before .before .before .before .before .args .q) (c .before .before .before .before .before .before .before .before .before .before .before .before .before .args .r) (c .before .before .before .before .before .before .before .before .before .before .before .before .before .args .k) (take (c .before .before .before .before .before .before .before .before .before .before .before .before .before .args .k) (c .before .before .before .before .before .before .before .before .before .before .before .before .before .args .a .now)) (take (c .before .before .before .before .before .before .before .before .before .before .before .before .before .args .k) (c .before .before .before .before .before .before .before .before .before .before .before .before .before .args .b .now)) (take (outputsOf (c .before .before .before .before .before .before .before .before .before .before .before .before .before .args .kind) (c .before .before .before .before .before .before .before .before .before .before .before .before .before .args .p) (c .before .before .before .before .before .before .before .before .before .before .before .before .before .args .q) (c .before .before .before .before .before .before .before .before .before .before .before .before .before .args .r)) (c .before .before .before .before .before .before .before .before .before .before .before .before .before .args .rows .now))) ≡ accepted (checkText (c .before .before .before .before .before .before .before .before .before .before .before .before .before .args .kind) (c .before .before .before .before .before .before .before .before .before .before .before .before .before .args .p) (c .before .before .before .before .before .before .before .before .before .before .before .before .before .args .q) (c .before .before .before .before .before .before .before .before .before .before .before .before .before .args .r) (c .before .before .before .before .before .before .before .before .before .before .before .before .before .args .k) (c .before .before .before .before .before .before .said2 .given .0 .0) (c .before .before .before .before .before .before .said2 .given .0 .1 .0)) =
-    ap (replyText (c .before .before .before .before .before .before .before .before .before .before .before .before .before .args .kind) (c .before .before .before .before .before .before .before .before .before .before .before .before .before .args .p) (c .before .before .before .before .before .before .before .before .before .before .before .before .before .args .q) (c .before .before .before .before .before .before .before .before .before .before .before .before .before .args .r) (c .before .before .before .before .before .before .before .before .before .before .before .before .before .args .k)) (c .before .before .before .before .before .before .before .before .check-read .ensures ∙ ap seenReply (c .before .before .before .before .before .before .said2 .given .1)) ∙ ap (λ (v : Verdict). accepted (checkText (c .before .before .before .before .before .before .before .before .before .before .before .before .before .args .kind) (c .before .before .before .before .before .before .before .before .before .before .before .before .before .args .p) (c .before .before .before .before .before .before .before .before .before .before .before .before .before .args .q) (c .before .before .before .before .before .before .before .before .before .before .before .before .before .args .r) (c .before .before .before .before .before .before .before .before .before .before .before .before .before .args .k) v (c .before .before .before .before .before .before .said2 .given .0 .1 .0))) (verdict-same (c .before .before .before .before .before .before .said2 .given .0 .0)) in (
-      c .before .before .before .check-text .ensures .0 ∙ text-whole (c .before .before .before .before .before .before .before .before .before .before .before .before .before .args .kind) (c .before .before .before .before .before .before .before .before .before .before .before .before .before .args .p) (c .before .before .before .before .before .before .before .before .before .before .before .before .before .args .q) (c .before .before .before .before .before .before .before .before .before .before .before .before .before .args .r) (c .before .before .before .before .before .before .before .before .before .before .before .before .before .args .k) (c .before .before .before .before .before .before .said2 .given .0 .0) (c .before .before .before .before .before .before .said2 .given .0 .1 .0) (c .before .before .before .before .before .before .before .before .before .before .before .before .before .args .out .now) (λ z. c .if1 .left (c .before .before .before .check-text .ensures .0 ∙ z)) ∙ ap (λ (x : Answer (List ℕ)). replyOf x (c .before .before .before .before .before .before .before .before .before .before .before .before .before .args .out .now)) (sym e),
-      c .before .before .before .check-text .ensures .1 ∙ ap (λ (x : Answer (List ℕ)). bytesOf x (c .before .before .before .before .before .before .before .before .before .before .before .before .before .args .out .now)) (sym e),
+    let far = c .before .before .before .before .before .before .before .before .before .before .before .before in
+    let args = far .before .args in
+    let check-read = c .before .before .before .before .before .before .before .before .check-read in
+    let said2 = c .before .before .before .before .before .before .said2 in
+    let check-text = c .before .before .before .check-text in
+    let e : replyText (args .kind) (args .p) (args .q) (args .r) (args .k)
+    (check (numberOf (args .kind)) (args .p) (args .q) (args .r) (args .k) (take (args .k) (args .a .now)) (take (args .k) (args .b .now))
+    (take (outputsOf (args .kind) (args .p) (args .q) (args .r)) (args .rows .now))) ≡ accepted
+    (checkText (args .kind) (args .p) (args .q) (args .r) (args .k) (said2 .given .0 .0) (said2 .given .0 .1 .0)) =
+    ap (replyText (args .kind) (args .p) (args .q) (args .r) (args .k)) (check-read .ensures ∙ ap seenReply (said2 .given .1)) ∙ ap
+    (λ (v : Verdict). accepted (checkText (args .kind) (args .p) (args .q) (args .r) (args .k) v (said2 .given .0 .1 .0)))
+    (verdict-same (said2 .given .0 .0)) in (
+      check-text .ensures .0 ∙ text-whole (args .kind) (args .p) (args .q) (args .r) (args .k) (said2 .given .0 .0) (said2 .given .0 .1 .0)
+          (args .out .now) (λ z. c .if1 .left (check-text .ensures .0 ∙ z)) ∙ ap (λ (x : Answer (List ℕ)). replyOf x (args .out .now)) (sym e),
+      check-text .ensures .1 ∙ ap (λ (x : Answer (List ℕ)). bytesOf x (args .out .now)) (sym e),
     )
 
 pub check-reply-spec : {M : Type 1} → statement M

@@ -19,47 +19,49 @@ Inv-loop gens w n b₀ c₀ i₀ b c i = Choosing gens w b c i
 abbrev μ-loop : tie.MeasureT-loop
 μ-loop gens w n b₀ c₀ i₀ b c i = n - i
 
-empty-requires : tie.Need-empty-requires Inv-loop μ-loop
-empty-requires c κs = search needs
-
 loop-holds : tie.Need-loop-holds Inv-loop μ-loop
-loop-holds c = choosing-start (c .before .before .before .args .gens .now) (c .before .before .before .args .w .now) _ _ (c .empty .ensures) (record { numbers = refl; forms = refl; room = omega arith }) refl
-
-mul-g : tie.Need-mul-g Inv-loop μ-loop
-mul-g c = omega arith
-
-shared-slice-read-g : tie.Need-shared-slice-read-g Inv-loop μ-loop
-shared-slice-read-g c = omega arith
+loop-holds c =
+    let args = c .before .before .before .args in
+    choosing-start (args .gens .now) (args .w .now) _ _ (c .empty .ensures) (record { numbers = refl; forms = refl; room = omega arith }) refl
 
 is-wanted-requires : tie.Need-is-wanted-requires Inv-loop μ-loop
 is-wanted-requires c κs = c .before .before .loop .inv .valid
 
 add-requires : tie.Need-add-requires Inv-loop μ-loop
-add-requires c κs = (c .before .before .before .before .loop .inv .chose .whole, choosing-room (c .before .before .before .before .before .before .before .before .args .gens .now) (c .before .before .before .before .before .before .before .before .args .w .now) (c .before .before .before .before .loop .b) (c .before .before .before .before .loop .c) (c .before .before .before .before .loop .i) (c .before .before .before .before .loop .inv) (c .before .before .before .loop-test .taken) (sym (c .before .is-wanted .ensures) ∙ c .if1 .taken) (c .before .before .before .before .before .before .before .before .pre))
+add-requires c κs =
+    let args = c .before .before .before .before .before .before .before .before .args in
+    let pre = c .before .before .before .before .before .before .before .before .pre in
+    let loop = c .before .before .before .before .loop in
+    let loop-test = c .before .before .before .loop-test in (
+      loop .inv .chose .whole,
+      choosing-room (args .gens .now) (args .w .now) (loop .b) (loop .c) (loop .i) (loop .inv) (loop-test .taken)
+          (sym (c .before .is-wanted .ensures) ∙ c .if1 .taken) pre,
+    )
 
 insert-requires : tie.Need-insert-requires Inv-loop μ-loop
 insert-requires c κs = c .before .before .before .before .before .loop .inv .valid
 
-add-i : tie.Need-add-i Inv-loop μ-loop
-add-i c = omega arith
-
-loop-less : tie.Need-loop-less Inv-loop μ-loop
-loop-less c = omega arith
-
 loop-again : tie.Need-loop-again Inv-loop μ-loop
-loop-again c = choosing-take (c .before .before .before .before .before .before .before .before .before .before .args .gens .now) (c .before .before .before .before .before .before .before .before .before .before .args .w .now) (c .before .before .before .before .before .before .loop .b) (c .before .before .before .before .before .before .loop .c) (c .before .before .before .before .before .before .loop .i) (c .before .before .before .before .before .before .loop .inv) (c .before .before .before .before .before .loop-test .taken) (sym (c .before .before .before .is-wanted .ensures) ∙ c .before .before .if1 .taken) _ _ (c .insert .ensures) (c .before .add .ensures)
-
-add-i-2 : tie.Need-add-i-2 Inv-loop μ-loop
-add-i-2 c = omega arith
-
-loop-less-2 : tie.Need-loop-less-2 Inv-loop μ-loop
-loop-less-2 c = omega arith
+loop-again c =
+    let args = c .before .before .before .before .before .before .before .before .before .before .args in
+    let loop = c .before .before .before .before .before .before .loop in
+    let loop-test = c .before .before .before .before .before .loop-test in
+    let is-wanted = c .before .before .before .is-wanted in
+    choosing-take (args .gens .now) (args .w .now) (loop .b) (loop .c) (loop .i) (loop .inv) (loop-test .taken)
+    (sym (is-wanted .ensures) ∙ c .before .before .if1 .taken) _ _ (c .insert .ensures) (c .before .add .ensures)
 
 loop-again-2 : tie.Need-loop-again-2 Inv-loop μ-loop
-loop-again-2 c = choosing-past (c .before .before .before .before .before .before .before .before .args .gens .now) (c .before .before .before .before .before .before .before .before .args .w .now) (c .before .before .before .before .loop .b) (c .before .before .before .before .loop .c) (c .before .before .before .before .loop .i) (c .before .before .before .before .loop .inv) (c .before .before .before .loop-test .taken) (sym (c .before .is-wanted .ensures) ∙ c .if1 .left)
+loop-again-2 c =
+    let args = c .before .before .before .before .before .before .before .before .args in
+    let loop = c .before .before .before .before .loop in
+    let loop-test = c .before .before .before .loop-test in
+    choosing-past (args .gens .now) (args .w .now) (loop .b) (loop .c) (loop .i) (loop .inv) (loop-test .taken)
+    (sym (c .before .is-wanted .ensures) ∙ c .if1 .left)
 
 returns : tie.Need-returns Inv-loop μ-loop
-returns c = choosing-end (c .before .before .before .before .before .args .gens .now) (c .before .before .before .before .before .args .w .now) (c .before .loop .b) (c .before .loop .c) (c .before .loop .i) (c .before .loop .inv) (omega arith)
+returns c =
+    let args = c .before .before .before .before .before .args in
+    choosing-end (args .gens .now) (args .w .now) (c .before .loop .b) (c .before .loop .c) (c .before .loop .i) (c .before .loop .inv) (omega arith)
 
 pub first-formula-spec : {M : Type 1} → statement M
 first-formula-spec =
@@ -67,17 +69,17 @@ first-formula-spec =
     (tie.spec
     Inv-loop
     μ-loop
-    empty-requires
+    (λ c κs. search needs)
     loop-holds
-    mul-g
-    shared-slice-read-g
+    (λ c. omega arith)
+    (λ c. omega arith)
     is-wanted-requires
     add-requires
     insert-requires
-    add-i
-    loop-less
+    (λ c. omega arith)
+    (λ c. omega arith)
     loop-again
-    add-i-2
-    loop-less-2
+    (λ c. omega arith)
+    (λ c. omega arith)
     loop-again-2
     returns)

@@ -7,9 +7,6 @@ use Rattle.linear.specs.laws.Shift.{bit-test}
 use Rattle.forms.proofs.coordinate.Statement.{statement}
 use Rattle.forms.proofs.coordinate.Tie as tie
 
-shr-result : tie.Need-shr-result
-shr-result c = search needs
-
 returns : tie.Need-returns
 returns c = bit-test (c .before .args .form) (c .before .args .t)
 
@@ -17,4 +14,4 @@ returns-2 : tie.Need-returns-2
 returns-2 c = sym (bit-below (c .before .args .form) 64 (c .before .args .t) (omega arith) (omega arith))
 
 pub coordinate-spec : {M : Type 1} → statement M
-coordinate-spec = tie.close (tie.spec shr-result returns returns-2)
+coordinate-spec = tie.close (tie.spec (λ c. search needs) returns returns-2)

@@ -14,69 +14,42 @@ use Rattle.forms_values.proofs.Values.{reduce-7, basis-635, inside-6, n
 use Rattle.forms_values.proofs.bases.Statement.{statement}
 use Rattle.forms_values.proofs.bases.Tie as tie
 
-slice-aggregate-reduce-rows : tie.Need-slice-aggregate-reduce-rows
-slice-aggregate-reduce-rows c = search needs
-
-reduce-rows-requires : tie.Need-reduce-rows-requires
-reduce-rows-requires c κs = search needs
-
 expect-requires : tie.Need-expect-requires
 expect-requires c κs = eq-eqb (c .reduce-rows .result) 1 (c .reduce-rows .ensures ∙ reduce-7)
-
-slice-aggregate-basis-of : tie.Need-slice-aggregate-basis-of
-slice-aggregate-basis-of c = search needs
-
-basis-of-requires : tie.Need-basis-of-requires
-basis-of-requires c κs = search needs
 
 expect-requires-2 : tie.Need-expect-requires-2
 expect-requires-2 c κs =
     let b = c .before .basis-of in
     eq-eqb (b .result .len) 2 (sym (rows-length (b .result) (b .ensures .valid)) ∙ ap length (b .ensures .is ∙ basis-635))
 
-reduce-requires : tie.Need-reduce-requires
-reduce-requires c κs = search needs
-
 expect-requires-3 : tie.Need-expect-requires-3
 expect-requires-3 c κs =
     let b = c .before .before .before .basis-of in
     eq-eqb (c .reduce .result) 1 (c .reduce .ensures ∙ ap (λ (B : List ℕ). reduce word B 7) (b .ensures .is ∙ basis-635) ∙ reduce-7)
-
-contains-requires : tie.Need-contains-requires
-contains-requires c κs = search needs
 
 expect-requires-4 : tie.Need-expect-requires-4
 expect-requires-4 c κs =
     let b = c .before .before .before .before .before .basis-of in
     c .contains .ensures ∙ ap (λ (B : List ℕ). inside word B 6) (b .ensures .is ∙ basis-635) ∙ inside-6
 
-empty-requires : tie.Need-empty-requires
-empty-requires c κs = search needs
-
-contains-requires-2 : tie.Need-contains-requires-2
-contains-requires-2 c κs = search needs
-
 expect-requires-5 : tie.Need-expect-requires-5
 expect-requires-5 c κs = ap not (c .contains2 .ensures ∙ ap (λ (B : List ℕ). inside word B 6) (c .before .empty .ensures .is) ∙ none-6)
-
-returns : tie.Need-returns
-returns c = search needs
 
 pub bases-spec : {M : Type 1} → statement M
 bases-spec =
     tie.close
     (tie.spec
-    slice-aggregate-reduce-rows
-    reduce-rows-requires
+    (λ c. search needs)
+    (λ c κs. search needs)
     expect-requires
-    slice-aggregate-basis-of
-    basis-of-requires
+    (λ c. search needs)
+    (λ c κs. search needs)
     expect-requires-2
-    reduce-requires
+    (λ c κs. search needs)
     expect-requires-3
-    contains-requires
+    (λ c κs. search needs)
     expect-requires-4
-    empty-requires
-    contains-requires-2
+    (λ c κs. search needs)
+    (λ c κs. search needs)
     expect-requires-5
-    returns)
+    (λ c. search needs))

@@ -7,87 +7,54 @@ use Rattle.forms_values.proofs.Values.{bit-40-3, bit-40-64, weight-7, t
 use Rattle.forms_values.proofs.main.Statement.{statement}
 use Rattle.forms_values.proofs.main.Tie as tie
 
-coordinate-requires : tie.Need-coordinate-requires
-coordinate-requires c κs = search needs
-
 expect-requires : tie.Need-expect-requires
 expect-requires c κs = c .coordinate .ensures ∙ bit-40-3
-
-coordinate-requires-2 : tie.Need-coordinate-requires-2
-coordinate-requires-2 c κs = search needs
 
 expect-requires-2 : tie.Need-expect-requires-2
 expect-requires-2 c κs = ap not (c .coordinate2 .ensures ∙ bit-40-64)
 
-ones-requires : tie.Need-ones-requires
-ones-requires c κs = search needs
-
 expect-requires-3 : tie.Need-expect-requires-3
 expect-requires-3 c κs = eq-eqb (c .ones .result) 3 (c .ones .ensures ∙ weight-7)
-
-lead-requires : tie.Need-lead-requires
-lead-requires c κs = search needs
 
 expect-requires-4 : tie.Need-expect-requires-4
 expect-requires-4 c κs = eq-eqb (c .lead .result) 5 (c .lead .ensures ∙ top-40)
 
-lead-requires-2 : tie.Need-lead-requires-2
-lead-requires-2 c κs = search needs
-
 expect-requires-5 : tie.Need-expect-requires-5
 expect-requires-5 c κs = eq-eqb (c .lead2 .result) 0 (c .lead2 .ensures ∙ top-0)
-
-product-requires : tie.Need-product-requires
-product-requires c κs = search needs
 
 expect-requires-6 : tie.Need-expect-requires-6
 expect-requires-6 c κs = eq-eqb (c .product .result) 15 (c .product .ensures ∙ product-33)
 
-product-requires-2 : tie.Need-product-requires-2
-product-requires-2 c κs = search needs
-
 expect-requires-7 : tie.Need-expect-requires-7
 expect-requires-7 c κs = eq-eqb (c .product2 .result) 40 (c .product2 .ensures ∙ product-25)
-
-clear-requires : tie.Need-clear-requires
-clear-requires c κs = search needs
 
 expect-requires-8 : tie.Need-expect-requires-8
 expect-requires-8 c κs = eq-eqb (c .clear .result) 3 (c .clear .ensures ∙ clear-65)
 
-clear-requires-2 : tie.Need-clear-requires-2
-clear-requires-2 c κs = search needs
-
 expect-requires-9 : tie.Need-expect-requires-9
 expect-requires-9 c κs = eq-eqb (c .clear2 .result) 5 (c .clear2 .ensures ∙ clear-05)
-
-bases-requires : tie.Need-bases-requires
-bases-requires c κs = search needs
-
-returns : tie.Need-returns
-returns c = search needs
 
 pub main-spec : {M : Type 1} → statement M
 main-spec =
     tie.close
     (tie.spec
-    coordinate-requires
+    (λ c κs. search needs)
     expect-requires
-    coordinate-requires-2
+    (λ c κs. search needs)
     expect-requires-2
-    ones-requires
+    (λ c κs. search needs)
     expect-requires-3
-    lead-requires
+    (λ c κs. search needs)
     expect-requires-4
-    lead-requires-2
+    (λ c κs. search needs)
     expect-requires-5
-    product-requires
+    (λ c κs. search needs)
     expect-requires-6
-    product-requires-2
+    (λ c κs. search needs)
     expect-requires-7
-    clear-requires
+    (λ c κs. search needs)
     expect-requires-8
-    clear-requires-2
+    (λ c κs. search needs)
     expect-requires-9
-    bases-requires
-    returns)
+    (λ c κs. search needs)
+    (λ c. search needs))

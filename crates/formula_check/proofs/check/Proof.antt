@@ -26,7 +26,10 @@ enum-told : tie.Need-enum-told
 enum-told c = c .match .keys2
 
 returns : tie.Need-returns
-returns c = check-2 (c .before .before .before .before .before .before .args .number) (c .before .before .before .before .before .before .args .p) (c .before .before .before .before .before .before .args .q) (c .before .before .before .before .before .before .args .r) (c .before .before .before .before .before .before .args .k) (c .before .before .before .before .before .before .args .a .now) (c .before .before .before .before .before .before .args .b .now) (c .before .before .before .before .before .before .args .rows .now) (c .before .before .map-kind .ensures ∙ ap seenKind (c .enum-told .given .1))
+returns c =
+    let args = c .before .before .before .before .before .before .args in
+    check-2 (args .number) (args .p) (args .q) (args .r) (args .k) (args .a .now) (args .b .now) (args .rows .now)
+    (c .before .before .map-kind .ensures ∙ ap seenKind (c .enum-told .given .1))
 
 sizes-of-requires : tie.Need-sizes-of-requires
 sizes-of-requires c κs = tt
@@ -38,29 +41,81 @@ enum-told-2 : tie.Need-enum-told-2
 enum-told-2 c = c .match2 .keys2
 
 returns-2 : tie.Need-returns-2
-returns-2 c = check-3 (c .before .before .before .before .before .before .before .before .before .before .args .number) (c .before .before .before .before .before .before .before .before .before .before .args .p) (c .before .before .before .before .before .before .before .before .before .before .args .q) (c .before .before .before .before .before .before .before .before .before .before .args .r) (c .before .before .before .before .before .before .before .before .before .before .args .k) (c .before .before .before .before .before .before .before .before .before .before .args .a .now) (c .before .before .before .before .before .before .before .before .before .before .args .b .now) (c .before .before .before .before .before .before .before .before .before .before .args .rows .now) (c .before .before .before .before .kind .given .0 .0) (c .before .before .before .before .before .before .map-kind .ensures ∙ ap seenKind (c .before .before .before .before .kind .given .1)) (c .before .before .sizes-of .ensures ∙ ap seenSizes (c .enum-told2 .given .1))
+returns-2 c =
+    let args = c .before .before .before .before .before .before .before .before .before .before .args in
+    let map-kind = c .before .before .before .before .before .before .map-kind in
+    let kind = c .before .before .before .before .kind in
+    check-3 (args .number) (args .p) (args .q) (args .r) (args .k) (args .a .now) (args .b .now) (args .rows .now) (kind .given .0 .0)
+    (map-kind .ensures ∙ ap seenKind (kind .given .1)) (c .before .before .sizes-of .ensures ∙ ap seenSizes (c .enum-told2 .given .1))
 
 returns-3 : tie.Need-returns-3
-returns-3 c = check-sized (c .before .before .before .before .before .before .before .before .before .before .before .before .args .number) (c .before .before .before .before .before .before .before .before .before .before .before .before .args .p) (c .before .before .before .before .before .before .before .before .before .before .before .before .args .q) (c .before .before .before .before .before .before .before .before .before .before .before .before .args .r) (c .before .before .before .before .before .before .before .before .before .before .before .before .args .k) (c .before .before .before .before .before .before .before .before .before .before .before .before .args .a .now) (c .before .before .before .before .before .before .before .before .before .before .before .before .args .b .now) (c .before .before .before .before .before .before .before .before .before .before .before .before .args .rows .now) (c .before .before .before .before .before .before .kind .given .0 .0) (c .before .before .n .given .0 .0) (c .before .before .n .given .0 .1 .0) (c .before .before .n .given .0 .1 .1 .0) (c .before .before .before .before .before .before .before .before .map-kind .ensures ∙ ap seenKind (c .before .before .before .before .before .before .kind .given .1)) (c .before .before .before .before .sizes-of .ensures ∙ ap seenSizes (c .before .before .n .given .1)) ∙ unlike-a (c .before .before .before .before .before .before .kind .given .0 .0) (c .before .before .before .before .before .before .before .before .before .before .before .before .args .p) (c .before .before .before .before .before .before .before .before .before .before .before .before .args .q) (c .before .before .before .before .before .before .before .before .before .before .before .before .args .r) (c .before .before .n .given .0 .0) (c .before .before .n .given .0 .1 .0) (c .before .before .n .given .0 .1 .1 .0) (c .before .before .before .before .before .before .before .before .before .before .before .before .args .k) (c .before .before .before .before .before .before .before .before .before .before .before .before .args .a .now) (c .before .before .before .before .before .before .before .before .before .before .before .before .args .b .now) (c .before .before .before .before .before .before .before .before .before .before .before .before .args .rows .now) (c .if1 .taken)
+returns-3 c =
+    let args = c .before .before .before .before .before .before .before .before .before .before .before .before .args in
+    let map-kind = c .before .before .before .before .before .before .before .before .map-kind in
+    let kind = c .before .before .before .before .before .before .kind in
+    let sizes-of = c .before .before .before .before .sizes-of in
+    let n = c .before .before .n in
+    check-sized (args .number) (args .p) (args .q) (args .r) (args .k) (args .a .now) (args .b .now) (args .rows .now) (kind .given .0 .0)
+    (n .given .0 .0) (n .given .0 .1 .0) (n .given .0 .1 .1 .0) (map-kind .ensures ∙ ap seenKind (kind .given .1))
+    (sizes-of .ensures ∙ ap seenSizes (n .given .1)) ∙ unlike-a (kind .given .0 .0) (args .p) (args .q) (args .r) (n .given .0 .0)
+    (n .given .0 .1 .0) (n .given .0 .1 .1 .0) (args .k) (args .a .now) (args .b .now) (args .rows .now) (c .if1 .taken)
 
 returns-4 : tie.Need-returns-4
-returns-4 c = check-sized (c .before .before .before .before .before .before .before .before .before .before .before .before .before .args .number) (c .before .before .before .before .before .before .before .before .before .before .before .before .before .args .p) (c .before .before .before .before .before .before .before .before .before .before .before .before .before .args .q) (c .before .before .before .before .before .before .before .before .before .before .before .before .before .args .r) (c .before .before .before .before .before .before .before .before .before .before .before .before .before .args .k) (c .before .before .before .before .before .before .before .before .before .before .before .before .before .args .a .now) (c .before .before .before .before .before .before .before .before .before .before .before .before .before .args .b .now) (c .before .before .before .before .before .before .before .before .before .before .before .before .before .args .rows .now) (c .before .before .before .before .before .before .before .kind .given .0 .0) (c .before .before .before .n .given .0 .0) (c .before .before .before .n .given .0 .1 .0) (c .before .before .before .n .given .0 .1 .1 .0) (c .before .before .before .before .before .before .before .before .before .map-kind .ensures ∙ ap seenKind (c .before .before .before .before .before .before .before .kind .given .1)) (c .before .before .before .before .before .sizes-of .ensures ∙ ap seenSizes (c .before .before .before .n .given .1)) ∙ unlike-b (c .before .before .before .before .before .before .before .kind .given .0 .0) (c .before .before .before .before .before .before .before .before .before .before .before .before .before .args .p) (c .before .before .before .before .before .before .before .before .before .before .before .before .before .args .q) (c .before .before .before .before .before .before .before .before .before .before .before .before .before .args .r) (c .before .before .before .n .given .0 .0) (c .before .before .before .n .given .0 .1 .0) (c .before .before .before .n .given .0 .1 .1 .0) (c .before .before .before .before .before .before .before .before .before .before .before .before .before .args .k) (c .before .before .before .before .before .before .before .before .before .before .before .before .before .args .a .now) (c .before .before .before .before .before .before .before .before .before .before .before .before .before .args .b .now) (c .before .before .before .before .before .before .before .before .before .before .before .before .before .args .rows .now) (c .if2 .taken)
+returns-4 c =
+    let far = c .before .before .before .before .before .before .before .before .before .before .before .before in
+    let args = far .before .args in
+    let map-kind = c .before .before .before .before .before .before .before .before .before .map-kind in
+    let kind = c .before .before .before .before .before .before .before .kind in
+    let sizes-of = c .before .before .before .before .before .sizes-of in
+    let n = c .before .before .before .n in
+    check-sized (args .number) (args .p) (args .q) (args .r) (args .k) (args .a .now) (args .b .now) (args .rows .now) (kind .given .0 .0)
+    (n .given .0 .0) (n .given .0 .1 .0) (n .given .0 .1 .1 .0) (map-kind .ensures ∙ ap seenKind (kind .given .1))
+    (sizes-of .ensures ∙ ap seenSizes (n .given .1)) ∙ unlike-b (kind .given .0 .0) (args .p) (args .q) (args .r) (n .given .0 .0)
+    (n .given .0 .1 .0) (n .given .0 .1 .1 .0) (args .k) (args .a .now) (args .b .now) (args .rows .now) (c .if2 .taken)
 
 returns-5 : tie.Need-returns-5
-returns-5 c = check-sized (c .before .before .before .before .before .before .before .before .before .before .before .before .before .before .args .number) (c .before .before .before .before .before .before .before .before .before .before .before .before .before .before .args .p) (c .before .before .before .before .before .before .before .before .before .before .before .before .before .before .args .q) (c .before .before .before .before .before .before .before .before .before .before .before .before .before .before .args .r) (c .before .before .before .before .before .before .before .before .before .before .before .before .before .before .args .k) (c .before .before .before .before .before .before .before .before .before .before .before .before .before .before .args .a .now) (c .before .before .before .before .before .before .before .before .before .before .before .before .before .before .args .b .now) (c .before .before .before .before .before .before .before .before .before .before .before .before .before .before .args .rows .now) (c .before .before .before .before .before .before .before .before .kind .given .0 .0) (c .before .before .before .before .n .given .0 .0) (c .before .before .before .before .n .given .0 .1 .0) (c .before .before .before .before .n .given .0 .1 .1 .0) (c .before .before .before .before .before .before .before .before .before .before .map-kind .ensures ∙ ap seenKind (c .before .before .before .before .before .before .before .before .kind .given .1)) (c .before .before .before .before .before .before .sizes-of .ensures ∙ ap seenSizes (c .before .before .before .before .n .given .1)) ∙ unlike-rows (c .before .before .before .before .before .before .before .before .kind .given .0 .0) (c .before .before .before .before .before .before .before .before .before .before .before .before .before .before .args .p) (c .before .before .before .before .before .before .before .before .before .before .before .before .before .before .args .q) (c .before .before .before .before .before .before .before .before .before .before .before .before .before .before .args .r) (c .before .before .before .before .n .given .0 .0) (c .before .before .before .before .n .given .0 .1 .0) (c .before .before .before .before .n .given .0 .1 .1 .0) (c .before .before .before .before .before .before .before .before .before .before .before .before .before .before .args .k) (c .before .before .before .before .before .before .before .before .before .before .before .before .before .before .args .a .now) (c .before .before .before .before .before .before .before .before .before .before .before .before .before .before .args .b .now) (c .before .before .before .before .before .before .before .before .before .before .before .before .before .before .args .rows .now) (c .if3 .taken)
+returns-5 c =
+    let far = c .before .before .before .before .before .before .before .before .before .before .before .before in
+    let args = far .before .before .args in
+    let map-kind = c .before .before .before .before .before .before .before .before .before .before .map-kind in
+    let kind = c .before .before .before .before .before .before .before .before .kind in
+    let sizes-of = c .before .before .before .before .before .before .sizes-of in
+    let n = c .before .before .before .before .n in
+    check-sized (args .number) (args .p) (args .q) (args .r) (args .k) (args .a .now) (args .b .now) (args .rows .now) (kind .given .0 .0)
+    (n .given .0 .0) (n .given .0 .1 .0) (n .given .0 .1 .1 .0) (map-kind .ensures ∙ ap seenKind (kind .given .1))
+    (sizes-of .ensures ∙ ap seenSizes (n .given .1)) ∙ unlike-rows (kind .given .0 .0) (args .p) (args .q) (args .r) (n .given .0 .0)
+    (n .given .0 .1 .0) (n .given .0 .1 .1 .0) (args .k) (args .a .now) (args .b .now) (args .rows .now) (c .if3 .taken)
 
 judge-requires : tie.Need-judge-requires
 judge-requires c κs =
-    let u : length (c .before .before .before .before .before .before .before .before .before .before .before .before .before .before .args .rows .now) ≡ (c .before .before .before .before .n .given .0 .1 .1 .0) = omega arith in
-    let l : length (c .before .before .before .before .before .before .before .before .before .before .before .before .before .before .args .a .now) ≡ length (c .before .before .before .before .before .before .before .before .before .before .before .before .before .before .args .b .now) = omega arith in
-    record { sized = (c .before .before .before .before .before .before .sizes-of .ensures ∙ ap seenSizes (c .before .before .before .before .n .given .1)) ∙ ap (λ (x : ℕ). some ((c .before .before .before .before .n .given .0 .0), (c .before .before .before .before .n .given .0 .1 .0), x)) (sym u); paired = l }
+    let far = c .before .before .before .before .before .before .before .before .before .before .before .before in
+    let args = far .before .before .args in
+    let sizes-of = c .before .before .before .before .before .before .sizes-of in
+    let n = c .before .before .before .before .n in
+    let u : length (args .rows .now) ≡ (n .given .0 .1 .1 .0) = omega arith in
+    let l : length (args .a .now) ≡ length (args .b .now) = omega arith in
+    record {
+      sized = (sizes-of .ensures ∙ ap seenSizes (n .given .1)) ∙ ap (λ (x : ℕ). some ((n .given .0 .0), (n .given .0 .1 .0), x)) (sym u);
+      paired =
+          l;
+    }
 
 returns-6 : tie.Need-returns-6
 returns-6 c =
-    let u : (c .before .before .before .before .before .n .given .0 .1 .1 .0) ≡ length (c .before .before .before .before .before .before .before .before .before .before .before .before .before .before .before .args .rows .now) = omega arith in
-    let l : c .before .before .before .before .before .before .before .before .before .before .before .before .before .before .before .args .k ≡ length (c .before .before .before .before .before .before .before .before .before .before .before .before .before .before .before .args .a .now) = omega arith in
-    check-sized (c .before .before .before .before .before .before .before .before .before .before .before .before .before .before .before .args .number) (c .before .before .before .before .before .before .before .before .before .before .before .before .before .before .before .args .p) (c .before .before .before .before .before .before .before .before .before .before .before .before .before .before .before .args .q) (c .before .before .before .before .before .before .before .before .before .before .before .before .before .before .before .args .r) (c .before .before .before .before .before .before .before .before .before .before .before .before .before .before .before .args .k) (c .before .before .before .before .before .before .before .before .before .before .before .before .before .before .before .args .a .now) (c .before .before .before .before .before .before .before .before .before .before .before .before .before .before .before .args .b .now) (c .before .before .before .before .before .before .before .before .before .before .before .before .before .before .before .args .rows .now) (c .before .before .before .before .before .before .before .before .before .kind .given .0 .0) (c .before .before .before .before .before .n .given .0 .0) (c .before .before .before .before .before .n .given .0 .1 .0) (c .before .before .before .before .before .n .given .0 .1 .1 .0) (c .before .before .before .before .before .before .before .before .before .before .before .map-kind .ensures ∙ ap seenKind (c .before .before .before .before .before .before .before .before .before .kind .given .1)) (c .before .before .before .before .before .before .before .sizes-of .ensures ∙ ap seenSizes (c .before .before .before .before .before .n .given .1))
-    ∙ ap₂ (λ (x y : ℕ). judged (c .before .before .before .before .before .before .before .before .before .kind .given .0 .0) (c .before .before .before .before .before .before .before .before .before .before .before .before .before .before .before .args .p) (c .before .before .before .before .before .before .before .before .before .before .before .before .before .before .before .args .q) (c .before .before .before .before .before .before .before .before .before .before .before .before .before .before .before .args .r) (c .before .before .before .before .before .n .given .0 .0) (c .before .before .before .before .before .n .given .0 .1 .0) x y (c .before .before .before .before .before .before .before .before .before .before .before .before .before .before .before .args .a .now) (c .before .before .before .before .before .before .before .before .before .before .before .before .before .before .before .args .b .now) (c .before .before .before .before .before .before .before .before .before .before .before .before .before .before .before .args .rows .now)) u l ∙ c .judge .ensures
+    let far = c .before .before .before .before .before .before .before .before .before .before .before .before in
+    let args = far .before .before .before .args in
+    let map-kind = c .before .before .before .before .before .before .before .before .before .before .before .map-kind in
+    let kind = c .before .before .before .before .before .before .before .before .before .kind in
+    let sizes-of = c .before .before .before .before .before .before .before .sizes-of in
+    let n = c .before .before .before .before .before .n in
+    let u : (n .given .0 .1 .1 .0) ≡ length (args .rows .now) = omega arith in
+    let l : args .k ≡ length (args .a .now) = omega arith in
+    check-sized (args .number) (args .p) (args .q) (args .r) (args .k) (args .a .now) (args .b .now) (args .rows .now) (kind .given .0 .0)
+    (n .given .0 .0) (n .given .0 .1 .0) (n .given .0 .1 .1 .0) (map-kind .ensures ∙ ap seenKind (kind .given .1))
+    (sizes-of .ensures ∙ ap seenSizes (n .given .1))
+    ∙ ap₂
+    (λ (x y : ℕ). judged (kind .given .0 .0) (args .p) (args .q) (args .r) (n .given .0 .0) (n .given .0 .1 .0) x y (args .a .now) (args .b .now)
+    (args .rows .now)) u l ∙ c .judge .ensures
 
 pub check-spec : {M : Type 1} → statement M
 check-spec =

@@ -21,32 +21,39 @@ abbrev μ-loop : tie.MeasureT-loop
 loop-holds : tie.Need-loop-holds Inv-loop μ-loop
 loop-holds c = (omega arith, refl)
 
-mul-row-form : tie.Need-mul-row-form Inv-loop μ-loop
-mul-row-form c = omega arith
-
-shared-slice-read-row-form : tie.Need-shared-slice-read-row-form Inv-loop μ-loop
-shared-slice-read-row-form c = omega arith
-
 row-form-requires : tie.Need-row-form-requires Inv-loop μ-loop
 row-form-requires c κs = c .before .before .before .before .before .pre .few
 
 target-requires : tie.Need-target-requires Inv-loop μ-loop
-target-requires c κs = record { outputs = length (c .before .before .before .before .before .before .args .rows .now); sized = c .before .before .before .before .before .before .pre .sized; asked = omega arith }
+target-requires c κs =
+    let args = c .before .before .before .before .before .before .args in
+    let pre = c .before .before .before .before .before .before .pre in
+    record { outputs = length (args .rows .now); sized = pre .sized; asked = omega arith }
 
 returns : tie.Need-returns Inv-loop μ-loop
-returns c = wrong-here (c .before .before .before .before .before .before .before .before .args .kind) (c .before .before .before .before .before .before .before .before .args .p) (c .before .before .before .before .before .before .before .before .args .q) (c .before .before .before .before .before .before .before .before .args .r) (c .before .before .before .before .before .before .before .before .args .n) (c .before .before .before .before .before .before .before .before .args .m) (c .before .before .before .before .before .before .before .before .args .forms .now) (c .before .before .before .before .before .before .before .before .args .rows .now) (c .before .before .before .before .before .loop .t) (firstWrong (c .before .before .before .before .before .before .before .before .args .kind) (c .before .before .before .before .before .before .before .before .args .p) (c .before .before .before .before .before .before .before .before .args .q) (c .before .before .before .before .before .before .before .before .args .r) (c .before .before .before .before .before .before .before .before .args .n) (c .before .before .before .before .before .before .before .before .args .m) (c .before .before .before .before .before .before .before .before .args .forms .now) (c .before .before .before .before .before .before .before .before .args .rows .now) 0) (omega arith) (c .before .before .before .before .before .loop .inv .1) (λ e. c .if1 .taken (c .before .before .row-form .ensures ∙ e ∙ sym (c .before .target .ensures)))
-
-add-t : tie.Need-add-t Inv-loop μ-loop
-add-t c = omega arith
-
-loop-less : tie.Need-loop-less Inv-loop μ-loop
-loop-less c = omega arith
+returns c =
+    let args = c .before .before .before .before .before .before .before .before .args in
+    let loop = c .before .before .before .before .before .loop in
+    wrong-here (args .kind) (args .p) (args .q) (args .r) (args .n) (args .m) (args .forms .now) (args .rows .now) (loop .t)
+    (firstWrong (args .kind) (args .p) (args .q) (args .r) (args .n) (args .m) (args .forms .now) (args .rows .now) 0) (omega arith)
+    (loop .inv .1) (λ e. c .if1 .taken (c .before .before .row-form .ensures ∙ e ∙ sym (c .before .target .ensures)))
 
 loop-again : tie.Need-loop-again Inv-loop μ-loop
-loop-again c = (omega arith, wrong-later (c .before .before .before .before .before .before .before .before .args .kind) (c .before .before .before .before .before .before .before .before .args .p) (c .before .before .before .before .before .before .before .before .args .q) (c .before .before .before .before .before .before .before .before .args .r) (c .before .before .before .before .before .before .before .before .args .n) (c .before .before .before .before .before .before .before .before .args .m) (c .before .before .before .before .before .before .before .before .args .forms .now) (c .before .before .before .before .before .before .before .before .args .rows .now) (c .before .before .before .before .before .loop .t) (firstWrong (c .before .before .before .before .before .before .before .before .args .kind) (c .before .before .before .before .before .before .before .before .args .p) (c .before .before .before .before .before .before .before .before .args .q) (c .before .before .before .before .before .before .before .before .args .r) (c .before .before .before .before .before .before .before .before .args .n) (c .before .before .before .before .before .before .before .before .args .m) (c .before .before .before .before .before .before .before .before .args .forms .now) (c .before .before .before .before .before .before .before .before .args .rows .now) 0) (omega arith) (c .before .before .before .before .before .loop .inv .1) (sym (c .before .before .row-form .ensures) ∙ c .if1 .left ∙ c .before .target .ensures))
+loop-again c =
+    let args = c .before .before .before .before .before .before .before .before .args in
+    let loop = c .before .before .before .before .before .loop in (
+      omega arith,
+      wrong-later (args .kind) (args .p) (args .q) (args .r) (args .n) (args .m) (args .forms .now) (args .rows .now) (loop .t)
+          (firstWrong (args .kind) (args .p) (args .q) (args .r) (args .n) (args .m) (args .forms .now) (args .rows .now) 0) (omega arith)
+          (loop .inv .1) (sym (c .before .before .row-form .ensures) ∙ c .if1 .left ∙ c .before .target .ensures),
+    )
 
 returns-2 : tie.Need-returns-2 Inv-loop μ-loop
-returns-2 c = wrong-end (c .before .before .before .before .args .kind) (c .before .before .before .before .args .p) (c .before .before .before .before .args .q) (c .before .before .before .before .args .r) (c .before .before .before .before .args .n) (c .before .before .before .before .args .m) (c .before .before .before .before .args .forms .now) (c .before .before .before .before .args .rows .now) (c .before .loop .t) (firstWrong (c .before .before .before .before .args .kind) (c .before .before .before .before .args .p) (c .before .before .before .before .args .q) (c .before .before .before .before .args .r) (c .before .before .before .before .args .n) (c .before .before .before .before .args .m) (c .before .before .before .before .args .forms .now) (c .before .before .before .before .args .rows .now) 0) (omega arith) (c .before .loop .inv .1)
+returns-2 c =
+    let args = c .before .before .before .before .args in
+    wrong-end (args .kind) (args .p) (args .q) (args .r) (args .n) (args .m) (args .forms .now) (args .rows .now) (c .before .loop .t)
+    (firstWrong (args .kind) (args .p) (args .q) (args .r) (args .n) (args .m) (args .forms .now) (args .rows .now) 0) (omega arith)
+    (c .before .loop .inv .1)
 
 pub first-wrong-spec : {M : Type 1} → statement M
 first-wrong-spec =
@@ -55,12 +62,12 @@ first-wrong-spec =
     Inv-loop
     μ-loop
     loop-holds
-    mul-row-form
-    shared-slice-read-row-form
+    (λ c. omega arith)
+    (λ c. omega arith)
     row-form-requires
     target-requires
     returns
-    add-t
-    loop-less
+    (λ c. omega arith)
+    (λ c. omega arith)
     loop-again
     returns-2)

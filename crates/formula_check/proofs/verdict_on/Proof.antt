@@ -14,31 +14,36 @@ use Rattle.formula_check.proofs.verdict_on.Lts as lts
 use Rattle.formula_check.proofs.first_wrong.Reads as first-wrong-reads
 use Rattle.formula_check.proofs.sums.product_forms.Reads as product-forms-reads
 
-product-forms-requires : tie.Need-product-forms-requires
-product-forms-requires c κs = search needs
-
-array-share-prefix-products : tie.Need-array-share-prefix-products
-array-share-prefix-products c = search needs
-
 slice-aggregate-first-wrong : tie.Need-slice-aggregate-first-wrong
-slice-aggregate-first-wrong c = sym (length-take-le (length (c .before .before .before .before .before .before .args .a .now)) (c .before .product-forms .last .1 .1 .1 .1 .0) (let w = c .before .product-forms .ensures .whole in let f = c .before .before .before .before .before .before .pre .few in omega arith))
+slice-aggregate-first-wrong c =
+    let args = c .before .before .before .before .before .before .args in
+    let pre = c .before .before .before .before .before .before .pre in
+    sym
+    (length-take-le (length (args .a .now)) (c .before .product-forms .last .1 .1 .1 .1 .0)
+    (let w = c .before .product-forms .ensures .whole in let f = pre .few in omega arith))
 
 first-wrong-requires : tie.Need-first-wrong-requires
 first-wrong-requires c κs =
+    let args = c .before .before .before .before .before .before .args in
+    let pre = c .before .before .before .before .before .before .pre in
     record {
-      sized = c .before .before .before .before .before .before .pre .matching .sized;
-      few = (let w = c .before .product-forms .ensures .whole in let f = c .before .before .before .before .before .before .pre .few in let e = length-take-le (length (c .before .before .before .before .before .before .args .a .now)) (c .before .product-forms .last .1 .1 .1 .1 .0) (omega arith) in omega arith);
+      sized = pre .matching .sized;
+      few =
+          (let w = c .before .product-forms .ensures .whole in let f = pre .few in let e = length-take-le (length (args .a .now)) (c .before .product-forms .last .1 .1 .1 .1 .0) (omega arith) in omega arith);
     }
 
 returns : tie.Need-returns
-returns c = ap (λ (fs : List ℕ). firstWrong (c .before .before .before .before .before .before .before .args .kind) (c .before .before .before .before .before .before .before .args .p) (c .before .before .before .before .before .before .before .args .q) (c .before .before .before .before .before .before .before .args .r) (c .before .before .before .before .before .before .before .args .n) (c .before .before .before .before .before .before .before .args .m) fs (c .before .before .before .before .before .before .before .args .rows .now) 0) (sym (c .before .before .product-forms .ensures .start)) ∙ c .first-wrong .ensures
+returns c =
+    let args = c .before .before .before .before .before .before .before .args in
+    ap (λ (fs : List ℕ). firstWrong (args .kind) (args .p) (args .q) (args .r) (args .n) (args .m) fs (args .rows .now) 0)
+    (sym (c .before .before .product-forms .ensures .start)) ∙ c .first-wrong .ensures
 
 pub verdict-on-spec : {M : Type 1} → statement M
 verdict-on-spec =
     tie.close
     (tie.spec
-    product-forms-requires
-    array-share-prefix-products
+    (λ c κs. search needs)
+    (λ c. search needs)
     slice-aggregate-first-wrong
     first-wrong-requires
     returns)

@@ -25,7 +25,12 @@ same-length-3 : tie.Need-same-length-3
 same-length-3 c = c .before .before .before .before .before .before .before .before .read-body .kept .1 .1 .1 .1 .1 .1 .1 .0
 
 returns : tie.Need-returns
-returns c = under-none _ _ _ _ (c .before .before .before .before .before .before .before .before .before .before .before .before .before .before .before .before .args .s .now) _ _ _ _ _ _ (body-none _ _ _ _ (c .before .before .before .before .before .before .before .before .before .before .before .before .before .before .before .before .args .s .now) _ _ _ (c .before .before .before .before .before .before .before .before .read-body .ensures ∙ ap (seenBody _ _ _) (c .enum-told .given .1)))
+returns c =
+    let far = c .before .before .before .before .before .before .before .before .before .before .before .before in
+    let args = far .before .before .before .before .args in
+    let read-body = c .before .before .before .before .before .before .before .before .read-body in
+    under-none _ _ _ _ (args .s .now) _ _ _ _ _ _
+    (body-none _ _ _ _ (args .s .now) _ _ _ (read-body .ensures ∙ ap (seenBody _ _ _) (c .enum-told .given .1)))
 
 refusal-requires : tie.Need-refusal-requires
 refusal-requires c κs = tt
@@ -40,7 +45,13 @@ same-length-6 : tie.Need-same-length-6
 same-length-6 c = c .before .before .before .before .before .before .before .before .before .before .read-body .kept .1 .1 .1 .1 .1 .1 .1 .0
 
 returns-2 : tie.Need-returns-2
-returns-2 c = under-told _ _ _ _ (c .before .before .before .before .before .before .before .before .before .before .before .before .before .before .before .before .before .before .args .s .now) _ _ _ _ _ _ _ _ _ _ _ _ (body-told _ _ _ _ (c .before .before .before .before .before .before .before .before .before .before .before .before .before .before .before .before .before .before .args .s .now) _ _ _ _ _ _ _ _ (c .before .before .before .before .before .before .before .before .before .before .read-body .ensures ∙ ap (seenBody _ _ _) (c .before .before .wide .given .1))) (c .before .before .before .before .before .before .before .before .before .before .read-body .kept .1 .1 .1 .1 .1 .0) (c .before .before .before .before .before .before .before .before .before .before .read-body .kept .1 .1 .1 .1 .1 .1 .0) (c .before .before .before .before .before .before .before .before .before .before .read-body .kept .1 .1 .1 .1 .1 .1 .1 .0) (c .refusal .ensures)
+returns-2 c =
+    let far = c .before .before .before .before .before .before .before .before .before .before .before .before in
+    let args = far .before .before .before .before .before .before .args in
+    let read-body = c .before .before .before .before .before .before .before .before .before .before .read-body in
+    under-told _ _ _ _ (args .s .now) _ _ _ _ _ _ _ _ _ _ _ _
+    (body-told _ _ _ _ (args .s .now) _ _ _ _ _ _ _ _ (read-body .ensures ∙ ap (seenBody _ _ _) (c .before .before .wide .given .1)))
+    (read-body .kept .1 .1 .1 .1 .1 .0) (read-body .kept .1 .1 .1 .1 .1 .1 .0) (read-body .kept .1 .1 .1 .1 .1 .1 .1 .0) (c .refusal .ensures)
 
 pub read-under-spec : {M : Type 1} → statement M
 read-under-spec =

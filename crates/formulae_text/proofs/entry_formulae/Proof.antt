@@ -10,43 +10,44 @@ use Rattle.printing.proofs.refusals.refused_page.Reads as refused-page-reads
 use Rattle.problems.proofs.targets.targets_of.Reads as targets-of-reads
 use Rattle.formulae_text.proofs.put_entry.Reads as put-entry-reads
 
-targets-of-requires : tie.Need-targets-of-requires
-targets-of-requires c κs = search needs
-
-enum-known-e : tie.Need-enum-known-e
-enum-known-e c = search needs
-
 refused-page-requires : tie.Need-refused-page-requires
 refused-page-requires c κs = let l = c .before .before .before .before .before .before .before .before .before .pre in omega arith
 
-enum-known-t : tie.Need-enum-known-t
-enum-known-t c = search needs
-
 put-entry-requires : tie.Need-put-entry-requires
-put-entry-requires c κs = (c .before .before .before .before .before .before .before .before .before .pre, entry-counts (c .before .before .before .before .before .before .before .before .before .args .entry) (c .before .before .before .before .before .before .before .before .before .args .number) (c .before .before .before .before .before .before .before .before .before .args .p) (c .before .before .before .before .before .before .before .before .before .args .q) (c .before .before .before .before .before .before .before .before .before .args .r) (c .before .before .before .before .before .before .before .before .before .args .gs .now) (c .before .before .before .before .before .before .before .before .before .args .ts .now) (c .before .before .before .before .before .before .before .before .before .args .rows .now) (c .before .before .before .before .targets-of .result) (c .before .before .before .before .targets-of .ensures) (c .before .before .t .given .0 .0) (c .before .before .t .given .0 .1 .0) (c .before .before .t .given .1))
+put-entry-requires c κs =
+    let args = c .before .before .before .before .before .before .before .before .before .args in
+    let pre = c .before .before .before .before .before .before .before .before .before .pre in
+    let targets-of = c .before .before .before .before .targets-of in
+    let t = c .before .before .t in (
+      pre,
+      entry-counts (args .entry) (args .number) (args .p) (args .q) (args .r) (args .gs .now) (args .ts .now) (args .rows .now)
+          (targets-of .result) (targets-of .ensures) (t .given .0 .0) (t .given .0 .1 .0) (t .given .1),
+    )
 
 same-length : tie.Need-same-length
 same-length c = c .before .before .refused-page .kept .1 .0
 
 returns : tie.Need-returns
-returns c = entry-refused (c .before .before .before .before .before .before .before .before .before .before .before .before .args .entry) (c .before .before .before .before .before .before .before .before .before .before .before .before .args .number) (c .before .before .before .before .before .before .before .before .before .before .before .before .args .p) (c .before .before .before .before .before .before .before .before .before .before .before .before .args .q) (c .before .before .before .before .before .before .before .before .before .before .before .before .args .r) (c .before .before .before .before .before .before .before .before .before .before .before .before .args .gs .now) (c .before .before .before .before .before .before .before .before .before .before .before .before .args .ts .now) (c .before .before .before .before .before .before .before .before .before .before .before .before .args .rows .now) (c .before .before .before .before .before .before .before .targets-of .result) (c .before .before .before .before .before .before .before .targets-of .ensures) (c .before .before .before .before .before .e .given .0 .0) _ _ (c .before .before .before .before .before .e .given .1) (c .before .before .refused-page .ensures)
+returns c =
+    let args = c .before .before .before .before .before .before .before .before .before .before .before .before .args in
+    let targets-of = c .before .before .before .before .before .before .before .targets-of in
+    let e = c .before .before .before .before .before .e in
+    entry-refused (args .entry) (args .number) (args .p) (args .q) (args .r) (args .gs .now) (args .ts .now) (args .rows .now) (targets-of .result)
+    (targets-of .ensures) (e .given .0 .0) _ _ (e .given .1) (c .before .before .refused-page .ensures)
 
 same-length-2 : tie.Need-same-length-2
 same-length-2 c = c .before .before .put-entry .kept .1 .1 .1 .1 .1 .1 .1 .1 .1 .0
-
-returns-2 : tie.Need-returns-2
-returns-2 c = search needs
 
 pub entry-formulae-spec : {M : Type 1} → statement M
 entry-formulae-spec =
     tie.close
     (tie.spec
-    targets-of-requires
-    enum-known-e
+    (λ c κs. search needs)
+    (λ c. search needs)
     refused-page-requires
-    enum-known-t
+    (λ c. search needs)
     put-entry-requires
     same-length
     returns
     same-length-2
-    returns-2)
+    (λ c. search needs))

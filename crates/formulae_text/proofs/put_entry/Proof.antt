@@ -36,7 +36,17 @@ slice-aggregate-formulae-text : tie.Need-slice-aggregate-formulae-text
 slice-aggregate-formulae-text c = sym (c .before .before .before .before .before .formulae .kept .1 .1 .1 .1 .1 .1 .1 .0 ∙ length-replicate {A = ℕ} _ 0)
 
 formulae-text-requires : tie.Need-formulae-text-requires
-formulae-text-requires c κs = said-records (c .before .before .before .before .before .before .before .before .before .before .before .before .args .entry) (c .before .before .before .before .before .before .before .before .before .before .before .before .args .number) (c .before .before .before .before .before .before .before .before .before .before .before .before .args .p) (c .before .before .before .before .before .before .before .before .before .before .before .before .args .q) (c .before .before .before .before .before .before .before .before .before .before .before .before .args .r) (c .before .before .before .before .before .before .before .before .before .before .before .before .args .gs .now) (c .before .before .before .before .before .before .before .before .before .before .before .before .args .ts .now) (c .before .before .before .before .before .before .before .before .before .before .before .before .args .rows .now) (c .before .before .before .before .before .before .before .before .before .before .before .before .args .t) (c .before .before .before .before .before .before .formulae .result) _ (record { counts = c .before .before .before .before .before .before .before .before .before .before .before .before .pre .1; answer = c .before .before .before .before .before .before .formulae .ensures .0; size = c .before .before .before .before .before .before .formulae .kept .1 .1 .1 .1 .1 .1 .1 .0 }) (c .before .before .before .said2 .given .0 .0) true (said-all (c .before .before .before .before .before .before .before .before .before .before .before .before .args .entry) (c .before .before .before .before .before .before .before .before .before .before .before .before .args .number) (c .before .before .before .before .before .before .before .before .before .before .before .before .args .p) (c .before .before .before .before .before .before .before .before .before .before .before .before .args .q) (c .before .before .before .before .before .before .before .before .before .before .before .before .args .r) (c .before .before .before .before .before .before .before .before .before .before .before .before .args .gs .now) (c .before .before .before .before .before .before .before .before .before .before .before .before .args .ts .now) (c .before .before .before .before .before .before .before .before .before .before .before .before .args .rows .now) (c .before .before .before .before .before .before .before .before .before .before .before .before .args .t) (c .before .before .before .before .before .before .formulae .result) _ (record { counts = c .before .before .before .before .before .before .before .before .before .before .before .before .pre .1; answer = c .before .before .before .before .before .before .formulae .ensures .0; size = c .before .before .before .before .before .before .formulae .kept .1 .1 .1 .1 .1 .1 .1 .0 }) (c .before .before .before .said2 .given .0 .0) (c .before .before .before .said2 .given .1))
+formulae-text-requires c κs =
+    let args = c .before .before .before .before .before .before .before .before .before .before .before .before .args in
+    let pre = c .before .before .before .before .before .before .before .before .before .before .before .before .pre in
+    let formulae = c .before .before .before .before .before .before .formulae in
+    let said2 = c .before .before .before .said2 in
+    said-records (args .entry) (args .number) (args .p) (args .q) (args .r) (args .gs .now) (args .ts .now) (args .rows .now) (args .t)
+    (formulae .result) _ (record { counts = pre .1; answer = formulae .ensures .0; size = formulae .kept .1 .1 .1 .1 .1 .1 .1 .0 })
+    (said2 .given .0 .0) true
+    (said-all (args .entry) (args .number) (args .p) (args .q) (args .r) (args .gs .now) (args .ts .now) (args .rows .now) (args .t)
+    (formulae .result) _ (record { counts = pre .1; answer = formulae .ensures .0; size = formulae .kept .1 .1 .1 .1 .1 .1 .1 .0 })
+    (said2 .given .0 .0) (said2 .given .1))
 
 enum-known-said-3 : tie.Need-enum-known-said-3
 enum-known-said-3 c = c .match .keys3
@@ -45,25 +55,65 @@ slice-aggregate-formulae-text-2 : tie.Need-slice-aggregate-formulae-text-2
 slice-aggregate-formulae-text-2 c = sym (c .before .before .before .before .before .formulae .kept .1 .1 .1 .1 .1 .1 .1 .0 ∙ length-replicate {A = ℕ} _ 0)
 
 formulae-text-requires-2 : tie.Need-formulae-text-requires-2
-formulae-text-requires-2 c κs = said-records (c .before .before .before .before .before .before .before .before .before .before .before .before .args .entry) (c .before .before .before .before .before .before .before .before .before .before .before .before .args .number) (c .before .before .before .before .before .before .before .before .before .before .before .before .args .p) (c .before .before .before .before .before .before .before .before .before .before .before .before .args .q) (c .before .before .before .before .before .before .before .before .before .before .before .before .args .r) (c .before .before .before .before .before .before .before .before .before .before .before .before .args .gs .now) (c .before .before .before .before .before .before .before .before .before .before .before .before .args .ts .now) (c .before .before .before .before .before .before .before .before .before .before .before .before .args .rows .now) (c .before .before .before .before .before .before .before .before .before .before .before .before .args .t) (c .before .before .before .before .before .before .formulae .result) _ (record { counts = c .before .before .before .before .before .before .before .before .before .before .before .before .pre .1; answer = c .before .before .before .before .before .before .formulae .ensures .0; size = c .before .before .before .before .before .before .formulae .kept .1 .1 .1 .1 .1 .1 .1 .0 }) (c .before .before .before .said3 .given .0 .0) false (said-more (c .before .before .before .before .before .before .before .before .before .before .before .before .args .entry) (c .before .before .before .before .before .before .before .before .before .before .before .before .args .number) (c .before .before .before .before .before .before .before .before .before .before .before .before .args .p) (c .before .before .before .before .before .before .before .before .before .before .before .before .args .q) (c .before .before .before .before .before .before .before .before .before .before .before .before .args .r) (c .before .before .before .before .before .before .before .before .before .before .before .before .args .gs .now) (c .before .before .before .before .before .before .before .before .before .before .before .before .args .ts .now) (c .before .before .before .before .before .before .before .before .before .before .before .before .args .rows .now) (c .before .before .before .before .before .before .before .before .before .before .before .before .args .t) (c .before .before .before .before .before .before .formulae .result) _ (record { counts = c .before .before .before .before .before .before .before .before .before .before .before .before .pre .1; answer = c .before .before .before .before .before .before .formulae .ensures .0; size = c .before .before .before .before .before .before .formulae .kept .1 .1 .1 .1 .1 .1 .1 .0 }) (c .before .before .before .said3 .given .0 .0) (c .before .before .before .said3 .given .1))
+formulae-text-requires-2 c κs =
+    let args = c .before .before .before .before .before .before .before .before .before .before .before .before .args in
+    let pre = c .before .before .before .before .before .before .before .before .before .before .before .before .pre in
+    let formulae = c .before .before .before .before .before .before .formulae in
+    let said3 = c .before .before .before .said3 in
+    said-records (args .entry) (args .number) (args .p) (args .q) (args .r) (args .gs .now) (args .ts .now) (args .rows .now) (args .t)
+    (formulae .result) _ (record { counts = pre .1; answer = formulae .ensures .0; size = formulae .kept .1 .1 .1 .1 .1 .1 .1 .0 })
+    (said3 .given .0 .0) false
+    (said-more (args .entry) (args .number) (args .p) (args .q) (args .r) (args .gs .now) (args .ts .now) (args .rows .now) (args .t)
+    (formulae .result) _ (record { counts = pre .1; answer = formulae .ensures .0; size = formulae .kept .1 .1 .1 .1 .1 .1 .1 .0 })
+    (said3 .given .0 .0) (said3 .given .1))
 
 same-length : tie.Need-same-length
 same-length c = c .before .before .refused-page .kept .1 .0
 
 returns : tie.Need-returns
-returns c = said-refused (c .before .before .before .before .before .before .before .before .before .before .before .before .before .before .args .entry) (c .before .before .before .before .before .before .before .before .before .before .before .before .before .before .args .number) (c .before .before .before .before .before .before .before .before .before .before .before .before .before .before .args .p) (c .before .before .before .before .before .before .before .before .before .before .before .before .before .before .args .q) (c .before .before .before .before .before .before .before .before .before .before .before .before .before .before .args .r) (c .before .before .before .before .before .before .before .before .before .before .before .before .before .before .args .gs .now) (c .before .before .before .before .before .before .before .before .before .before .before .before .before .before .args .ts .now) (c .before .before .before .before .before .before .before .before .before .before .before .before .before .before .args .rows .now) (c .before .before .before .before .before .before .before .before .before .before .before .before .before .before .args .t) (c .before .before .before .before .before .before .before .before .formulae .result) _ (record { counts = c .before .before .before .before .before .before .before .before .before .before .before .before .before .before .pre .1; answer = c .before .before .before .before .before .before .before .before .formulae .ensures .0; size = c .before .before .before .before .before .before .before .before .formulae .kept .1 .1 .1 .1 .1 .1 .1 .0 }) (c .before .before .before .before .before .said .given .0 .0) _ _ (c .before .before .before .before .before .said .given .1) (c .before .before .refused-page .ensures)
+returns c =
+    let far = c .before .before .before .before .before .before .before .before .before .before .before .before in
+    let args = far .before .before .args in
+    let pre = far .before .before .pre in
+    let formulae = c .before .before .before .before .before .before .before .before .formulae in
+    let said = c .before .before .before .before .before .said in
+    said-refused (args .entry) (args .number) (args .p) (args .q) (args .r) (args .gs .now) (args .ts .now) (args .rows .now) (args .t)
+    (formulae .result) _ (record { counts = pre .1; answer = formulae .ensures .0; size = formulae .kept .1 .1 .1 .1 .1 .1 .1 .0 })
+    (said .given .0 .0) _ _ (said .given .1) (c .before .before .refused-page .ensures)
 
 same-length-2 : tie.Need-same-length-2
 same-length-2 c = c .before .before .formulae-text .kept .1 .1 .1 .1 .1 .1 .0
 
 returns-2 : tie.Need-returns-2
-returns-2 c = said-lines (c .before .before .before .before .before .before .before .before .before .before .before .before .before .before .before .args .entry) (c .before .before .before .before .before .before .before .before .before .before .before .before .before .before .before .args .number) (c .before .before .before .before .before .before .before .before .before .before .before .before .before .before .before .args .p) (c .before .before .before .before .before .before .before .before .before .before .before .before .before .before .before .args .q) (c .before .before .before .before .before .before .before .before .before .before .before .before .before .before .before .args .r) (c .before .before .before .before .before .before .before .before .before .before .before .before .before .before .before .args .gs .now) (c .before .before .before .before .before .before .before .before .before .before .before .before .before .before .before .args .ts .now) (c .before .before .before .before .before .before .before .before .before .before .before .before .before .before .before .args .rows .now) (c .before .before .before .before .before .before .before .before .before .before .before .before .before .before .before .args .t) (c .before .before .before .before .before .before .before .before .before .formulae .result) _ (record { counts = c .before .before .before .before .before .before .before .before .before .before .before .before .before .before .before .pre .1; answer = c .before .before .before .before .before .before .before .before .before .formulae .ensures .0; size = c .before .before .before .before .before .before .before .before .before .formulae .kept .1 .1 .1 .1 .1 .1 .1 .0 }) (c .before .before .before .before .before .before .said2 .given .0 .0) true (said-all (c .before .before .before .before .before .before .before .before .before .before .before .before .before .before .before .args .entry) (c .before .before .before .before .before .before .before .before .before .before .before .before .before .before .before .args .number) (c .before .before .before .before .before .before .before .before .before .before .before .before .before .before .before .args .p) (c .before .before .before .before .before .before .before .before .before .before .before .before .before .before .before .args .q) (c .before .before .before .before .before .before .before .before .before .before .before .before .before .before .before .args .r) (c .before .before .before .before .before .before .before .before .before .before .before .before .before .before .before .args .gs .now) (c .before .before .before .before .before .before .before .before .before .before .before .before .before .before .before .args .ts .now) (c .before .before .before .before .before .before .before .before .before .before .before .before .before .before .before .args .rows .now) (c .before .before .before .before .before .before .before .before .before .before .before .before .before .before .before .args .t) (c .before .before .before .before .before .before .before .before .before .formulae .result) _ (record { counts = c .before .before .before .before .before .before .before .before .before .before .before .before .before .before .before .pre .1; answer = c .before .before .before .before .before .before .before .before .before .formulae .ensures .0; size = c .before .before .before .before .before .before .before .before .before .formulae .kept .1 .1 .1 .1 .1 .1 .1 .0 }) (c .before .before .before .before .before .before .said2 .given .0 .0) (c .before .before .before .before .before .before .said2 .given .1)) (c .before .before .before .before .before .before .before .before .before .before .before .before .before .before .before .args .page .now) _ _ (c .before .before .before .before .before .before .before .before .before .before .before .before .before .before .before .pre .0) (c .before .before .formulae-text .ensures)
+returns-2 c =
+    let far = c .before .before .before .before .before .before .before .before .before .before .before .before in
+    let args = far .before .before .before .args in
+    let pre = far .before .before .before .pre in
+    let formulae = c .before .before .before .before .before .before .before .before .before .formulae in
+    let said2 = c .before .before .before .before .before .before .said2 in
+    said-lines (args .entry) (args .number) (args .p) (args .q) (args .r) (args .gs .now) (args .ts .now) (args .rows .now) (args .t)
+    (formulae .result) _ (record { counts = pre .1; answer = formulae .ensures .0; size = formulae .kept .1 .1 .1 .1 .1 .1 .1 .0 })
+    (said2 .given .0 .0) true
+    (said-all (args .entry) (args .number) (args .p) (args .q) (args .r) (args .gs .now) (args .ts .now) (args .rows .now) (args .t)
+    (formulae .result) _ (record { counts = pre .1; answer = formulae .ensures .0; size = formulae .kept .1 .1 .1 .1 .1 .1 .1 .0 })
+    (said2 .given .0 .0) (said2 .given .1)) (args .page .now) _ _ (pre .0) (c .before .before .formulae-text .ensures)
 
 same-length-3 : tie.Need-same-length-3
 same-length-3 c = c .before .before .formulae-text2 .kept .1 .1 .1 .1 .1 .1 .0
 
 returns-3 : tie.Need-returns-3
-returns-3 c = said-lines (c .before .before .before .before .before .before .before .before .before .before .before .before .before .before .before .args .entry) (c .before .before .before .before .before .before .before .before .before .before .before .before .before .before .before .args .number) (c .before .before .before .before .before .before .before .before .before .before .before .before .before .before .before .args .p) (c .before .before .before .before .before .before .before .before .before .before .before .before .before .before .before .args .q) (c .before .before .before .before .before .before .before .before .before .before .before .before .before .before .before .args .r) (c .before .before .before .before .before .before .before .before .before .before .before .before .before .before .before .args .gs .now) (c .before .before .before .before .before .before .before .before .before .before .before .before .before .before .before .args .ts .now) (c .before .before .before .before .before .before .before .before .before .before .before .before .before .before .before .args .rows .now) (c .before .before .before .before .before .before .before .before .before .before .before .before .before .before .before .args .t) (c .before .before .before .before .before .before .before .before .before .formulae .result) _ (record { counts = c .before .before .before .before .before .before .before .before .before .before .before .before .before .before .before .pre .1; answer = c .before .before .before .before .before .before .before .before .before .formulae .ensures .0; size = c .before .before .before .before .before .before .before .before .before .formulae .kept .1 .1 .1 .1 .1 .1 .1 .0 }) (c .before .before .before .before .before .before .said3 .given .0 .0) false (said-more (c .before .before .before .before .before .before .before .before .before .before .before .before .before .before .before .args .entry) (c .before .before .before .before .before .before .before .before .before .before .before .before .before .before .before .args .number) (c .before .before .before .before .before .before .before .before .before .before .before .before .before .before .before .args .p) (c .before .before .before .before .before .before .before .before .before .before .before .before .before .before .before .args .q) (c .before .before .before .before .before .before .before .before .before .before .before .before .before .before .before .args .r) (c .before .before .before .before .before .before .before .before .before .before .before .before .before .before .before .args .gs .now) (c .before .before .before .before .before .before .before .before .before .before .before .before .before .before .before .args .ts .now) (c .before .before .before .before .before .before .before .before .before .before .before .before .before .before .before .args .rows .now) (c .before .before .before .before .before .before .before .before .before .before .before .before .before .before .before .args .t) (c .before .before .before .before .before .before .before .before .before .formulae .result) _ (record { counts = c .before .before .before .before .before .before .before .before .before .before .before .before .before .before .before .pre .1; answer = c .before .before .before .before .before .before .before .before .before .formulae .ensures .0; size = c .before .before .before .before .before .before .before .before .before .formulae .kept .1 .1 .1 .1 .1 .1 .1 .0 }) (c .before .before .before .before .before .before .said3 .given .0 .0) (c .before .before .before .before .before .before .said3 .given .1)) (c .before .before .before .before .before .before .before .before .before .before .before .before .before .before .before .args .page .now) _ _ (c .before .before .before .before .before .before .before .before .before .before .before .before .before .before .before .pre .0) (c .before .before .formulae-text2 .ensures)
+returns-3 c =
+    let far = c .before .before .before .before .before .before .before .before .before .before .before .before in
+    let args = far .before .before .before .args in
+    let pre = far .before .before .before .pre in
+    let formulae = c .before .before .before .before .before .before .before .before .before .formulae in
+    let said3 = c .before .before .before .before .before .before .said3 in
+    said-lines (args .entry) (args .number) (args .p) (args .q) (args .r) (args .gs .now) (args .ts .now) (args .rows .now) (args .t)
+    (formulae .result) _ (record { counts = pre .1; answer = formulae .ensures .0; size = formulae .kept .1 .1 .1 .1 .1 .1 .1 .0 })
+    (said3 .given .0 .0) false
+    (said-more (args .entry) (args .number) (args .p) (args .q) (args .r) (args .gs .now) (args .ts .now) (args .rows .now) (args .t)
+    (formulae .result) _ (record { counts = pre .1; answer = formulae .ensures .0; size = formulae .kept .1 .1 .1 .1 .1 .1 .1 .0 })
+    (said3 .given .0 .0) (said3 .given .1)) (args .page .now) _ _ (pre .0) (c .before .before .formulae-text2 .ensures)
 
 pub put-entry-spec : {M : Type 1} → statement M
 put-entry-spec =

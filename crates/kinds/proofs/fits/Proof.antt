@@ -19,11 +19,8 @@ returns-2 c =
     let a = c .before .before .args in
     sym (is-not (within (a .x) (a .y)) (λ e. let f = within-yes (a .x) (a .y) e in omega arith))
 
-div-result : tie.Need-div-result
-div-result c = search needs
-
 returns-3 : tie.Need-returns-3
 returns-3 c = sym (within-quotient (c .before .before .args .x) (c .before .before .args .y) (omega arith) (omega arith))
 
 pub fits-spec : {M : Type 1} → statement M
-fits-spec = tie.close (tie.spec returns returns-2 div-result returns-3)
+fits-spec = tie.close (tie.spec returns returns-2 (λ c. search needs) returns-3)

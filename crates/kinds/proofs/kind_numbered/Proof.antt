@@ -29,7 +29,16 @@ returns-5 c = rw (c .match .keys5)
 
 returns-6 : tie.Need-returns-6
 unfolding kindNumbered
-returns-6 c = rw (ne-eqb 0 (c .before .args .number) (λ e. c .match .rest .0 .0 .0 .0 .1 (sym e)), ne-eqb 1 (c .before .args .number) (λ e. c .match .rest .0 .0 .0 .1 (sym e)), ne-eqb 2 (c .before .args .number) (λ e. c .match .rest .0 .0 .1 (sym e)), ne-eqb 3 (c .before .args .number) (λ e. c .match .rest .0 .1 (sym e)), ne-eqb 4 (c .before .args .number) (λ e. c .match .rest .1 (sym e)))
+returns-6 c =
+    rw (
+      ne-eqb 0 (c .before .args .number) (λ e. c .match .rest .0 .0 .0 .0 .1 (sym e)),
+      ne-eqb 1 (c .before .args .number)
+          (λ e. c .match .rest .0 .0 .0 .1 (sym e)),
+      ne-eqb 2 (c .before .args .number) (λ e. c .match .rest .0 .0 .1 (sym e)),
+      ne-eqb 3
+          (c .before .args .number) (λ e. c .match .rest .0 .1 (sym e)),
+      ne-eqb 4 (c .before .args .number) (λ e. c .match .rest .1 (sym e)),
+    )
 
 pub kind-numbered-spec : {M : Type 1} → statement M
 kind-numbered-spec = tie.close (tie.spec returns returns-2 returns-3 returns-4 returns-5 returns-6)

@@ -14,20 +14,23 @@ use Rattle.kinds.proofs.fits.Reads as fits-reads
 returns : tie.Need-returns
 returns c = list-not (c .before .args .p) (c .before .args .q) (c .before .args .r) (λ a b d. omega arith)
 
-fits-requires : tie.Need-fits-requires
-fits-requires c κs = search needs
-
 returns-2 : tie.Need-returns-2
-returns-2 c = list-not (c .before .before .before .args .p) (c .before .before .before .args .q) (c .before .before .before .args .r) (λ a b d. true≢false (sym b ∙ sym (c .before .fits2 .ensures) ∙ not-true (c .before .fits2 .result) (c .if2 .taken)))
-
-fits-requires-2 : tie.Need-fits-requires-2
-fits-requires-2 c κs = search needs
+returns-2 c =
+    let args = c .before .before .before .args in
+    list-not (args .p) (args .q) (args .r)
+    (λ a b d. true≢false (sym b ∙ sym (c .before .fits2 .ensures) ∙ not-true (c .before .fits2 .result) (c .if2 .taken)))
 
 returns-3 : tie.Need-returns-3
-returns-3 c = list-is (c .before .before .before .before .before .args .p) (c .before .before .before .before .before .args .q) (c .before .before .before .before .before .args .r) (omega arith) (sym (c .before .before .before .fits2 .ensures) ∙ not-false (c .before .before .before .fits2 .result) (c .before .before .if2 .left)) (sym (c .before .fits3 .ensures) ∙ c .if3 .taken)
+returns-3 c =
+    let args = c .before .before .before .before .before .args in
+    let fits2 = c .before .before .before .fits2 in
+    list-is (args .p) (args .q) (args .r) (omega arith) (sym (fits2 .ensures) ∙ not-false (fits2 .result) (c .before .before .if2 .left))
+    (sym (c .before .fits3 .ensures) ∙ c .if3 .taken)
 
 returns-4 : tie.Need-returns-4
-returns-4 c = list-not (c .before .before .before .before .before .args .p) (c .before .before .before .before .before .args .q) (c .before .before .before .before .before .args .r) (λ a b d. true≢false (sym d ∙ sym (c .before .fits3 .ensures) ∙ c .if3 .left))
+returns-4 c =
+    let args = c .before .before .before .before .before .args in
+    list-not (args .p) (args .q) (args .r) (λ a b d. true≢false (sym d ∙ sym (c .before .fits3 .ensures) ∙ c .if3 .left))
 
 pub list-sizes-spec : {M : Type 1} → statement M
-list-sizes-spec = tie.close (tie.spec returns fits-requires returns-2 fits-requires-2 returns-3 returns-4)
+list-sizes-spec = tie.close (tie.spec returns (λ c κs. search needs) returns-2 (λ c κs. search needs) returns-3 returns-4)

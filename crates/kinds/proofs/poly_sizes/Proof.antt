@@ -13,9 +13,6 @@ use Rattle.kinds.proofs.fits.Reads as fits-reads
 returns : tie.Need-returns
 returns c = poly-not (c .before .args .p) (c .before .args .q) (c .before .args .r) (λ a b. c .if1 .taken a)
 
-fits-requires : tie.Need-fits-requires
-fits-requires c κs = search needs
-
 add-t7 : tie.Need-add-t7
 add-t7 c = let f = within-yes (c .before .before .before .args .p) (c .before .before .before .args .q) (sym (c .before .fits2 .ensures) ∙ c .if2 .taken) in omega arith
 
@@ -26,7 +23,9 @@ returns-2 : tie.Need-returns-2
 returns-2 c = poly-is (c .before .before .before .args .p) (c .before .before .before .args .q) (c .before .before .before .args .r) (omega arith) (sym (c .before .fits2 .ensures) ∙ c .if2 .taken)
 
 returns-3 : tie.Need-returns-3
-returns-3 c = poly-not (c .before .before .before .args .p) (c .before .before .before .args .q) (c .before .before .before .args .r) (λ a b. true≢false (sym b ∙ sym (c .before .fits2 .ensures) ∙ c .if2 .left))
+returns-3 c =
+    let args = c .before .before .before .args in
+    poly-not (args .p) (args .q) (args .r) (λ a b. true≢false (sym b ∙ sym (c .before .fits2 .ensures) ∙ c .if2 .left))
 
 pub poly-sizes-spec : {M : Type 1} → statement M
-poly-sizes-spec = tie.close (tie.spec returns fits-requires add-t7 sub-t8 returns-2 returns-3)
+poly-sizes-spec = tie.close (tie.spec returns (λ c κs. search needs) add-t7 sub-t8 returns-2 returns-3)

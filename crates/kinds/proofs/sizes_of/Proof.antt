@@ -12,33 +12,6 @@ use Rattle.kinds.proofs.square_sizes.Reads as square-sizes-reads
 enum-told : tie.Need-enum-told
 enum-told c = search needs
 
-poly-sizes-requires : tie.Need-poly-sizes-requires
-poly-sizes-requires c κs = search needs
-
-enum-told-2 : tie.Need-enum-told-2
-enum-told-2 c = search needs
-
-square-sizes-requires : tie.Need-square-sizes-requires
-square-sizes-requires c κs = search needs
-
-enum-told-3 : tie.Need-enum-told-3
-enum-told-3 c = search needs
-
-square-sizes-requires-2 : tie.Need-square-sizes-requires-2
-square-sizes-requires-2 c κs = search needs
-
-enum-told-4 : tie.Need-enum-told-4
-enum-told-4 c = search needs
-
-mat-sizes-requires : tie.Need-mat-sizes-requires
-mat-sizes-requires c κs = search needs
-
-enum-told-5 : tie.Need-enum-told-5
-enum-told-5 c = search needs
-
-list-sizes-requires : tie.Need-list-sizes-requires
-list-sizes-requires c κs = search needs
-
 returns : tie.Need-returns
 returns c = rw (c .before .enum-told .given .1) (c .poly-sizes .ensures)
 
@@ -59,15 +32,15 @@ sizes-of-spec =
     tie.close
     (tie.spec
     enum-told
-    poly-sizes-requires
-    enum-told-2
-    square-sizes-requires
-    enum-told-3
-    square-sizes-requires-2
-    enum-told-4
-    mat-sizes-requires
-    enum-told-5
-    list-sizes-requires
+    (λ c κs. search needs)
+    (λ c. search needs)
+    (λ c κs. search needs)
+    (λ c. search needs)
+    (λ c κs. search needs)
+    (λ c. search needs)
+    (λ c κs. search needs)
+    (λ c. search needs)
+    (λ c κs. search needs)
     returns
     returns-2
     returns-3

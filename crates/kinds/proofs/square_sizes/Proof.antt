@@ -16,14 +16,15 @@ returns c = square-not (c .before .args .p) (c .before .args .q) (c .before .arg
 returns-2 : tie.Need-returns-2
 returns-2 c = square-not (c .before .before .args .p) (c .before .before .args .q) (c .before .before .args .r) (λ a b d. c .if2 .taken b)
 
-fits-requires : tie.Need-fits-requires
-fits-requires c κs = search needs
-
 returns-3 : tie.Need-returns-3
-returns-3 c = square-is (c .before .before .before .before .args .p) (c .before .before .before .before .args .q) (c .before .before .before .before .args .r) (omega arith) (omega arith) (sym (c .before .fits2 .ensures) ∙ c .if3 .taken)
+returns-3 c =
+    let args = c .before .before .before .before .args in
+    square-is (args .p) (args .q) (args .r) (omega arith) (omega arith) (sym (c .before .fits2 .ensures) ∙ c .if3 .taken)
 
 returns-4 : tie.Need-returns-4
-returns-4 c = square-not (c .before .before .before .before .args .p) (c .before .before .before .before .args .q) (c .before .before .before .before .args .r) (λ a b d. true≢false (sym d ∙ sym (c .before .fits2 .ensures) ∙ c .if3 .left))
+returns-4 c =
+    let args = c .before .before .before .before .args in
+    square-not (args .p) (args .q) (args .r) (λ a b d. true≢false (sym d ∙ sym (c .before .fits2 .ensures) ∙ c .if3 .left))
 
 pub square-sizes-spec : {M : Type 1} → statement M
-square-sizes-spec = tie.close (tie.spec returns returns-2 fits-requires returns-3 returns-4)
+square-sizes-spec = tie.close (tie.spec returns returns-2 (λ c κs. search needs) returns-3 returns-4)

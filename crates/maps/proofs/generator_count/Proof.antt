@@ -17,14 +17,8 @@ returns-3 c = let a = c .before .before .before .args in count-many (a .n) (a .m
 returns-4 : tie.Need-returns-4
 returns-4 c = let a = c .before .before .before .before .args in count-many (a .n) (a .m) (many-right (a .n) (a .m) (omega arith) (c .if4 .taken))
 
-shl-c : tie.Need-shl-c
-shl-c c = search needs
-
 sub-c : tie.Need-sub-c
 sub-c c = low (c .before .before .before .before .args .n) (omega arith) .some
-
-shl-c-2 : tie.Need-shl-c-2
-shl-c-2 c = search needs
 
 sub-c-2 : tie.Need-sub-c-2
 sub-c-2 c = low (c .before .before .before .before .args .m) (omega arith) .some
@@ -54,9 +48,9 @@ generator-count-spec =
     returns-2
     returns-3
     returns-4
-    shl-c
+    (λ c. search needs)
     sub-c
-    shl-c-2
+    (λ c. search needs)
     sub-c-2
     mul-c
     returns-5

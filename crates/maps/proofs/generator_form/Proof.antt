@@ -37,9 +37,6 @@ rem-product c = base-some (c .args .n) (c .args .m) (c .args .j) (c .pre)
 add-product-2 : tie.Need-add-product-2
 add-product-2 c = record { fits = (let f = c .pre .below in let g = c .pre .few in omega (arith, mod-le (c .args .j) (base (c .args .m)))) }
 
-product-requires : tie.Need-product-requires
-product-requires c κs = search needs
-
 returns : tie.Need-returns
 unfolding generatorForm firstMask secondMask
 returns c =
@@ -58,5 +55,5 @@ generator-form-spec =
     add-product
     rem-product
     add-product-2
-    product-requires
+    (λ c κs. search needs)
     returns)

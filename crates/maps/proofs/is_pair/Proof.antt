@@ -10,26 +10,8 @@ use Rattle.maps.proofs.is_pair.Tie as tie
 enum-told : tie.Need-enum-told
 enum-told c = search needs
 
-add-result : tie.Need-add-result
-add-result c = search needs
-
-enum-told-2 : tie.Need-enum-told-2
-enum-told-2 c = search needs
-
-add-result-2 : tie.Need-add-result-2
-add-result-2 c = search needs
-
-enum-told-3 : tie.Need-enum-told-3
-enum-told-3 c = search needs
-
-add-result-3 : tie.Need-add-result-3
-add-result-3 c = search needs
-
 rem-result : tie.Need-rem-result
 rem-result c = c .before .before .pre .circle (c .enum-told3 .given .1)
-
-enum-told-4 : tie.Need-enum-told-4
-enum-told-4 c = search needs
 
 div-if1 : tie.Need-div-if1
 div-if1 c = c .before .before .pre .inner (c .enum-told4 .given .1)
@@ -63,9 +45,6 @@ rem-result-2 c = c .before .before .before .before .pre .columns (c .before .bef
 rem-result-3 : tie.Need-rem-result-3
 rem-result-3 c = c .before .before .before .before .pre .columns (c .before .before .enum-told4 .given .1)
 
-enum-told-5 : tie.Need-enum-told-5
-enum-told-5 c = search needs
-
 returns-3 : tie.Need-returns-3
 unfolding pair
 returns-3 c = let a = c .before .before .args in sym (ap (λ (k : Kind). pair k (a .p) (a .q) (a .r) (a .t) (a .i) (a .j)) (c .enum-told .given .1))
@@ -94,13 +73,13 @@ is-pair-spec =
     tie.close
     (tie.spec
     enum-told
-    add-result
-    enum-told-2
-    add-result-2
-    enum-told-3
-    add-result-3
+    (λ c. search needs)
+    (λ c. search needs)
+    (λ c. search needs)
+    (λ c. search needs)
+    (λ c. search needs)
     rem-result
-    enum-told-4
+    (λ c. search needs)
     div-if1
     div-if1-2
     returns
@@ -109,7 +88,7 @@ is-pair-spec =
     returns-2
     rem-result-2
     rem-result-3
-    enum-told-5
+    (λ c. search needs)
     returns-3
     returns-4
     returns-5

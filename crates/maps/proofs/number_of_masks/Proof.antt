@@ -8,22 +8,13 @@ use Rattle.maps.proofs.Counting.{low, narrow, product-fits}
 use Rattle.maps.proofs.number_of_masks.Statement.{statement}
 use Rattle.maps.proofs.number_of_masks.Tie as tie
 
-shl-seconds : tie.Need-shl-seconds
-shl-seconds c = search needs
-
 sub-seconds : tie.Need-sub-seconds
 sub-seconds c = omega (arith, low (c .args .m) (c .pre .narrow) .some)
-
-sub-result : tie.Need-sub-result
-sub-result c = search needs
 
 mul-result : tie.Need-mul-result
 mul-result c =
     let p = product-fits (c .args .a - 1) _ (omega arith) (low (c .args .m) (c .pre .narrow) .small) in
     record { fits = omega arith }
-
-sub-result-2 : tie.Need-sub-result-2
-sub-result-2 c = search needs
 
 add-result : tie.Need-add-result
 add-result c =
@@ -37,4 +28,4 @@ returns c = ap (λ (x : ℕ). (c .args .a - 1) * x + (c .args .b - 1)) (low (c .
 
 pub number-of-masks-spec : {M : Type 1} → statement M
 number-of-masks-spec =
-    tie.close (tie.spec shl-seconds sub-seconds sub-result mul-result sub-result-2 add-result returns)
+    tie.close (tie.spec (λ c. search needs) sub-seconds (λ c. search needs) mul-result (λ c. search needs) add-result returns)

@@ -46,9 +46,6 @@ add-s c =
     let a = c .before .before .before .before .args in
     record { fits = omega (arith, accepted-fits (a .kind) (a .p) (a .q) (a .r) (a .n) (a .m) (a .t) (c .before .before .before .before .pre) .product) }
 
-loop-less : tie.Need-loop-less Inv-loop μ-loop
-loop-less c = omega arith
-
 loop-again : tie.Need-loop-again Inv-loop μ-loop
 loop-again c =
     let a = c .before .before .before .before .args in
@@ -87,6 +84,6 @@ sum-of-pairs-spec =
     is-pair-requires
     shl-form
     add-s
-    loop-less
+    (λ c. omega arith)
     loop-again
     returns)

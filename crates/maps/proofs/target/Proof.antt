@@ -19,12 +19,6 @@ returns c =
     c .square .ensures
     ∙ sym (accepted-square (a .kind) (a .p) (a .q) (a .r) (a .n) (a .m) (a .t) (c .before .before .before .before .pre) (c .before .before .enum-told .given .1) (c .before .if1 .taken))
 
-sum-of-pairs-requires : tie.Need-sum-of-pairs-requires
-sum-of-pairs-requires c κs = search needs
-
-returns-2 : tie.Need-returns-2
-returns-2 c = search needs
-
 pub target-spec : {M : Type 1} → statement M
 target-spec =
-    tie.close (tie.spec enum-told square-requires returns sum-of-pairs-requires returns-2)
+    tie.close (tie.spec enum-told square-requires returns (λ c κs. search needs) (λ c. search needs))

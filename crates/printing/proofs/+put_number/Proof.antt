@@ -88,7 +88,11 @@ put-number-returns-2 : (t : ℕ) → put-number-lts.Need-returns-2 (
   put-number-below t,
   put-number.Post,
 ) (put-number-at t) put-number.Post
-put-number-returns-2 t c = print-one _ _ _ _ _ _ _ (c .before .before .before .before .before .before .if1 .left) (c .before .before .before .before .before .if2 .taken) (c .before .before .before .digit-byte .ensures) (c .before .before .put-byte .ensures)
+put-number-returns-2 t c =
+    let if1 = c .before .before .before .before .before .before .if1 in
+    let if2 = c .before .before .before .before .before .if2 in
+    let digit-byte = c .before .before .before .digit-byte in
+    print-one _ _ _ _ _ _ _ (if1 .left) (if2 .taken) (digit-byte .ensures) (c .before .before .put-byte .ensures)
 
 put-number-div-put-number : (t : ℕ) → put-number-lts.Need-div-put-number (
   digit-byte-reads.Asked,
@@ -138,7 +142,10 @@ put-number-digit-byte-requires-2 : (t : ℕ) → put-number-lts.Need-digit-byte-
   put-number-below t,
   put-number.Post,
 ) (put-number-at t) put-number.Post
-put-number-digit-byte-requires-2 t c κs = omega (arith, c .before .before .before .before .before .before .before .before .pre, mod-lt (c .before .before .before .before .before .before .before .before .args .n) {m = c .before .before .before .before .before .before .before .before .args .base} (omega (arith, c .before .before .before .before .before .before .before .before .pre)))
+put-number-digit-byte-requires-2 t c κs =
+    let args = c .before .before .before .before .before .before .before .before .args in
+    let pre = c .before .before .before .before .before .before .before .before .pre in
+    omega (arith, pre, mod-lt (args .n) {m = args .base} (omega (arith, pre)))
 
 put-number-put-byte-requires-2 : (t : ℕ) → put-number-lts.Need-put-byte-requires-2 (
   digit-byte-reads.Asked,
@@ -158,7 +165,12 @@ put-number-add-result-2 : (t : ℕ) → put-number-lts.Need-add-result-2 (
   put-number-below t,
   put-number.Post,
 ) (put-number-at t) put-number.Post
-put-number-add-result-2 t c = omega (arith, c .before .before .before .before .before .before .before .before .before .before .before .before .pre, c .before .before .before .before .before .before .before .before .before .before .if1, c .before .before .before .before .before .before .before .put-number .ensures .0, printed-fits (c .before .before .before .before .before .before .before .before .before .before .before .before .args .base) (c .before .before .before .before .before .before .before .before .before .before .before .before .args .f - 1) (c .before .before .before .before .before .before .before .before .before .before .before .before .args .n / c .before .before .before .before .before .before .before .before .before .before .before .before .args .base))
+put-number-add-result-2 t c =
+    let args = c .before .before .before .before .before .before .before .before .before .before .before .before .args in
+    let pre = c .before .before .before .before .before .before .before .before .before .before .before .before .pre in
+    let if1 = c .before .before .before .before .before .before .before .before .before .before .if1 in
+    let the-put-number = c .before .before .before .before .before .before .before .put-number in
+    omega (arith, pre, if1, the-put-number .ensures .0, printed-fits (args .base) (args .f - 1) (args .n / args .base))
 
 put-number-same-length-2 : (t : ℕ) → put-number-lts.Need-same-length-2 (
   digit-byte-reads.Asked,
@@ -178,7 +190,13 @@ put-number-returns-3 : (t : ℕ) → put-number-lts.Need-returns-3 (
   put-number-below t,
   put-number.Post,
 ) (put-number-at t) put-number.Post
-put-number-returns-3 t c = print-more _ _ _ _ _ _ _ _ _ (c .before .before .before .before .before .before .before .before .before .before .if1 .left) (c .before .before .before .before .before .before .before .before .before .if2 .left) (c .before .before .before .before .before .before .before .put-number .ensures .0) (c .before .before .before .before .before .before .before .put-number .ensures .1) (c .before .before .before .digit-byte2 .ensures) (c .before .before .put-byte2 .ensures)
+put-number-returns-3 t c =
+    let if1 = c .before .before .before .before .before .before .before .before .before .before .if1 in
+    let if2 = c .before .before .before .before .before .before .before .before .before .if2 in
+    let the-put-number = c .before .before .before .before .before .before .before .put-number in
+    let digit-byte2 = c .before .before .before .digit-byte2 in
+    print-more _ _ _ _ _ _ _ _ _ (if1 .left) (if2 .left) (the-put-number .ensures .0) (the-put-number .ensures .1) (digit-byte2 .ensures)
+    (c .before .before .put-byte2 .ensures)
 
 pub +put-number-spec : {M : Type 1} → statement M
 +put-number-spec = close μ-put-number λ t. put-number-lts.spec (

@@ -17,7 +17,9 @@ array-share-prefix-page : tie.Need-array-share-prefix-page
 array-share-prefix-page c = let p = c .before .catalogue-program in at-most (p .kept .1 .0 ∙ length-replicate {A = ℕ} 196608 0) (p .ensures .1)
 
 slice-aggregate-write-all : tie.Need-slice-aggregate-write-all
-slice-aggregate-write-all c = let p = c .before .before .catalogue-program in sym (length-take-le (p .result) (p .last .1 .0) (at-most (p .kept .1 .0 ∙ length-replicate {A = ℕ} 196608 0) (p .ensures .1)))
+slice-aggregate-write-all c =
+    let p = c .before .before .catalogue-program in
+    sym (length-take-le (p .result) (p .last .1 .0) (at-most (p .kept .1 .0 ∙ length-replicate {A = ℕ} 196608 0) (p .ensures .1)))
 
 write-all-requires : tie.Need-write-all-requires
 write-all-requires c κs = tt

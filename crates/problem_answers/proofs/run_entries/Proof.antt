@@ -25,28 +25,25 @@ entry-page-requires : tie.Need-entry-page-requires Inv-loop μ-loop
 entry-page-requires c κs = (c .before .before .before .before .before .before .before .before .pre .0, c .before .if1 .taken, c .before .before .before .loop .inv)
 
 slice-reshare-prefix-write-all : tie.Need-slice-reshare-prefix-write-all Inv-loop μ-loop
-slice-reshare-prefix-write-all c = let e = c .before .before .entry-page .ensures .1 in let l = c .before .before .entry-page .kept .1 .1 .1 .1 .1 .0 in let m = c .before .before .before .before .before .before .loop .inv in omega arith
+slice-reshare-prefix-write-all c =
+    let loop = c .before .before .before .before .before .before .loop in
+    let entry-page = c .before .before .entry-page in
+    let e = entry-page .ensures .1 in let l = entry-page .kept .1 .1 .1 .1 .1 .0 in let m = loop .inv in omega arith
 
 slice-aggregate-write-all : tie.Need-slice-aggregate-write-all Inv-loop μ-loop
-slice-aggregate-write-all c = let e = c .before .before .before .entry-page .ensures .1 in let l = c .before .before .before .entry-page .kept .1 .1 .1 .1 .1 .0 in let m = c .before .before .before .before .before .before .before .loop .inv in sym (length-take-le (c .before .before .before .entry-page .result) (c .before .before .before .entry-page .last .1 .1 .1 .1 .1 .0) (omega arith))
-
-write-all-requires : tie.Need-write-all-requires Inv-loop μ-loop
-write-all-requires c κs = search needs
-
-add-i : tie.Need-add-i Inv-loop μ-loop
-add-i c = omega arith
-
-loop-less : tie.Need-loop-less Inv-loop μ-loop
-loop-less c = omega arith
+slice-aggregate-write-all c =
+    let loop = c .before .before .before .before .before .before .before .loop in
+    let entry-page = c .before .before .before .entry-page in
+    let e = entry-page .ensures .1 in
+    let l = entry-page .kept .1 .1 .1 .1 .1 .0 in
+    let m = loop .inv in
+    sym (length-take-le (entry-page .result) (entry-page .last .1 .1 .1 .1 .1 .0) (omega arith))
 
 loop-again : tie.Need-loop-again Inv-loop μ-loop
 loop-again c = c .before .before .before .before .entry-page .kept .1 .1 .1 .1 .1 .0 ∙ c .before .before .before .before .before .before .before .before .loop .inv
 
 same-length : tie.Need-same-length Inv-loop μ-loop
 same-length c = c .before .before .loop .inv ∙ sym (c .before .before .before .before .before .before .before .pre .1)
-
-returns : tie.Need-returns Inv-loop μ-loop
-returns c = search needs
 
 pub run-entries-spec : {M : Type 1} → statement M
 run-entries-spec =
@@ -58,9 +55,9 @@ run-entries-spec =
     entry-page-requires
     slice-reshare-prefix-write-all
     slice-aggregate-write-all
-    write-all-requires
-    add-i
-    loop-less
+    (λ c κs. search needs)
+    (λ c. omega arith)
+    (λ c. omega arith)
     loop-again
     same-length
-    returns)
+    (λ c. search needs))

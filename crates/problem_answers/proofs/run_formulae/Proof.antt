@@ -20,10 +20,17 @@ start-requires : tie.Need-start-requires
 start-requires c κs = let words = length-replicate {A = ℕ} 4096 0 in (words, words, refl, c .before .before .before .before .before .before .pre)
 
 slice-reshare-prefix-write-all : tie.Need-slice-reshare-prefix-write-all
-slice-reshare-prefix-write-all c = let p = c .before .before .before .before .before .start in at-most (p .kept .1 .1 .1 .1 .0 ∙ c .before .before .before .before .before .before .before .before .before .before .before .before .pre) (p .ensures .room)
+slice-reshare-prefix-write-all c =
+    let pre = c .before .before .before .before .before .before .before .before .before .before .before .before .pre in
+    let start = c .before .before .before .before .before .start in
+    let p = start in at-most (p .kept .1 .1 .1 .1 .0 ∙ pre) (p .ensures .room)
 
 slice-aggregate-write-all : tie.Need-slice-aggregate-write-all
-slice-aggregate-write-all c = let p = c .before .before .before .before .before .before .start in sym (length-take-le (p .result .head) (p .last .1 .1 .1 .1 .0) (at-most (p .kept .1 .1 .1 .1 .0 ∙ c .before .before .before .before .before .before .before .before .before .before .before .before .before .pre) (p .ensures .room)))
+slice-aggregate-write-all c =
+    let far = c .before .before .before .before .before .before .before .before .before .before .before .before in
+    let pre = far .before .pre in
+    let start = c .before .before .before .before .before .before .start in
+    let p = start in sym (length-take-le (p .result .head) (p .last .1 .1 .1 .1 .0) (at-most (p .kept .1 .1 .1 .1 .0 ∙ pre) (p .ensures .room)))
 
 write-all-requires : tie.Need-write-all-requires
 write-all-requires c κs = tt
@@ -38,10 +45,17 @@ slice-aggregate-run-entries-3 : tie.Need-slice-aggregate-run-entries-3
 slice-aggregate-run-entries-3 c = sym (c .before .before .before .before .before .before .before .before .before .before .start .kept .1 .1 .1 .0)
 
 run-entries-requires : tie.Need-run-entries-requires
-run-entries-requires c κs = let p = c .before .before .before .before .before .before .before .before .before .before .before .start in (p .ensures .ready, p .kept .1 .1 .1 .1 .0 ∙ c .before .before .before .before .before .before .before .before .before .before .before .before .before .before .before .before .before .before .pre)
+run-entries-requires c κs =
+    let far = c .before .before .before .before .before .before .before .before .before .before .before .before in
+    let pre = far .before .before .before .before .before .before .pre in
+    let start = c .before .before .before .before .before .before .before .before .before .before .before .start in
+    let p = start in (p .ensures .ready, p .kept .1 .1 .1 .1 .0 ∙ pre)
 
 same-length : tie.Need-same-length
-same-length c = c .before .before .run-entries .kept .1 .1 .1 .1 .0 ∙ c .before .before .before .before .before .before .before .before .before .before .before .before .before .before .start .kept .1 .1 .1 .1 .0
+same-length c =
+    let far = c .before .before .before .before .before .before .before .before .before .before .before .before in
+    let start = far .before .before .start in
+    c .before .before .run-entries .kept .1 .1 .1 .1 .0 ∙ start .kept .1 .1 .1 .1 .0
 
 returns : tie.Need-returns
 returns c = tt

@@ -44,16 +44,53 @@ handed-requires-2 : tie.Need-handed-requires-2
 handed-requires-2 c κs = tt
 
 array-share-prefix-gs : tie.Need-array-share-prefix-gs
-array-share-prefix-gs c = let m = input-room (c .before .before .before .before .before .before .before .before .before .before .before .before .args .purpose) (c .before .before .before .before .before .before .before .before .before .before .before .before .args .file .now) (c .before .before .before .before .before .before .before .read-input .result) _ _ (c .before .before .before .before .before .before .before .read-input .ensures) (c .before .before .before .kind .given .0 .0) (c .before .before .before .kind .given .0 .1 .0) (c .before .before .before .kind .given .0 .1 .1 .0) (c .before .before .before .kind .given .0 .1 .1 .1 .0) (c .before .before .before .kind .given .0 .1 .1 .1 .1 .0) (c .before .before .before .kind .given .1) .0 in let e = c .before .handed .ensures in let l = c .before .before .before .before .before .before .before .read-input .kept .1 .1 .0 in omega arith
+array-share-prefix-gs c =
+    let args = c .before .before .before .before .before .before .before .before .before .before .before .before .args in
+    let read-input = c .before .before .before .before .before .before .before .read-input in
+    let kind = c .before .before .before .kind in
+    let m = input-room (args .purpose) (args .file .now) (read-input .result) _ _ (read-input .ensures) (kind .given .0 .0) (kind .given .0 .1 .0)
+    (kind .given .0 .1 .1 .0) (kind .given .0 .1 .1 .1 .0) (kind .given .0 .1 .1 .1 .1 .0) (kind .given .1) .0 in
+    let e = c .before .handed .ensures in
+    let l = read-input .kept .1 .1 .0 in
+    omega arith
 
 slice-aggregate-reply : tie.Need-slice-aggregate-reply
-slice-aggregate-reply c = let m = input-room (c .before .before .before .before .before .before .before .before .before .before .before .before .before .args .purpose) (c .before .before .before .before .before .before .before .before .before .before .before .before .before .args .file .now) (c .before .before .before .before .before .before .before .before .read-input .result) _ _ (c .before .before .before .before .before .before .before .before .read-input .ensures) (c .before .before .before .before .kind .given .0 .0) (c .before .before .before .before .kind .given .0 .1 .0) (c .before .before .before .before .kind .given .0 .1 .1 .0) (c .before .before .before .before .kind .given .0 .1 .1 .1 .0) (c .before .before .before .before .kind .given .0 .1 .1 .1 .1 .0) (c .before .before .before .before .kind .given .1) .0 in let e = c .before .before .handed .ensures in let l = c .before .before .before .before .before .before .before .before .read-input .kept .1 .1 .0 in sym (length-take-le (c .before .before .handed .result) (c .before .before .before .before .before .before .before .before .read-input .last .1 .1 .0) (omega arith))
+slice-aggregate-reply c =
+    let far = c .before .before .before .before .before .before .before .before .before .before .before .before in
+    let args = far .before .args in
+    let read-input = c .before .before .before .before .before .before .before .before .read-input in
+    let kind = c .before .before .before .before .kind in
+    let handed = c .before .before .handed in
+    let m = input-room (args .purpose) (args .file .now) (read-input .result) _ _ (read-input .ensures) (kind .given .0 .0) (kind .given .0 .1 .0)
+    (kind .given .0 .1 .1 .0) (kind .given .0 .1 .1 .1 .0) (kind .given .0 .1 .1 .1 .1 .0) (kind .given .1) .0 in
+    let e = handed .ensures in
+    let l = read-input .kept .1 .1 .0 in
+    sym (length-take-le (handed .result) (read-input .last .1 .1 .0) (omega arith))
 
 array-share-prefix-ts : tie.Need-array-share-prefix-ts
-array-share-prefix-ts c = let m = input-room (c .before .before .before .before .before .before .before .before .before .before .before .before .before .args .purpose) (c .before .before .before .before .before .before .before .before .before .before .before .before .before .args .file .now) (c .before .before .before .before .before .before .before .before .read-input .result) _ _ (c .before .before .before .before .before .before .before .before .read-input .ensures) (c .before .before .before .before .kind .given .0 .0) (c .before .before .before .before .kind .given .0 .1 .0) (c .before .before .before .before .kind .given .0 .1 .1 .0) (c .before .before .before .before .kind .given .0 .1 .1 .1 .0) (c .before .before .before .before .kind .given .0 .1 .1 .1 .1 .0) (c .before .before .before .before .kind .given .1) .1 in let e = c .before .handed2 .ensures in let l = c .before .before .before .before .before .before .before .before .read-input .kept .1 .1 .1 .0 in omega arith
+array-share-prefix-ts c =
+    let far = c .before .before .before .before .before .before .before .before .before .before .before .before in
+    let args = far .before .args in
+    let read-input = c .before .before .before .before .before .before .before .before .read-input in
+    let kind = c .before .before .before .before .kind in
+    let m = input-room (args .purpose) (args .file .now) (read-input .result) _ _ (read-input .ensures) (kind .given .0 .0) (kind .given .0 .1 .0)
+    (kind .given .0 .1 .1 .0) (kind .given .0 .1 .1 .1 .0) (kind .given .0 .1 .1 .1 .1 .0) (kind .given .1) .1 in
+    let e = c .before .handed2 .ensures in
+    let l = read-input .kept .1 .1 .1 .0 in
+    omega arith
 
 slice-aggregate-reply-2 : tie.Need-slice-aggregate-reply-2
-slice-aggregate-reply-2 c = let m = input-room (c .before .before .before .before .before .before .before .before .before .before .before .before .before .before .args .purpose) (c .before .before .before .before .before .before .before .before .before .before .before .before .before .before .args .file .now) (c .before .before .before .before .before .before .before .before .before .read-input .result) _ _ (c .before .before .before .before .before .before .before .before .before .read-input .ensures) (c .before .before .before .before .before .kind .given .0 .0) (c .before .before .before .before .before .kind .given .0 .1 .0) (c .before .before .before .before .before .kind .given .0 .1 .1 .0) (c .before .before .before .before .before .kind .given .0 .1 .1 .1 .0) (c .before .before .before .before .before .kind .given .0 .1 .1 .1 .1 .0) (c .before .before .before .before .before .kind .given .1) .1 in let e = c .before .before .handed2 .ensures in let l = c .before .before .before .before .before .before .before .before .before .read-input .kept .1 .1 .1 .0 in sym (length-take-le (c .before .before .handed2 .result) (c .before .before .before .before .before .before .before .before .before .read-input .last .1 .1 .1 .0) (omega arith))
+slice-aggregate-reply-2 c =
+    let far = c .before .before .before .before .before .before .before .before .before .before .before .before in
+    let args = far .before .before .args in
+    let read-input = c .before .before .before .before .before .before .before .before .before .read-input in
+    let kind = c .before .before .before .before .before .kind in
+    let handed2 = c .before .before .handed2 in
+    let m = input-room (args .purpose) (args .file .now) (read-input .result) _ _ (read-input .ensures) (kind .given .0 .0) (kind .given .0 .1 .0)
+    (kind .given .0 .1 .1 .0) (kind .given .0 .1 .1 .1 .0) (kind .given .0 .1 .1 .1 .1 .0) (kind .given .1) .1 in
+    let e = handed2 .ensures in
+    let l = read-input .kept .1 .1 .1 .0 in
+    sym (length-take-le (handed2 .result) (read-input .last .1 .1 .1 .0) (omega arith))
 
 reply-requires : tie.Need-reply-requires
 reply-requires c κs = c .before .before .before .before .before .before .before .before .before .before .before .before .before .before .before .pre
@@ -62,13 +99,28 @@ same-length : tie.Need-same-length
 same-length c = c .before .before .refused-page .kept .1 .0
 
 returns : tie.Need-returns
-returns c = program-refused (c .before .before .before .before .before .before .before .before .before .before .before .before .before .before .args .purpose) (c .before .before .before .before .before .before .before .before .before .before .before .before .before .before .args .file .now) (c .before .before .before .before .before .before .before .before .before .read-input .result) _ _ (c .before .before .before .before .before .before .before .before .before .read-input .ensures) (c .before .before .before .before .before .e .given .0 .0) _ _ (c .before .before .before .before .before .e .given .1) (c .before .before .refused-page .ensures)
+returns c =
+    let far = c .before .before .before .before .before .before .before .before .before .before .before .before in
+    let args = far .before .before .args in
+    let read-input = c .before .before .before .before .before .before .before .before .before .read-input in
+    let the-e = c .before .before .before .before .before .e in
+    program-refused (args .purpose) (args .file .now) (read-input .result) _ _ (read-input .ensures) (the-e .given .0 .0) _ _ (the-e .given .1)
+    (c .before .before .refused-page .ensures)
 
 same-length-2 : tie.Need-same-length-2
 same-length-2 c = c .before .before .reply .kept .1 .1 .1 .1 .1 .1 .1 .1 .0
 
 returns-2 : tie.Need-returns-2
-returns-2 c = program-said (c .before .before .before .before .before .before .before .before .before .before .before .before .before .before .before .before .before .before .args .purpose) (c .before .before .before .before .before .before .before .before .before .before .before .before .before .before .before .before .before .before .args .file .now) (c .before .before .before .before .before .before .before .before .before .before .before .before .before .read-input .result) _ _ (c .before .before .before .before .before .before .before .before .before .before .before .before .before .read-input .ensures) (c .before .before .before .before .before .before .before .before .before .kind .given .0 .0) (c .before .before .before .before .before .before .before .before .before .kind .given .0 .1 .0) (c .before .before .before .before .before .before .before .before .before .kind .given .0 .1 .1 .0) (c .before .before .before .before .before .before .before .before .before .kind .given .0 .1 .1 .1 .0) (c .before .before .before .before .before .before .before .before .before .kind .given .0 .1 .1 .1 .1 .0) (c .before .before .before .before .before .before .before .before .before .kind .given .1) _ _ _ _ (c .before .before .before .before .before .before .before .handed .ensures) (c .before .before .before .before .before .before .handed2 .ensures) (c .before .before .reply .ensures)
+returns-2 c =
+    let far = c .before .before .before .before .before .before .before .before .before .before .before .before in
+    let args = far .before .before .before .before .before .before .args in
+    let read-input = far .before .read-input in
+    let kind = c .before .before .before .before .before .before .before .before .before .kind in
+    let handed = c .before .before .before .before .before .before .before .handed in
+    let handed2 = c .before .before .before .before .before .before .handed2 in
+    program-said (args .purpose) (args .file .now) (read-input .result) _ _ (read-input .ensures) (kind .given .0 .0) (kind .given .0 .1 .0)
+    (kind .given .0 .1 .1 .0) (kind .given .0 .1 .1 .1 .0) (kind .given .0 .1 .1 .1 .1 .0) (kind .given .1) _ _ _ _ (handed .ensures)
+    (handed2 .ensures) (c .before .before .reply .ensures)
 
 pub problem-program-spec : {M : Type 1} → statement M
 problem-program-spec =

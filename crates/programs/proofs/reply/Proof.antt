@@ -26,13 +26,29 @@ same-length : tie.Need-same-length
 same-length c = c .before .before .catalogue-reply .kept .1 .1 .1 .1 .1 .1 .1 .0
 
 returns : tie.Need-returns
-returns c = (c .before .before .catalogue-reply .ensures .0 ∙ ap (λ (a : Purpose). replyTo a (problemOf (c .before .before .before .before .before .before .before .before .before .args .kind) (c .before .before .before .before .before .before .before .before .before .args .p) (c .before .before .before .before .before .before .before .before .before .args .q) (c .before .before .before .before .before .before .before .before .before .args .r) (c .before .before .before .before .before .before .before .before .before .args .k) (c .before .before .before .before .before .before .before .before .before .args .gs .now) (c .before .before .before .before .before .before .before .before .before .args .ts .now))) (sym (c .before .before .before .before .enum-told .given .1)), c .before .before .catalogue-reply .ensures .1)
+returns c =
+    let args = c .before .before .before .before .before .before .before .before .before .args in
+    let the-enum-told = c .before .before .before .before .enum-told in
+    let catalogue-reply = c .before .before .catalogue-reply in (
+      catalogue-reply .ensures .0 ∙ ap
+          (λ (a : Purpose). replyTo a (problemOf (args .kind) (args .p) (args .q) (args .r) (args .k) (args .gs .now) (args .ts .now)))
+          (sym (the-enum-told .given .1)),
+      catalogue-reply .ensures .1,
+    )
 
 same-length-2 : tie.Need-same-length-2
 same-length-2 c = c .before .before .rank-reply .kept .1 .1 .1 .1 .1 .1 .1 .0
 
 returns-2 : tie.Need-returns-2
-returns-2 c = (c .before .before .rank-reply .ensures .0 ∙ ap (λ (a : Purpose). replyTo a (problemOf (c .before .before .before .before .before .before .before .before .before .args .kind) (c .before .before .before .before .before .before .before .before .before .args .p) (c .before .before .before .before .before .before .before .before .before .args .q) (c .before .before .before .before .before .before .before .before .before .args .r) (c .before .before .before .before .before .before .before .before .before .args .k) (c .before .before .before .before .before .before .before .before .before .args .gs .now) (c .before .before .before .before .before .before .before .before .before .args .ts .now))) (sym (c .before .before .before .before .enum-told2 .given .1)), c .before .before .rank-reply .ensures .1)
+returns-2 c =
+    let args = c .before .before .before .before .before .before .before .before .before .args in
+    let enum-told2 = c .before .before .before .before .enum-told2 in
+    let rank-reply = c .before .before .rank-reply in (
+      rank-reply .ensures .0 ∙ ap
+          (λ (a : Purpose). replyTo a (problemOf (args .kind) (args .p) (args .q) (args .r) (args .k) (args .gs .now) (args .ts .now)))
+          (sym (enum-told2 .given .1)),
+      rank-reply .ensures .1,
+    )
 
 pub reply-spec : {M : Type 1} → statement M
 reply-spec =

@@ -10,7 +10,10 @@ use Rattle.rank_text.proofs.put_formula.Lts as lts
 use Rattle.rank_text.proofs.report.rank_text.Reads as rank-text-reads
 
 slice-aggregate-rank-text : tie.Need-slice-aggregate-rank-text
-slice-aggregate-rank-text c = let l = c .before .before .before .pre .0 in let h = c .before .before .before .pre .1 in sym (length-take-le (c .before .before .before .args .n) (c .before .before .before .args .formula .now) (omega arith))
+slice-aggregate-rank-text c =
+    let args = c .before .before .before .args in
+    let pre = c .before .before .before .pre in
+    let l = pre .0 in let h = pre .1 in sym (length-take-le (args .n) (args .formula .now) (omega arith))
 
 add-rank-text : tie.Need-add-rank-text
 add-rank-text c = let h = c .before .before .before .pre .1 in omega arith
@@ -28,13 +31,20 @@ part-rank-text-end : tie.Need-part-rank-text-end
 part-rank-text-end c = let l = c .before .before .before .pre .0 in let h = c .before .before .before .pre .1 in omega arith
 
 rank-text-requires : tie.Need-rank-text-requires
-rank-text-requires c κs = formula-short (c .before .before .before .before .before .args .n) (c .before .before .before .before .before .args .t) (c .before .before .before .before .before .args .formula .now) (c .before .before .before .before .before .pre .0)
+rank-text-requires c κs =
+    let args = c .before .before .before .before .before .args in
+    let pre = c .before .before .before .before .before .pre in
+    formula-short (args .n) (args .t) (args .formula .now) (pre .0)
 
 same-length : tie.Need-same-length
 same-length c = c .before .before .rank-text .kept .1 .1 .1 .1 .1 .1 .1 .1 .0
 
 returns : tie.Need-returns
-returns c = formula-piece (c .before .before .before .before .before .before .before .before .args .n) (c .before .before .before .before .before .before .before .before .args .t) (c .before .before .before .before .before .before .before .before .args .formula .now) (c .before .before .before .before .before .before .before .before .args .kind) (c .before .before .before .before .before .before .before .before .args .p) (c .before .before .before .before .before .before .before .before .args .q) (c .before .before .before .before .before .before .before .before .args .r) (c .before .before .before .before .before .before .before .before .args .k) (c .before .before .before .before .before .before .before .before .args .ell) (c .before .before .before .before .before .before .before .before .args .page .now) _ _ (c .before .before .before .before .before .before .before .before .pre .1) (c .before .before .rank-text .ensures)
+returns c =
+    let args = c .before .before .before .before .before .before .before .before .args in
+    let pre = c .before .before .before .before .before .before .before .before .pre in
+    formula-piece (args .n) (args .t) (args .formula .now) (args .kind) (args .p) (args .q) (args .r) (args .k) (args .ell) (args .page .now) _ _
+    (pre .1) (c .before .before .rank-text .ensures)
 
 pub put-formula-spec : {M : Type 1} → statement M
 put-formula-spec =

@@ -40,7 +40,18 @@ slice-aggregate-put-formula : tie.Need-slice-aggregate-put-formula
 slice-aggregate-put-formula c = sym (c .before .before .before .before .before .rank .kept .1 .1 .1 .1 .1 .1 .1 .0 ∙ length-replicate {A = ℕ} _ 0)
 
 put-formula-requires : tie.Need-put-formula-requires
-put-formula-requires c κs = (c .before .before .before .before .before .before .rank .kept .1 .1 .1 .1 .1 .1 .1 .0, said-room (c .before .before .before .before .before .before .before .before .before .before .before .before .args .kind) (c .before .before .before .before .before .before .before .before .before .before .before .before .args .p) (c .before .before .before .before .before .before .before .before .before .before .before .before .args .q) (c .before .before .before .before .before .before .before .before .before .before .before .before .args .r) (c .before .before .before .before .before .before .before .before .before .before .before .before .args .k) (c .before .before .before .before .before .before .before .before .before .before .before .before .args .gs .now) (c .before .before .before .before .before .before .before .before .before .before .before .before .args .ts .now) _ (c .before .before .before .before .before .before .before .before .before .before .before .before .args .t) (c .before .before .before .before .before .before .before .before .before .before .before .before .args .ell) (c .before .before .before .before .before .before .rank .result) _ (record { named = c .before .before .before .before .before .before .before .before .number-of .ensures; measured = c .before .before .before .before .before .before .before .before .before .before .before .before .pre .1; answer = c .before .before .before .before .before .before .rank .ensures .0; size = c .before .before .before .before .before .before .rank .kept .1 .1 .1 .1 .1 .1 .1 .0 }) (c .before .before .before .said2 .given .0 .0) (c .before .before .before .said2 .given .1))
+put-formula-requires c κs =
+    let args = c .before .before .before .before .before .before .before .before .before .before .before .before .args in
+    let pre = c .before .before .before .before .before .before .before .before .before .before .before .before .pre in
+    let number-of = c .before .before .before .before .before .before .before .before .number-of in
+    let rank = c .before .before .before .before .before .before .rank in
+    let said2 = c .before .before .before .said2 in (
+      rank .kept .1 .1 .1 .1 .1 .1 .1 .0,
+      said-room (args .kind) (args .p) (args .q) (args .r) (args .k) (args .gs .now) (args .ts .now) _
+          (args .t) (args .ell) (rank .result) _
+          (record { named = number-of .ensures; measured = pre .1; answer = rank .ensures .0; size = rank .kept .1 .1 .1 .1 .1 .1 .1 .0 })
+          (said2 .given .0 .0) (said2 .given .1),
+    )
 
 enum-told : tie.Need-enum-told
 enum-told c = c .match .keys3
@@ -58,25 +69,61 @@ same-length : tie.Need-same-length
 same-length c = c .before .before .refused-page .kept .1 .0
 
 returns : tie.Need-returns
-returns c = said-refused (c .before .before .before .before .before .before .before .before .before .before .before .before .before .before .args .kind) (c .before .before .before .before .before .before .before .before .before .before .before .before .before .before .args .p) (c .before .before .before .before .before .before .before .before .before .before .before .before .before .before .args .q) (c .before .before .before .before .before .before .before .before .before .before .before .before .before .before .args .r) (c .before .before .before .before .before .before .before .before .before .before .before .before .before .before .args .k) (c .before .before .before .before .before .before .before .before .before .before .before .before .before .before .args .gs .now) (c .before .before .before .before .before .before .before .before .before .before .before .before .before .before .args .ts .now) _ (c .before .before .before .before .before .before .before .before .before .before .before .before .before .before .args .t) (c .before .before .before .before .before .before .before .before .before .before .before .before .before .before .args .ell) (c .before .before .before .before .before .before .before .before .rank .result) _ (record { named = c .before .before .before .before .before .before .before .before .before .before .number-of .ensures; measured = c .before .before .before .before .before .before .before .before .before .before .before .before .before .before .pre .1; answer = c .before .before .before .before .before .before .before .before .rank .ensures .0; size = c .before .before .before .before .before .before .before .before .rank .kept .1 .1 .1 .1 .1 .1 .1 .0 }) (c .before .before .before .before .before .said .given .0 .0) _ _ (c .before .before .before .before .before .said .given .1) (c .before .before .refused-page .ensures)
+returns c =
+    let far = c .before .before .before .before .before .before .before .before .before .before .before .before in
+    let args = far .before .before .args in
+    let pre = far .before .before .pre in
+    let number-of = c .before .before .before .before .before .before .before .before .before .before .number-of in
+    let rank = c .before .before .before .before .before .before .before .before .rank in
+    let said = c .before .before .before .before .before .said in
+    said-refused (args .kind) (args .p) (args .q) (args .r) (args .k) (args .gs .now) (args .ts .now) _ (args .t) (args .ell) (rank .result) _
+    (record { named = number-of .ensures; measured = pre .1; answer = rank .ensures .0; size = rank .kept .1 .1 .1 .1 .1 .1 .1 .0 })
+    (said .given .0 .0) _ _ (said .given .1) (c .before .before .refused-page .ensures)
 
 same-length-2 : tie.Need-same-length-2
 same-length-2 c = c .before .before .put-formula .kept .1 .1 .1 .1 .1 .1 .1 .1 .1 .0
 
 returns-2 : tie.Need-returns-2
-returns-2 c = said-formula (c .before .before .before .before .before .before .before .before .before .before .before .before .before .before .before .args .kind) (c .before .before .before .before .before .before .before .before .before .before .before .before .before .before .before .args .p) (c .before .before .before .before .before .before .before .before .before .before .before .before .before .before .before .args .q) (c .before .before .before .before .before .before .before .before .before .before .before .before .before .before .before .args .r) (c .before .before .before .before .before .before .before .before .before .before .before .before .before .before .before .args .k) (c .before .before .before .before .before .before .before .before .before .before .before .before .before .before .before .args .gs .now) (c .before .before .before .before .before .before .before .before .before .before .before .before .before .before .before .args .ts .now) _ (c .before .before .before .before .before .before .before .before .before .before .before .before .before .before .before .args .t) (c .before .before .before .before .before .before .before .before .before .before .before .before .before .before .before .args .ell) (c .before .before .before .before .before .before .before .before .before .rank .result) _ (record { named = c .before .before .before .before .before .before .before .before .before .before .before .number-of .ensures; measured = c .before .before .before .before .before .before .before .before .before .before .before .before .before .before .before .pre .1; answer = c .before .before .before .before .before .before .before .before .before .rank .ensures .0; size = c .before .before .before .before .before .before .before .before .before .rank .kept .1 .1 .1 .1 .1 .1 .1 .0 }) (c .before .before .before .before .before .before .said2 .given .0 .0) (c .before .before .before .before .before .before .said2 .given .1) (c .before .before .before .before .before .before .before .before .before .before .before .before .before .before .before .args .page .now) _ _ (c .before .before .before .before .before .before .before .before .before .before .before .before .before .before .before .pre .0) (c .before .before .put-formula .ensures)
+returns-2 c =
+    let far = c .before .before .before .before .before .before .before .before .before .before .before .before in
+    let args = far .before .before .before .args in
+    let pre = far .before .before .before .pre in
+    let number-of = c .before .before .before .before .before .before .before .before .before .before .before .number-of in
+    let rank = c .before .before .before .before .before .before .before .before .before .rank in
+    let said2 = c .before .before .before .before .before .before .said2 in
+    said-formula (args .kind) (args .p) (args .q) (args .r) (args .k) (args .gs .now) (args .ts .now) _ (args .t) (args .ell) (rank .result) _
+    (record { named = number-of .ensures; measured = pre .1; answer = rank .ensures .0; size = rank .kept .1 .1 .1 .1 .1 .1 .1 .0 })
+    (said2 .given .0 .0) (said2 .given .1) (args .page .now) _ _ (pre .0) (c .before .before .put-formula .ensures)
 
 same-length-3 : tie.Need-same-length-3
 same-length-3 c = c .before .before .far-rank-text .kept .1 .1 .1 .1 .1 .1 .1 .0
 
 returns-3 : tie.Need-returns-3
-returns-3 c = said-above (c .before .before .before .before .before .before .before .before .before .before .before .before .before .args .kind) (c .before .before .before .before .before .before .before .before .before .before .before .before .before .args .p) (c .before .before .before .before .before .before .before .before .before .before .before .before .before .args .q) (c .before .before .before .before .before .before .before .before .before .before .before .before .before .args .r) (c .before .before .before .before .before .before .before .before .before .before .before .before .before .args .k) (c .before .before .before .before .before .before .before .before .before .before .before .before .before .args .gs .now) (c .before .before .before .before .before .before .before .before .before .before .before .before .before .args .ts .now) _ (c .before .before .before .before .before .before .before .before .before .before .before .before .before .args .t) (c .before .before .before .before .before .before .before .before .before .before .before .before .before .args .ell) (c .before .before .before .before .before .before .before .rank .result) _ (record { named = c .before .before .before .before .before .before .before .before .before .number-of .ensures; measured = c .before .before .before .before .before .before .before .before .before .before .before .before .before .pre .1; answer = c .before .before .before .before .before .before .before .rank .ensures .0; size = c .before .before .before .before .before .before .before .rank .kept .1 .1 .1 .1 .1 .1 .1 .0 }) (c .before .before .before .before .enum-told .given .1) (c .before .before .before .before .before .before .before .before .before .before .before .before .before .args .page .now) _ _ (c .before .before .before .before .before .before .before .before .before .before .before .before .before .pre .0) (c .before .before .far-rank-text .ensures)
+returns-3 c =
+    let far = c .before .before .before .before .before .before .before .before .before .before .before .before in
+    let args = far .before .args in
+    let pre = far .before .pre in
+    let number-of = c .before .before .before .before .before .before .before .before .before .number-of in
+    let rank = c .before .before .before .before .before .before .before .rank in
+    let the-enum-told = c .before .before .before .before .enum-told in
+    said-above (args .kind) (args .p) (args .q) (args .r) (args .k) (args .gs .now) (args .ts .now) _ (args .t) (args .ell) (rank .result) _
+    (record { named = number-of .ensures; measured = pre .1; answer = rank .ensures .0; size = rank .kept .1 .1 .1 .1 .1 .1 .1 .0 })
+    (the-enum-told .given .1) (args .page .now) _ _ (pre .0) (c .before .before .far-rank-text .ensures)
 
 same-length-4 : tie.Need-same-length-4
 same-length-4 c = c .before .before .far-rank-text2 .kept .1 .1 .1 .1 .1 .1 .1 .0
 
 returns-4 : tie.Need-returns-4
-returns-4 c = said-beyond (c .before .before .before .before .before .before .before .before .before .before .before .before .before .args .kind) (c .before .before .before .before .before .before .before .before .before .before .before .before .before .args .p) (c .before .before .before .before .before .before .before .before .before .before .before .before .before .args .q) (c .before .before .before .before .before .before .before .before .before .before .before .before .before .args .r) (c .before .before .before .before .before .before .before .before .before .before .before .before .before .args .k) (c .before .before .before .before .before .before .before .before .before .before .before .before .before .args .gs .now) (c .before .before .before .before .before .before .before .before .before .before .before .before .before .args .ts .now) _ (c .before .before .before .before .before .before .before .before .before .before .before .before .before .args .t) (c .before .before .before .before .before .before .before .before .before .before .before .before .before .args .ell) (c .before .before .before .before .before .before .before .rank .result) _ (record { named = c .before .before .before .before .before .before .before .before .before .number-of .ensures; measured = c .before .before .before .before .before .before .before .before .before .before .before .before .before .pre .1; answer = c .before .before .before .before .before .before .before .rank .ensures .0; size = c .before .before .before .before .before .before .before .rank .kept .1 .1 .1 .1 .1 .1 .1 .0 }) (c .before .before .before .before .enum-told2 .given .1) (c .before .before .before .before .before .before .before .before .before .before .before .before .before .args .page .now) _ _ (c .before .before .before .before .before .before .before .before .before .before .before .before .before .pre .0) (c .before .before .far-rank-text2 .ensures)
+returns-4 c =
+    let far = c .before .before .before .before .before .before .before .before .before .before .before .before in
+    let args = far .before .args in
+    let pre = far .before .pre in
+    let number-of = c .before .before .before .before .before .before .before .before .before .number-of in
+    let rank = c .before .before .before .before .before .before .before .rank in
+    let enum-told2 = c .before .before .before .before .enum-told2 in
+    said-beyond (args .kind) (args .p) (args .q) (args .r) (args .k) (args .gs .now) (args .ts .now) _ (args .t) (args .ell) (rank .result) _
+    (record { named = number-of .ensures; measured = pre .1; answer = rank .ensures .0; size = rank .kept .1 .1 .1 .1 .1 .1 .1 .0 })
+    (enum-told2 .given .1) (args .page .now) _ _ (pre .0) (c .before .before .far-rank-text2 .ensures)
 
 pub put-rank-spec : {M : Type 1} → statement M
 put-rank-spec =

@@ -11,7 +11,9 @@ use Rattle.records.proofs.keep.Statement.{statement}
 use Rattle.records.proofs.keep.Tie as tie
 
 returns : tie.Need-returns
-returns c = keep-full (c .before .before .before .args .limit) (c .before .before .before .args .t) (c .before .before .before .args .out .now) (chainOf (c .before .before .before .args .c)) (rowsOf (c .before .before .before .args .b)) (c .if1 .taken)
+returns c =
+    let args = c .before .before .before .args in
+    keep-full (args .limit) (args .t) (args .out .now) (chainOf (args .c)) (rowsOf (args .b)) (c .if1 .taken)
 
 sub-if2 : tie.Need-sub-if2
 sub-if2 c = c .before .before .before .pre .sane .inside
@@ -34,9 +36,6 @@ returns-2 c =
     let i : t .at ≤ length o = s .pre .sane .inside in
     keep-short (s .args .limit) t o p q (s .args .c .len) (s .args .b .len) ec eb (c .before .before .if1 .left) (omega (arith, c .before .if2 .taken))
 
-array-share-prefix-numbers : tie.Need-array-share-prefix-numbers
-array-share-prefix-numbers c = search needs
-
 slice-aggregate-copy : tie.Need-slice-aggregate-copy
 slice-aggregate-copy c = sym (chain-length (c .before .before .before .before .before .before .args .c) 0 (c .before .before .before .before .before .before .pre .tidy))
 
@@ -53,14 +52,19 @@ copy-requires c κs =
     let k : s .args .c .len + s .args .b .len ≤ length o - t .at = c .before .before .before .if2 .left in
     omega (arith, ec, k, i)
 
-array-share-prefix-rows : tie.Need-array-share-prefix-rows
-array-share-prefix-rows c = search needs
-
 slice-aggregate-copy-2 : tie.Need-slice-aggregate-copy-2
-slice-aggregate-copy-2 c = sym (rows-length (c .before .before .before .before .before .before .before .before .before .before .before .before .args .b) (c .before .before .before .before .before .before .before .before .before .before .before .before .pre .valid))
+slice-aggregate-copy-2 c =
+    let args = c .before .before .before .before .before .before .before .before .before .before .before .before .args in
+    let pre = c .before .before .before .before .before .before .before .before .before .before .before .before .pre in
+    sym (rows-length (args .b) (pre .valid))
 
 add-copy : tie.Need-add-copy
-add-copy c = at-fits (c .before .before .before .before .before .before .before .before .before .before .before .before .before .pre) (c .before .before .before .before .before .before .before .before .before .if2 .left) (c .before .before .before .before .before .before .before .before .before .before .before .before .before .good .1 .1 .1 .1 .0 .0)
+add-copy c =
+    let far = c .before .before .before .before .before .before .before .before .before .before .before .before in
+    let good = far .before .good in
+    let pre = far .before .pre in
+    let if2 = c .before .before .before .before .before .before .before .before .before .if2 in
+    at-fits pre (if2 .left) (good .1 .1 .1 .1 .0 .0)
 
 copy-requires-2 : tie.Need-copy-requires-2
 copy-requires-2 c κs =
@@ -77,23 +81,44 @@ copy-requires-2 c κs =
     omega (arith, eb, k, i, z)
 
 add-t25 : tie.Need-add-t25
-add-t25 c = found-fits (c .before .before .before .before .before .before .before .before .before .before .before .before .before .before .before .before .before .pre) (c .before .before .before .before .before .before .before .before .before .before .before .before .before .before .if1 .left) (c .before .before .before .before .before .before .before .before .before .before .before .before .before .before .before .before .before .fits .limit)
+add-t25 c =
+    let far = c .before .before .before .before .before .before .before .before .before .before .before .before in
+    let the-fits = far .before .before .before .before .before .fits in
+    let pre = far .before .before .before .before .before .pre in
+    let if1 = far .before .before .if1 in
+    found-fits pre (if1 .left) (the-fits .limit)
 
 add-t13 : tie.Need-add-t13
-add-t13 c = shown-fits (c .before .before .before .before .before .before .before .before .before .before .before .before .before .before .before .before .before .before .pre) (c .before .before .before .before .before .before .before .before .before .before .before .before .before .before .before .if1 .left) (c .before .before .before .before .before .before .before .before .before .before .before .before .before .before .before .before .before .before .fits .limit)
+add-t13 c =
+    let far = c .before .before .before .before .before .before .before .before .before .before .before .before in
+    let the-fits = far .before .before .before .before .before .before .fits in
+    let pre = far .before .before .before .before .before .before .pre in
+    let if1 = far .before .before .before .if1 in
+    shown-fits pre (if1 .left) (the-fits .limit)
 
 add-t12 : tie.Need-add-t12
 add-t12 c = lengths-fit (c .before .before .before .before .before .before .before .before .before .before .before .before .before .before .before .before .before .before .pre)
 
 add-t14 : tie.Need-add-t14
-add-t14 c = end-fits (c .before .before .before .before .before .before .before .before .before .before .before .before .before .before .before .before .before .before .pre) (c .before .before .before .before .before .before .before .before .before .before .before .before .before .before .if2 .left) (c .before .before .before .before .before .before .before .before .before .before .before .before .before .before .before .before .before .before .good .1 .1 .1 .1 .0 .0)
+add-t14 c =
+    let far = c .before .before .before .before .before .before .before .before .before .before .before .before in
+    let good = far .before .before .before .before .before .before .good in
+    let pre = far .before .before .before .before .before .before .pre in
+    let if2 = far .before .before .if2 in
+    end-fits pre (if2 .left) (good .1 .1 .1 .1 .0 .0)
 
 same-length : tie.Need-same-length
 same-length c = c .before .before .before .before .copy2 .kept .1 .0 ∙ c .before .before .before .before .before .before .before .before .before .before .copy .kept .1 .0
 
 returns-3 : tie.Need-returns-3
 returns-3 c =
-    let s = c .before .before .before .before .before .before .before .before .before .before .before .before .before .before .before .before .before .before in
+    let far = c .before .before .before .before .before .before .before .before .before .before .before .before in
+    let before = far .before .before .before .before .before .before in
+    let if1 = far .before .before .before .if1 in
+    let if2 = far .before .before .if2 in
+    let copy = c .before .before .before .before .before .before .before .before .before .before .copy in
+    let copy2 = c .before .before .before .before .copy2 in
+    let s = before in
     let t = s .args .t in
     let o = s .args .out .now in
     let p = chainOf (s .args .c) in
@@ -101,9 +126,9 @@ returns-3 c =
     let ec : s .args .c .len ≡ length p = sym (chain-length (s .args .c) 0 (s .pre .tidy)) in
     let eb : s .args .b .len ≡ length q = sym (rows-length (s .args .b) (s .pre .valid)) in
     let i : t .at ≤ length o = s .pre .sane .inside in
-    let k : s .args .c .len + s .args .b .len ≤ length o - t .at = c .before .before .before .before .before .before .before .before .before .before .before .before .before .before .if2 .left in
-    keep-fits (s .args .limit) t o p q (s .args .c .len) (s .args .b .len) (c .before .before .before .before .before .before .before .before .before .before .copy .last .1 .0) (c .before .before .before .before .copy2 .last .1 .0) ec eb (c .before .before .before .before .before .before .before .before .before .before .before .before .before .before .before .if1 .left)
-    (omega (arith, k, i)) (c .before .before .before .before .before .before .before .before .before .before .copy .ensures) (c .before .before .before .before .copy2 .ensures)
+    let k : s .args .c .len + s .args .b .len ≤ length o - t .at = if2 .left in
+    keep-fits (s .args .limit) t o p q (s .args .c .len) (s .args .b .len) (copy .last .1 .0) (copy2 .last .1 .0) ec eb (if1 .left)
+    (omega (arith, k, i)) (copy .ensures) (copy2 .ensures)
 
 pub keep-spec : {M : Type 1} → statement M
 keep-spec =
@@ -114,10 +139,10 @@ keep-spec =
     add-if2
     add-t15
     returns-2
-    array-share-prefix-numbers
+    (λ c. search needs)
     slice-aggregate-copy
     copy-requires
-    array-share-prefix-rows
+    (λ c. search needs)
     slice-aggregate-copy-2
     add-copy
     copy-requires-2

@@ -15,23 +15,11 @@ Inv-loop h j v i₀ i = (i ≤ j) × (v ≡ getD h j 0) × ((k : ℕ) → k < i 
 abbrev μ-loop : tie.MeasureT-loop
 μ-loop h j v i₀ i = j - i
 
-mul-v : tie.Need-mul-v Inv-loop μ-loop
-mul-v c = omega arith
-
-shared-slice-read-v : tie.Need-shared-slice-read-v Inv-loop μ-loop
-shared-slice-read-v c = omega arith
-
 returns : tie.Need-returns Inv-loop μ-loop
 returns c = known-zero (c .before .before .args .h .now) (c .before .before .args .j) (c .if1 .taken)
 
 loop-holds : tie.Need-loop-holds Inv-loop μ-loop
 loop-holds c = (omega arith, refl, λ k h. absurd (omega arith))
-
-mul-if2 : tie.Need-mul-if2 Inv-loop μ-loop
-mul-if2 c = omega arith
-
-shared-slice-read-if2 : tie.Need-shared-slice-read-if2 Inv-loop μ-loop
-shared-slice-read-if2 c = omega arith
 
 returns-2 : tie.Need-returns-2 Inv-loop μ-loop
 returns-2 c =
@@ -39,12 +27,6 @@ returns-2 c =
     let l = c .before .before .before .loop in
     let h : l .i < s .args .j = omega arith in
     known-found (s .args .h .now) (s .args .j) (l .i) (c .before .before .before .before .if1 .left) h (s .pre) (c .if2 .taken)
-
-add-i : tie.Need-add-i Inv-loop μ-loop
-add-i c = omega arith
-
-loop-less : tie.Need-loop-less Inv-loop μ-loop
-loop-less c = omega arith
 
 loop-again : tie.Need-loop-again Inv-loop μ-loop
 loop-again c = let l = c .before .before .before .loop in (omega arith, refl, below-more _ _ (l .inv .2) (c .if2 .left))
@@ -61,14 +43,14 @@ known-spec =
     (tie.spec
     Inv-loop
     μ-loop
-    mul-v
-    shared-slice-read-v
+    (λ c. omega arith)
+    (λ c. omega arith)
     returns
     loop-holds
-    mul-if2
-    shared-slice-read-if2
+    (λ c. omega arith)
+    (λ c. omega arith)
     returns-2
-    add-i
-    loop-less
+    (λ c. omega arith)
+    (λ c. omega arith)
     loop-again
     returns-3)

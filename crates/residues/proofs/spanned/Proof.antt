@@ -16,9 +16,11 @@ with-residue-requires c κs = (c .empty .ensures .valid, c .before .before .befo
 
 returns : tie.Need-returns
 returns c =
-    let xs = withResidue 0 (c .before .before .before .before .before .args .gens .now) (c .before .before .before .before .before .args .h .now) in
+    let args = c .before .before .before .before .before .args in
+    let the-empty = c .before .before .empty in
+    let xs = withResidue 0 (args .gens .now) (args .h .now) in
     let r = c .before .with-residue .result in
-    ap (λ (n : ℕ). eqb n (c .before .before .before .before .before .args .k)) (based-dim xs r (from-empty xs (c .before .before .empty .result) r (c .before .before .empty .ensures) (c .before .with-residue .ensures)))
+    ap (λ (n : ℕ). eqb n (args .k)) (based-dim xs r (from-empty xs (the-empty .result) r (the-empty .ensures) (c .before .with-residue .ensures)))
 
 pub spanned-spec : {M : Type 1} → statement M
 spanned-spec = tie.close (tie.spec empty-requires with-residue-requires returns)

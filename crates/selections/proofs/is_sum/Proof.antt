@@ -11,59 +11,82 @@ use Rattle.selections.proofs.is_sum.Lts as lts
 use Rattle.problems.proofs.pose.Reads as pose-reads
 use Rattle.selections.proofs.on_forms.say_sum.Reads as say-sum-reads
 
-slice-aggregate-pose : tie.Need-slice-aggregate-pose
-slice-aggregate-pose c = search needs
-
-slice-aggregate-pose-2 : tie.Need-slice-aggregate-pose-2
-slice-aggregate-pose-2 c = search needs
-
-slice-aggregate-pose-3 : tie.Need-slice-aggregate-pose-3
-slice-aggregate-pose-3 c = search needs
-
-pose-requires : tie.Need-pose-requires
-pose-requires c κs = search needs
-
-enum-known-e : tie.Need-enum-known-e
-enum-known-e c = search needs
-
-enum-known-n : tie.Need-enum-known-n
-enum-known-n c = search needs
-
 array-share-prefix-g : tie.Need-array-share-prefix-g
-array-share-prefix-g c = let m = room (c .before .before .before .before .before .before .before .before .before .before .before .before .args .number) (c .before .before .before .before .before .before .before .before .before .before .before .before .args .p) (c .before .before .before .before .before .before .before .before .before .before .before .before .args .q) (c .before .before .before .before .before .before .before .before .before .before .before .before .args .r) (c .before .before .before .before .before .before .before .before .before .before .before .before .args .gs .now) (c .before .before .before .before .before .before .before .before .before .before .before .before .args .ts .now) (c .before .before .before .before .before .before .before .before .before .before .before .before .args .sel .now) _ _ (c .before .before .before .before .before .pose .result) _ (c .before .n .given .0 .0) (c .before .n .given .0 .1 .0) (c .before .before .before .before .before .pose .ensures) (c .before .n .given .1) in let a = m .generators in let l = c .before .before .before .before .before .pose .kept .1 .1 .1 .1 .1 .1 .1 .0 in omega arith
+array-share-prefix-g c =
+    let args = c .before .before .before .before .before .before .before .before .before .before .before .before .args in
+    let pose = c .before .before .before .before .before .pose in
+    let m = room (args .number) (args .p) (args .q) (args .r) (args .gs .now) (args .ts .now) (args .sel .now) _ _ (pose .result) _
+    (c .before .n .given .0 .0) (c .before .n .given .0 .1 .0) (pose .ensures) (c .before .n .given .1) in
+    let a = m .generators in
+    let l = pose .kept .1 .1 .1 .1 .1 .1 .1 .0 in
+    omega arith
 
 slice-aggregate-say-sum : tie.Need-slice-aggregate-say-sum
-slice-aggregate-say-sum c = let m = room (c .before .before .before .before .before .before .before .before .before .before .before .before .before .args .number) (c .before .before .before .before .before .before .before .before .before .before .before .before .before .args .p) (c .before .before .before .before .before .before .before .before .before .before .before .before .before .args .q) (c .before .before .before .before .before .before .before .before .before .before .before .before .before .args .r) (c .before .before .before .before .before .before .before .before .before .before .before .before .before .args .gs .now) (c .before .before .before .before .before .before .before .before .before .before .before .before .before .args .ts .now) (c .before .before .before .before .before .before .before .before .before .before .before .before .before .args .sel .now) _ _ (c .before .before .before .before .before .before .pose .result) _ (c .before .before .n .given .0 .0) (c .before .before .n .given .0 .1 .0) (c .before .before .before .before .before .before .pose .ensures) (c .before .before .n .given .1) in let a = m .generators in let l = c .before .before .before .before .before .before .pose .kept .1 .1 .1 .1 .1 .1 .1 .0 in sym (length-take-le _ _ (omega arith))
+slice-aggregate-say-sum c =
+    let far = c .before .before .before .before .before .before .before .before .before .before .before .before in
+    let args = far .before .args in
+    let pose = c .before .before .before .before .before .before .pose in
+    let n = c .before .before .n in
+    let m = room (args .number) (args .p) (args .q) (args .r) (args .gs .now) (args .ts .now) (args .sel .now) _ _ (pose .result) _ (n .given .0 .0)
+    (n .given .0 .1 .0) (pose .ensures) (n .given .1) in
+    let a = m .generators in
+    let l = pose .kept .1 .1 .1 .1 .1 .1 .1 .0 in
+    sym (length-take-le _ _ (omega arith))
 
 array-share-prefix-t : tie.Need-array-share-prefix-t
-array-share-prefix-t c = let m = room (c .before .before .before .before .before .before .before .before .before .before .before .before .before .args .number) (c .before .before .before .before .before .before .before .before .before .before .before .before .before .args .p) (c .before .before .before .before .before .before .before .before .before .before .before .before .before .args .q) (c .before .before .before .before .before .before .before .before .before .before .before .before .before .args .r) (c .before .before .before .before .before .before .before .before .before .before .before .before .before .args .gs .now) (c .before .before .before .before .before .before .before .before .before .before .before .before .before .args .ts .now) (c .before .before .before .before .before .before .before .before .before .before .before .before .before .args .sel .now) _ _ (c .before .before .before .before .before .before .pose .result) _ (c .before .before .n .given .0 .0) (c .before .before .n .given .0 .1 .0) (c .before .before .before .before .before .before .pose .ensures) (c .before .before .n .given .1) in let a = m .targets in let l = c .before .before .before .before .before .before .pose .kept .1 .1 .1 .1 .1 .1 .1 .1 .0 in omega arith
+array-share-prefix-t c =
+    let far = c .before .before .before .before .before .before .before .before .before .before .before .before in
+    let args = far .before .args in
+    let pose = c .before .before .before .before .before .before .pose in
+    let n = c .before .before .n in
+    let m = room (args .number) (args .p) (args .q) (args .r) (args .gs .now) (args .ts .now) (args .sel .now) _ _ (pose .result) _ (n .given .0 .0)
+    (n .given .0 .1 .0) (pose .ensures) (n .given .1) in
+    let a = m .targets in
+    let l = pose .kept .1 .1 .1 .1 .1 .1 .1 .1 .0 in
+    omega arith
 
 slice-aggregate-say-sum-2 : tie.Need-slice-aggregate-say-sum-2
-slice-aggregate-say-sum-2 c = let m = room (c .before .before .before .before .before .before .before .before .before .before .before .before .before .before .args .number) (c .before .before .before .before .before .before .before .before .before .before .before .before .before .before .args .p) (c .before .before .before .before .before .before .before .before .before .before .before .before .before .before .args .q) (c .before .before .before .before .before .before .before .before .before .before .before .before .before .before .args .r) (c .before .before .before .before .before .before .before .before .before .before .before .before .before .before .args .gs .now) (c .before .before .before .before .before .before .before .before .before .before .before .before .before .before .args .ts .now) (c .before .before .before .before .before .before .before .before .before .before .before .before .before .before .args .sel .now) _ _ (c .before .before .before .before .before .before .before .pose .result) _ (c .before .before .before .n .given .0 .0) (c .before .before .before .n .given .0 .1 .0) (c .before .before .before .before .before .before .before .pose .ensures) (c .before .before .before .n .given .1) in let a = m .targets in let l = c .before .before .before .before .before .before .before .pose .kept .1 .1 .1 .1 .1 .1 .1 .1 .0 in sym (length-take-le _ _ (omega arith))
-
-say-sum-requires : tie.Need-say-sum-requires
-say-sum-requires c κs = search needs
+slice-aggregate-say-sum-2 c =
+    let far = c .before .before .before .before .before .before .before .before .before .before .before .before in
+    let args = far .before .before .args in
+    let pose = c .before .before .before .before .before .before .before .pose in
+    let n = c .before .before .before .n in
+    let m = room (args .number) (args .p) (args .q) (args .r) (args .gs .now) (args .ts .now) (args .sel .now) _ _ (pose .result) _ (n .given .0 .0)
+    (n .given .0 .1 .0) (pose .ensures) (n .given .1) in
+    let a = m .targets in
+    let l = pose .kept .1 .1 .1 .1 .1 .1 .1 .1 .0 in
+    sym (length-take-le _ _ (omega arith))
 
 returns : tie.Need-returns
-returns c = sum-refused (c .before .before .before .before .before .before .before .before .before .before .before .before .args .number) (c .before .before .before .before .before .before .before .before .before .before .before .before .args .p) (c .before .before .before .before .before .before .before .before .before .before .before .before .args .q) (c .before .before .before .before .before .before .before .before .before .before .before .before .args .r) (c .before .before .before .before .before .before .before .before .before .before .before .before .args .gs .now) (c .before .before .before .before .before .before .before .before .before .before .before .before .args .ts .now) (c .before .before .before .before .before .before .before .before .before .before .before .before .args .sel .now) _ _ (c .before .before .before .before .before .pose .result) (c .before .before .before .before .before .before .before .before .before .before .before .before .args .form) (c .before .e .given .0 .0) (c .before .before .before .before .before .pose .ensures) (c .before .e .given .1)
+returns c =
+    let args = c .before .before .before .before .before .before .before .before .before .before .before .before .args in
+    let pose = c .before .before .before .before .before .pose in
+    sum-refused (args .number) (args .p) (args .q) (args .r) (args .gs .now) (args .ts .now) (args .sel .now) _ _ (pose .result) (args .form)
+    (c .before .e .given .0 .0) (pose .ensures) (c .before .e .given .1)
 
 returns-2 : tie.Need-returns-2
-returns-2 c = sum-made (c .before .before .before .before .before .before .before .before .before .before .before .before .before .before .before .args .number) (c .before .before .before .before .before .before .before .before .before .before .before .before .before .before .before .args .p) (c .before .before .before .before .before .before .before .before .before .before .before .before .before .before .before .args .q) (c .before .before .before .before .before .before .before .before .before .before .before .before .before .before .before .args .r) (c .before .before .before .before .before .before .before .before .before .before .before .before .before .before .before .args .gs .now) (c .before .before .before .before .before .before .before .before .before .before .before .before .before .before .before .args .ts .now) (c .before .before .before .before .before .before .before .before .before .before .before .before .before .before .before .args .sel .now) _ _ (c .before .before .before .before .before .before .before .before .pose .result) (c .before .before .before .before .before .before .before .before .before .before .before .before .before .before .before .args .form) (c .before .before .before .before .n .given .0 .0) (c .before .before .before .before .n .given .0 .1 .0) (c .before .before .before .before .before .before .before .before .pose .ensures) (c .before .before .before .before .n .given .1) ∙ c .say-sum .ensures
+returns-2 c =
+    let far = c .before .before .before .before .before .before .before .before .before .before .before .before in
+    let args = far .before .before .before .args in
+    let pose = c .before .before .before .before .before .before .before .before .pose in
+    let n = c .before .before .before .before .n in
+    sum-made (args .number) (args .p) (args .q) (args .r) (args .gs .now) (args .ts .now) (args .sel .now) _ _ (pose .result) (args .form)
+    (n .given .0 .0) (n .given .0 .1 .0) (pose .ensures) (n .given .1) ∙ c .say-sum .ensures
 
 pub is-sum-spec : {M : Type 1} → statement M
 is-sum-spec =
     tie.close
     (tie.spec
-    slice-aggregate-pose
-    slice-aggregate-pose-2
-    slice-aggregate-pose-3
-    pose-requires
-    enum-known-e
-    enum-known-n
+    (λ c. search needs)
+    (λ c. search needs)
+    (λ c. search needs)
+    (λ c κs. search needs)
+    (λ c. search needs)
+    (λ c. search needs)
     array-share-prefix-g
     slice-aggregate-say-sum
     array-share-prefix-t
     slice-aggregate-say-sum-2
-    say-sum-requires
+    (λ c κs. search needs)
     returns
     returns-2)

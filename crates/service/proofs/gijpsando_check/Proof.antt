@@ -15,15 +15,6 @@ use Rattle.service.proofs.gijpsando_check.Lts as lts
 use Rattle.formula_files.proofs.read_formula.Reads as read-formula-reads
 use Rattle.check_text.proofs.check_reply.Reads as check-reply-reads
 
-slice-aggregate-read-formula : tie.Need-slice-aggregate-read-formula
-slice-aggregate-read-formula c = refl
-
-slice-aggregate-read-formula-2 : tie.Need-slice-aggregate-read-formula-2
-slice-aggregate-read-formula-2 c = refl
-
-slice-aggregate-read-formula-3 : tie.Need-slice-aggregate-read-formula-3
-slice-aggregate-read-formula-3 c = refl
-
 read-formula-requires : tie.Need-read-formula-requires
 read-formula-requires c κs = tt
 
@@ -34,37 +25,65 @@ enum-known-got-2 : tie.Need-enum-known-got-2
 enum-known-got-2 c = c .match .keys2
 
 slice-aggregate-check-reply : tie.Need-slice-aggregate-check-reply
-slice-aggregate-check-reply c = let x = c .before .before .before .before .before .before .before .read-formula .kept .1 .0 in let y = c .before .before .before .before .before .before .before .read-formula .kept .1 .1 .0 in let z = c .before .before .before .before .before .before .before .read-formula .kept .1 .1 .1 .0 in omega arith
+slice-aggregate-check-reply c =
+    let read-formula = c .before .before .before .before .before .before .before .read-formula in
+    let x = read-formula .kept .1 .0 in let y = read-formula .kept .1 .1 .0 in let z = read-formula .kept .1 .1 .1 .0 in omega arith
 
 slice-aggregate-check-reply-2 : tie.Need-slice-aggregate-check-reply-2
-slice-aggregate-check-reply-2 c = let x = c .before .before .before .before .before .before .before .before .read-formula .kept .1 .0 in let y = c .before .before .before .before .before .before .before .before .read-formula .kept .1 .1 .0 in let z = c .before .before .before .before .before .before .before .before .read-formula .kept .1 .1 .1 .0 in omega arith
+slice-aggregate-check-reply-2 c =
+    let read-formula = c .before .before .before .before .before .before .before .before .read-formula in
+    let x = read-formula .kept .1 .0 in let y = read-formula .kept .1 .1 .0 in let z = read-formula .kept .1 .1 .1 .0 in omega arith
 
 slice-aggregate-check-reply-3 : tie.Need-slice-aggregate-check-reply-3
-slice-aggregate-check-reply-3 c = let x = c .before .before .before .before .before .before .before .before .before .read-formula .kept .1 .0 in let y = c .before .before .before .before .before .before .before .before .before .read-formula .kept .1 .1 .0 in let z = c .before .before .before .before .before .before .before .before .before .read-formula .kept .1 .1 .1 .0 in omega arith
+slice-aggregate-check-reply-3 c =
+    let read-formula = c .before .before .before .before .before .before .before .before .before .read-formula in
+    let x = read-formula .kept .1 .0 in let y = read-formula .kept .1 .1 .0 in let z = read-formula .kept .1 .1 .1 .0 in omega arith
 
 check-reply-requires : tie.Need-check-reply-requires
-check-reply-requires c κs = read-ready (c .before .before .before .before .before .before .before .before .before .before .before .before .before .before .before .before .args .file .now) (c .before .before .before .before .before .got2 .given .0 .0) (c .before .before .before .before .before .got2 .given .0 .1 .0) (c .before .before .before .before .before .got2 .given .0 .1 .1 .0) (c .before .before .before .before .before .got2 .given .0 .1 .1 .1 .0) (c .before .before .before .before .before .got2 .given .0 .1 .1 .1 .1 .0) (replicate 64 0) (replicate 64 0) (replicate 64 0) (c .before .before .before .before .before .before .before .before .before .before .read-formula .last .1 .0) (c .before .before .before .before .before .before .before .before .before .before .read-formula .last .1 .1 .0) (c .before .before .before .before .before .before .before .before .before .before .read-formula .last .1 .1 .1 .0) refl refl refl (sym (c .before .before .before .before .before .got2 .given .1) ∙ c .before .before .before .before .before .before .before .before .before .before .read-formula .ensures .0) (c .before .before .before .before .before .before .before .before .before .before .read-formula .ensures .1) (c .before .before .before .before .before .before .before .before .before .before .read-formula .ensures .2) (c .before .before .before .before .before .before .before .before .before .before .read-formula .ensures .3)
+check-reply-requires c κs =
+    let far = c .before .before .before .before .before .before .before .before .before .before .before .before in
+    let args = far .before .before .before .before .args in
+    let read-formula = c .before .before .before .before .before .before .before .before .before .before .read-formula in
+    let got2 = c .before .before .before .before .before .got2 in
+    read-ready (args .file .now) (got2 .given .0 .0) (got2 .given .0 .1 .0) (got2 .given .0 .1 .1 .0) (got2 .given .0 .1 .1 .1 .0)
+    (got2 .given .0 .1 .1 .1 .1 .0) (replicate 64 0) (replicate 64 0) (replicate 64 0) (read-formula .last .1 .0) (read-formula .last .1 .1 .0)
+    (read-formula .last .1 .1 .1 .0) refl refl refl (sym (got2 .given .1) ∙ read-formula .ensures .0) (read-formula .ensures .1)
+    (read-formula .ensures .2) (read-formula .ensures .3)
 
 returns : tie.Need-returns
 returns c =
-    let e : checkFile (c .before .before .before .before .before .before .before .before .before .before .before .before .args .file .now) ≡ refused (c .before .got .given .0 .0) = refused-checks (c .before .before .before .before .before .before .before .before .before .before .before .before .args .file .now) (replicate 64 0) (replicate 64 0) (replicate 64 0) (c .before .got .given .0 .0) refl refl refl (sym (c .before .got .given .1) ∙ c .before .before .before .before .before .before .read-formula .ensures .0) in
-    (ap (λ (x : Answer (List ℕ)). replyOf x (c .before .before .before .before .before .before .before .before .before .before .before .before .args .out .now)) (sym e), ap (λ (x : Answer (List ℕ)). bytesOf x (c .before .before .before .before .before .before .before .before .before .before .before .before .args .out .now)) (sym e))
+    let args = c .before .before .before .before .before .before .before .before .before .before .before .before .args in
+    let read-formula = c .before .before .before .before .before .before .read-formula in
+    let e : checkFile (args .file .now) ≡ refused (c .before .got .given .0 .0) = refused-checks (args .file .now) (replicate 64 0) (replicate 64 0)
+    (replicate 64 0) (c .before .got .given .0 .0) refl refl refl (sym (c .before .got .given .1) ∙ read-formula .ensures .0) in
+    (ap (λ (x : Answer (List ℕ)). replyOf x (args .out .now)) (sym e), ap (λ (x : Answer (List ℕ)). bytesOf x (args .out .now)) (sym e))
 
 same-length : tie.Need-same-length
 same-length c = c .before .before .check-reply .kept .1 .1 .1 .1 .1 .1 .1 .1 .0
 
 returns-2 : tie.Need-returns-2
 returns-2 c =
-    let e = read-checks (c .before .before .before .before .before .before .before .before .before .before .before .before .before .before .before .before .before .before .before .args .file .now) (c .before .before .before .before .before .before .before .before .got2 .given .0 .0) (c .before .before .before .before .before .before .before .before .got2 .given .0 .1 .0) (c .before .before .before .before .before .before .before .before .got2 .given .0 .1 .1 .0) (c .before .before .before .before .before .before .before .before .got2 .given .0 .1 .1 .1 .0) (c .before .before .before .before .before .before .before .before .got2 .given .0 .1 .1 .1 .1 .0) (replicate 64 0) (replicate 64 0) (replicate 64 0) (c .before .before .before .before .before .before .before .before .before .before .before .before .before .read-formula .last .1 .0) (c .before .before .before .before .before .before .before .before .before .before .before .before .before .read-formula .last .1 .1 .0) (c .before .before .before .before .before .before .before .before .before .before .before .before .before .read-formula .last .1 .1 .1 .0) refl refl refl (sym (c .before .before .before .before .before .before .before .before .got2 .given .1) ∙ c .before .before .before .before .before .before .before .before .before .before .before .before .before .read-formula .ensures .0) (c .before .before .before .before .before .before .before .before .before .before .before .before .before .read-formula .ensures .1) (c .before .before .before .before .before .before .before .before .before .before .before .before .before .read-formula .ensures .2) (c .before .before .before .before .before .before .before .before .before .before .before .before .before .read-formula .ensures .3) in
-    (c .before .before .check-reply .ensures .0 ∙ ap (λ (x : Answer (List ℕ)). replyOf x (c .before .before .before .before .before .before .before .before .before .before .before .before .before .before .before .before .before .before .before .args .out .now)) (sym e), c .before .before .check-reply .ensures .1 ∙ ap (λ (x : Answer (List ℕ)). bytesOf x (c .before .before .before .before .before .before .before .before .before .before .before .before .before .before .before .before .before .before .before .args .out .now)) (sym e))
+    let far = c .before .before .before .before .before .before .before .before .before .before .before .before in
+    let args = far .before .before .before .before .before .before .before .args in
+    let read-formula = far .before .read-formula in
+    let got2 = c .before .before .before .before .before .before .before .before .got2 in
+    let check-reply = c .before .before .check-reply in
+    let e = read-checks (args .file .now) (got2 .given .0 .0) (got2 .given .0 .1 .0) (got2 .given .0 .1 .1 .0) (got2 .given .0 .1 .1 .1 .0)
+    (got2 .given .0 .1 .1 .1 .1 .0) (replicate 64 0) (replicate 64 0) (replicate 64 0) (read-formula .last .1 .0) (read-formula .last .1 .1 .0)
+    (read-formula .last .1 .1 .1 .0) refl refl refl (sym (got2 .given .1) ∙ read-formula .ensures .0) (read-formula .ensures .1)
+    (read-formula .ensures .2) (read-formula .ensures .3) in (
+      check-reply .ensures .0 ∙ ap (λ (x : Answer (List ℕ)). replyOf x (args .out .now)) (sym e),
+      check-reply .ensures .1 ∙ ap
+          (λ (x : Answer (List ℕ)). bytesOf x (args .out .now)) (sym e),
+    )
 
 pub gijpsando-check-spec : {M : Type 1} → statement M
 gijpsando-check-spec =
     tie.close
     (tie.spec
-    slice-aggregate-read-formula
-    slice-aggregate-read-formula-2
-    slice-aggregate-read-formula-3
+    (λ c. refl)
+    (λ c. refl)
+    (λ c. refl)
     read-formula-requires
     enum-known-got
     enum-known-got-2

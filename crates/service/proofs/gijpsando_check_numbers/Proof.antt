@@ -28,44 +28,71 @@ enum-known-said-2 c = c .match .keys2
 
 returns : tie.Need-returns
 returns c =
-    let e : check (c .before .before .before .before .before .before .before .before .before .args .kind) (c .before .before .before .before .before .before .before .before .before .args .p) (c .before .before .before .before .before .before .before .before .before .args .q) (c .before .before .before .before .before .before .before .before .before .args .r) (c .before .before .before .before .before .before .before .before .before .args .k) (c .before .before .before .before .before .before .before .before .before .args .a .now) (c .before .before .before .before .before .before .before .before .before .args .b .now) (c .before .before .before .before .before .before .before .before .before .args .rows .now) ≡ accepted ((seenVerdict (c .before .before .said2 .given .0 .0)), (c .before .before .said2 .given .0 .1 .0)) = c .before .before .before .before .check .ensures ∙ ap seenReply (c .before .before .said2 .given .1) in
-    let n = numbers-short (seenVerdict (c .before .before .said2 .given .0 .0)) (c .before .before .said2 .given .0 .1 .0) (c .before .before .before .before .before .before .before .before .before .args .reply .now) (omega arith) in
-    (n .0 ∙ ap (λ (x : Answer (Option ℕ × ℕ)). numbersReply x (c .before .before .before .before .before .before .before .before .before .args .reply .now)) (sym e), n .1 ∙ ap (λ (x : Answer (Option ℕ × ℕ)). numbersLent x (c .before .before .before .before .before .before .before .before .before .args .reply .now)) (sym e))
+    let args = c .before .before .before .before .before .before .before .before .before .args in
+    let the-check = c .before .before .before .before .check in
+    let said2 = c .before .before .said2 in
+    let e : check (args .kind) (args .p) (args .q) (args .r) (args .k) (args .a .now) (args .b .now) (args .rows .now) ≡ accepted
+    ((seenVerdict (said2 .given .0 .0)), (said2 .given .0 .1 .0)) = the-check .ensures ∙ ap seenReply (said2 .given .1) in
+    let n = numbers-short (seenVerdict (said2 .given .0 .0)) (said2 .given .0 .1 .0) (args .reply .now) (omega arith) in (
+      n .0 ∙ ap (λ (x : Answer (Option ℕ × ℕ)). numbersReply x (args .reply .now)) (sym e),
+      n .1 ∙ ap
+          (λ (x : Answer (Option ℕ × ℕ)). numbersLent x (args .reply .now)) (sym e),
+    )
 
 enum-told : tie.Need-enum-told
 enum-told c = c .match2 .keys1
 
-put-three-requires : tie.Need-put-three-requires
-put-three-requires c κs = search needs
-
 enum-known-v : tie.Need-enum-known-v
 enum-known-v c = c .match2 .keys2
 
-put-three-requires-2 : tie.Need-put-three-requires-2
-put-three-requires-2 c κs = search needs
-
 returns-2 : tie.Need-returns-2
 returns-2 c =
-    let e : check (c .before .before .before .before .before .before .before .before .args .kind) (c .before .before .before .before .before .before .before .before .args .p) (c .before .before .before .before .before .before .before .before .args .q) (c .before .before .before .before .before .before .before .before .args .r) (c .before .before .before .before .before .before .before .before .args .k) (c .before .before .before .before .before .before .before .before .args .a .now) (c .before .before .before .before .before .before .before .before .args .b .now) (c .before .before .before .before .before .before .before .before .args .rows .now) ≡ refused (c .before .said .given .0 .0) = c .before .before .before .check .ensures ∙ ap seenReply (c .before .said .given .1) in
-    (ap (λ (x : Answer (Option ℕ × ℕ)). numbersReply x (c .before .before .before .before .before .before .before .before .args .reply .now)) (sym e), ap (λ (x : Answer (Option ℕ × ℕ)). numbersLent x (c .before .before .before .before .before .before .before .before .args .reply .now)) (sym e))
+    let args = c .before .before .before .before .before .before .before .before .args in
+    let the-check = c .before .before .before .check in
+    let e : check (args .kind) (args .p) (args .q) (args .r) (args .k) (args .a .now) (args .b .now) (args .rows .now) ≡ refused
+    (c .before .said .given .0 .0) = the-check .ensures ∙ ap seenReply (c .before .said .given .1) in (
+      ap (λ (x : Answer (Option ℕ × ℕ)). numbersReply x (args .reply .now)) (sym e),
+      ap
+          (λ (x : Answer (Option ℕ × ℕ)). numbersLent x (args .reply .now)) (sym e),
+    )
 
 same-length : tie.Need-same-length
 same-length c = c .before .before .put-three .kept .0
 
 returns-3 : tie.Need-returns-3
 returns-3 c =
-    let e : check (c .before .before .before .before .before .before .before .before .before .before .before .before .before .before .before .args .kind) (c .before .before .before .before .before .before .before .before .before .before .before .before .before .before .before .args .p) (c .before .before .before .before .before .before .before .before .before .before .before .before .before .before .before .args .q) (c .before .before .before .before .before .before .before .before .before .before .before .before .before .before .before .args .r) (c .before .before .before .before .before .before .before .before .before .before .before .before .before .before .before .args .k) (c .before .before .before .before .before .before .before .before .before .before .before .before .before .before .before .args .a .now) (c .before .before .before .before .before .before .before .before .before .before .before .before .before .before .before .args .b .now) (c .before .before .before .before .before .before .before .before .before .before .before .before .before .before .before .args .rows .now) ≡ accepted (none, (c .before .before .before .before .before .before .before .before .said2 .given .0 .1 .0)) = c .before .before .before .before .before .before .before .before .before .before .check .ensures ∙ ap seenReply (c .before .before .before .before .before .before .before .before .said2 .given .1) ∙ ap (λ (x : Option ℕ). accepted (x, (c .before .before .before .before .before .before .before .before .said2 .given .0 .1 .0))) (ap seenVerdict (c .before .before .before .before .enum-told .given .1)) in
-    let n = numbers-whole none (c .before .before .before .before .before .before .before .before .said2 .given .0 .1 .0) (c .before .before .before .before .before .before .before .before .before .before .before .before .before .before .before .args .reply .now) (omega arith) in
-    (n .0 ∙ ap (λ (x : Answer (Option ℕ × ℕ)). numbersReply x (c .before .before .before .before .before .before .before .before .before .before .before .before .before .before .before .args .reply .now)) (sym e), c .before .before .put-three .ensures ∙ n .1 ∙ ap (λ (x : Answer (Option ℕ × ℕ)). numbersLent x (c .before .before .before .before .before .before .before .before .before .before .before .before .before .before .before .args .reply .now)) (sym e))
+    let far = c .before .before .before .before .before .before .before .before .before .before .before .before in
+    let args = far .before .before .before .args in
+    let the-check = c .before .before .before .before .before .before .before .before .before .before .check in
+    let said2 = c .before .before .before .before .before .before .before .before .said2 in
+    let the-enum-told = c .before .before .before .before .enum-told in
+    let e : check (args .kind) (args .p) (args .q) (args .r) (args .k) (args .a .now) (args .b .now) (args .rows .now) ≡ accepted
+    (none, (said2 .given .0 .1 .0)) = the-check .ensures ∙ ap seenReply (said2 .given .1) ∙ ap
+    (λ (x : Option ℕ). accepted (x, (said2 .given .0 .1 .0))) (ap seenVerdict (the-enum-told .given .1)) in
+    let n = numbers-whole none (said2 .given .0 .1 .0) (args .reply .now) (omega arith) in (
+      n .0 ∙ ap (λ (x : Answer (Option ℕ × ℕ)). numbersReply x (args .reply .now)) (sym e),
+      c .before .before .put-three .ensures ∙ n .1 ∙ ap
+          (λ (x : Answer (Option ℕ × ℕ)). numbersLent x (args .reply .now)) (sym e),
+    )
 
 same-length-2 : tie.Need-same-length-2
 same-length-2 c = c .before .before .put-three2 .kept .0
 
 returns-4 : tie.Need-returns-4
 returns-4 c =
-    let e : check (c .before .before .before .before .before .before .before .before .before .before .before .before .before .before .before .before .args .kind) (c .before .before .before .before .before .before .before .before .before .before .before .before .before .before .before .before .args .p) (c .before .before .before .before .before .before .before .before .before .before .before .before .before .before .before .before .args .q) (c .before .before .before .before .before .before .before .before .before .before .before .before .before .before .before .before .args .r) (c .before .before .before .before .before .before .before .before .before .before .before .before .before .before .before .before .args .k) (c .before .before .before .before .before .before .before .before .before .before .before .before .before .before .before .before .args .a .now) (c .before .before .before .before .before .before .before .before .before .before .before .before .before .before .before .before .args .b .now) (c .before .before .before .before .before .before .before .before .before .before .before .before .before .before .before .before .args .rows .now) ≡ accepted (some (c .before .before .before .before .before .v .given .0 .0), (c .before .before .before .before .before .before .before .before .before .said2 .given .0 .1 .0)) = c .before .before .before .before .before .before .before .before .before .before .before .check .ensures ∙ ap seenReply (c .before .before .before .before .before .before .before .before .before .said2 .given .1) ∙ ap (λ (x : Option ℕ). accepted (x, (c .before .before .before .before .before .before .before .before .before .said2 .given .0 .1 .0))) (ap seenVerdict (c .before .before .before .before .before .v .given .1)) in
-    let n = numbers-whole (some (c .before .before .before .before .before .v .given .0 .0)) (c .before .before .before .before .before .before .before .before .before .said2 .given .0 .1 .0) (c .before .before .before .before .before .before .before .before .before .before .before .before .before .before .before .before .args .reply .now) (omega arith) in
-    (n .0 ∙ ap (λ (x : Answer (Option ℕ × ℕ)). numbersReply x (c .before .before .before .before .before .before .before .before .before .before .before .before .before .before .before .before .args .reply .now)) (sym e), c .before .before .put-three2 .ensures ∙ n .1 ∙ ap (λ (x : Answer (Option ℕ × ℕ)). numbersLent x (c .before .before .before .before .before .before .before .before .before .before .before .before .before .before .before .before .args .reply .now)) (sym e))
+    let far = c .before .before .before .before .before .before .before .before .before .before .before .before in
+    let args = far .before .before .before .before .args in
+    let the-check = c .before .before .before .before .before .before .before .before .before .before .before .check in
+    let said2 = c .before .before .before .before .before .before .before .before .before .said2 in
+    let v = c .before .before .before .before .before .v in
+    let e : check (args .kind) (args .p) (args .q) (args .r) (args .k) (args .a .now) (args .b .now) (args .rows .now) ≡ accepted
+    (some (v .given .0 .0), (said2 .given .0 .1 .0)) = the-check .ensures ∙ ap seenReply (said2 .given .1) ∙ ap
+    (λ (x : Option ℕ). accepted (x, (said2 .given .0 .1 .0))) (ap seenVerdict (v .given .1)) in
+    let n = numbers-whole (some (v .given .0 .0)) (said2 .given .0 .1 .0) (args .reply .now) (omega arith) in (
+      n .0 ∙ ap (λ (x : Answer (Option ℕ × ℕ)). numbersReply x (args .reply .now)) (sym e),
+      c .before .before .put-three2 .ensures ∙ n .1 ∙ ap
+          (λ (x : Answer (Option ℕ × ℕ)). numbersLent x (args .reply .now)) (sym e),
+    )
 
 pub gijpsando-check-numbers-spec : {M : Type 1} → statement M
 gijpsando-check-numbers-spec =
@@ -76,9 +103,9 @@ gijpsando-check-numbers-spec =
     enum-known-said-2
     returns
     enum-told
-    put-three-requires
+    (λ c κs. search needs)
     enum-known-v
-    put-three-requires-2
+    (λ c κs. search needs)
     returns-2
     same-length
     returns-3

@@ -9,17 +9,8 @@ use Rattle.service.proofs.put_three.Tie as tie
 use Rattle.service.proofs.put_three.Reads as reads
 use Rattle.service.proofs.put_three.Lts as lts
 
-slice-write-words : tie.Need-slice-write-words
-slice-write-words c = search needs
-
 slice-write-words-2 : tie.Need-slice-write-words-2
 slice-write-words-2 c = let l = length-set (c .args .words .now) 0 (c .args .x) in let h = c .pre in omega arith
-
-slice-write-words-3 : tie.Need-slice-write-words-3
-slice-write-words-3 c = search needs
-
-same-length : tie.Need-same-length
-same-length c = search needs
 
 returns : tie.Need-returns
 returns c = three (c .args .words .now) (c .args .x) (c .args .y) (c .args .z) (c .pre)
@@ -27,4 +18,4 @@ returns c = three (c .args .words .now) (c .args .x) (c .args .y) (c .args .z) (
 pub put-three-spec : {M : Type 1} → statement M
 put-three-spec =
     tie.close
-    (tie.spec slice-write-words slice-write-words-2 slice-write-words-3 same-length returns)
+    (tie.spec (λ c. search needs) slice-write-words-2 (λ c. search needs) (λ c. search needs) returns)

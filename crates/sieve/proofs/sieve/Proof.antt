@@ -9,9 +9,6 @@ use Rattle.sieve.specs.laws.Marks.{sieved-of}
 use Rattle.sieve.proofs.sieve.Statement.{statement}
 use Rattle.sieve.proofs.sieve.Tie as tie
 
-slice-aggregate-flag-before : tie.Need-slice-aggregate-flag-before
-slice-aggregate-flag-before c = refl
-
 flag-before-requires : tie.Need-flag-before-requires
 flag-before-requires c κs =
     let S = c .before .before .before .before .before .pre in
@@ -65,7 +62,7 @@ pub sieve-spec : {M : Type 1} → statement M
 sieve-spec =
     tie.close
     (tie.spec
-    slice-aggregate-flag-before
+    (λ c. refl)
     flag-before-requires
     empty-requires
     with-residue-requires

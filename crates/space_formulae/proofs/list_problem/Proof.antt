@@ -11,39 +11,52 @@ use Rattle.bases.proofs.basis_of.Reads as basis-of-reads
 use Rattle.space_formulae.proofs.spaces.is_entry.Reads as is-entry-reads
 use Rattle.space_formulae.proofs.spaces.list_space.Reads as list-space-reads
 
-basis-of-requires : tie.Need-basis-of-requires
-basis-of-requires c κs = search needs
-
-add-if1 : tie.Need-add-if1
-add-if1 c = search needs
-
 returns : tie.Need-returns
-returns c = given-far (c .before .before .before .before .before .before .args .gens .now) (c .before .before .before .before .before .before .args .targets .now) (c .before .before .before .before .before .before .args .rows .now) (c .before .before .before .before .before .before .args .out .now) (let d = based-dim (c .before .before .before .before .before .before .args .targets .now) (c .before .basis-of .result) (c .before .basis-of .ensures) in let h = c .if1 .taken in omega arith)
-
-is-entry-requires : tie.Need-is-entry-requires
-is-entry-requires c κs = search needs
+returns c =
+    let args = c .before .before .before .before .before .before .args in
+    given-far (args .gens .now) (args .targets .now) (args .rows .now) (args .out .now)
+    (let d = based-dim (args .targets .now) (c .before .basis-of .result) (c .before .basis-of .ensures) in let h = c .if1 .taken in omega arith)
 
 returns-2 : tie.Need-returns-2
-returns-2 c = given-no (c .before .before .before .before .before .before .before .before .args .gens .now) (c .before .before .before .before .before .before .before .before .args .targets .now) (c .before .before .before .before .before .before .before .before .args .rows .now) (c .before .before .before .before .before .before .before .before .args .out .now) (let d = based-dim (c .before .before .before .before .before .before .before .before .args .targets .now) (c .before .before .before .basis-of .result) (c .before .before .before .basis-of .ensures) in let h = c .before .before .if1 .left in omega arith) (c .before .is-entry .result) (c .before .is-entry .ensures) (c .if2 .taken)
+returns-2 c =
+    let args = c .before .before .before .before .before .before .before .before .args in
+    let basis-of = c .before .before .before .basis-of in
+    given-no (args .gens .now) (args .targets .now) (args .rows .now) (args .out .now)
+    (let d = based-dim (args .targets .now) (basis-of .result) (basis-of .ensures) in let h = c .before .before .if1 .left in omega arith)
+    (c .before .is-entry .result) (c .before .is-entry .ensures) (c .if2 .taken)
 
 list-space-requires : tie.Need-list-space-requires
-list-space-requires c κs = is-accepted (c .before .before .before .before .before .before .before .before .before .args .gens .now) (c .before .before .before .before .before .before .before .before .before .args .targets .now) (c .before .before .before .before .before .before .before .before .before .args .rows .now) (c .before .before .before .before .before .before .before .before .before .args .out .now) (let d = based-dim (c .before .before .before .before .before .before .before .before .before .args .targets .now) (c .before .before .before .before .basis-of .result) (c .before .before .before .before .basis-of .ensures) in let h = c .before .before .before .if1 .left in omega arith) (c .before .before .is-entry .result) (c .before .before .is-entry .ensures) (c .before .if2 .left) (c .before .before .before .before .before .before .before .before .before .pre)
-
-same-length : tie.Need-same-length
-same-length c = search needs
+list-space-requires c κs =
+    let args = c .before .before .before .before .before .before .before .before .before .args in
+    let pre = c .before .before .before .before .before .before .before .before .before .pre in
+    let basis-of = c .before .before .before .before .basis-of in
+    let if1 = c .before .before .before .if1 in
+    let is-entry = c .before .before .is-entry in
+    is-accepted (args .gens .now) (args .targets .now) (args .rows .now) (args .out .now)
+    (let d = based-dim (args .targets .now) (basis-of .result) (basis-of .ensures) in let h = if1 .left in omega arith) (is-entry .result)
+    (is-entry .ensures) (c .before .if2 .left) pre
 
 returns-3 : tie.Need-returns-3
-returns-3 c = given-yes (c .before .before .before .before .before .before .before .before .before .before .before .before .args .gens .now) (c .before .before .before .before .before .before .before .before .before .before .before .before .args .targets .now) (c .before .before .before .before .before .before .before .before .before .before .before .before .args .rows .now) (c .before .before .before .before .before .before .before .before .before .before .before .before .args .out .now) (let d = based-dim (c .before .before .before .before .before .before .before .before .before .before .before .before .args .targets .now) (c .before .before .before .before .before .before .before .basis-of .result) (c .before .before .before .before .before .before .before .basis-of .ensures) in let h = c .before .before .before .before .before .before .if1 .left in omega arith) (c .before .before .before .before .before .is-entry .result) (c .before .before .before .before .before .is-entry .ensures) (c .before .before .before .before .if2 .left) (c .before .before .list-space .result) _ (c .before .before .list-space .ensures)
+returns-3 c =
+    let args = c .before .before .before .before .before .before .before .before .before .before .before .before .args in
+    let basis-of = c .before .before .before .before .before .before .before .basis-of in
+    let if1 = c .before .before .before .before .before .before .if1 in
+    let is-entry = c .before .before .before .before .before .is-entry in
+    let if2 = c .before .before .before .before .if2 in
+    let list-space = c .before .before .list-space in
+    given-yes (args .gens .now) (args .targets .now) (args .rows .now) (args .out .now)
+    (let d = based-dim (args .targets .now) (basis-of .result) (basis-of .ensures) in let h = if1 .left in omega arith) (is-entry .result)
+    (is-entry .ensures) (if2 .left) (list-space .result) _ (list-space .ensures)
 
 pub list-problem-spec : {M : Type 1} → statement M
 list-problem-spec =
     tie.close
     (tie.spec
-    basis-of-requires
-    add-if1
+    (λ c κs. search needs)
+    (λ c. search needs)
     returns
-    is-entry-requires
+    (λ c κs. search needs)
     returns-2
     list-space-requires
-    same-length
+    (λ c. search needs)
     returns-3)

@@ -14,24 +14,6 @@ Inv-loop words at₀ at = at ≤ length words
 abbrev μ-loop : tie.MeasureT-loop
 μ-loop words at₀ at = length words - at
 
-loop-holds : tie.Need-loop-holds Inv-loop μ-loop
-loop-holds c = omega arith
-
-mul-call-at : tie.Need-mul-call-at Inv-loop μ-loop
-mul-call-at c = omega arith
-
-sub-call-at : tie.Need-sub-call-at Inv-loop μ-loop
-sub-call-at c = omega arith
-
-part-call-at-start : tie.Need-part-call-at-start Inv-loop μ-loop
-part-call-at-start c = search needs
-
-part-call-at-end : tie.Need-part-call-at-end Inv-loop μ-loop
-part-call-at-end c = search needs
-
-call-at-requires : tie.Need-call-at-requires Inv-loop μ-loop
-call-at-requires c κs = search needs
-
 add-at : tie.Need-add-at Inv-loop μ-loop
 add-at c =
     let w = c .before .before .before .before .before .args .words .now in
@@ -57,22 +39,19 @@ loop-again c =
     let f = c .call-at .ensures .1 in
     omega arith
 
-returns : tie.Need-returns Inv-loop μ-loop
-returns c = search needs
-
 pub call-all-spec : {M : Type 1} → statement M
 call-all-spec =
     tie.close
     (tie.spec
     Inv-loop
     μ-loop
-    loop-holds
-    mul-call-at
-    sub-call-at
-    part-call-at-start
-    part-call-at-end
-    call-at-requires
+    (λ c. omega arith)
+    (λ c. omega arith)
+    (λ c. omega arith)
+    (λ c. search needs)
+    (λ c. search needs)
+    (λ c κs. search needs)
     add-at
     loop-less
     loop-again
-    returns)
+    (λ c. search needs))

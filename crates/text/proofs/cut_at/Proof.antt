@@ -9,9 +9,6 @@ use Rattle.text.specs.laws.Line.{cut-some, cut-none, till-le}
 use Rattle.text.proofs.cut_at.Statement.{statement}
 use Rattle.text.proofs.cut_at.Tie as tie
 
-find-requires : tie.Need-find-requires
-find-requires c κs = search needs
-
 returns : tie.Need-returns
 returns c =
     let f = c .before .find in
@@ -27,4 +24,4 @@ returns-2 c =
     (cut-none (z .args .c) (z .args .s .now) h, omega arith)
 
 pub cut-at-spec : {M : Type 1} → statement M
-cut-at-spec = tie.close (tie.spec find-requires returns returns-2)
+cut-at-spec = tie.close (tie.spec (λ c κs. search needs) returns returns-2)

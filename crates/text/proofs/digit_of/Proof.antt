@@ -8,28 +8,25 @@ use Rattle.text.proofs.digit_of.Tie as tie
 returns : tie.Need-returns
 returns c = simp (lt-leb 48 (c .before .args .b) (omega arith), lt-leb 97 (c .before .args .b) (omega arith))
 
-cast-result : tie.Need-cast-result
-cast-result c = search needs
-
 returns-2 : tie.Need-returns-2
 returns-2 c = simp (le-leb 48 (c .before .before .args .b) (omega arith), le-leb (c .before .before .args .b) 57 (omega arith))
 
 returns-3 : tie.Need-returns-3
-returns-3 c = simp (le-leb 48 (c .before .before .before .args .b) (omega arith), lt-leb (c .before .before .before .args .b) 57 (omega arith), lt-leb 97 (c .before .before .before .args .b) (omega arith))
-
-sub-result : tie.Need-sub-result
-sub-result c = search needs
-
-cast-result-2 : tie.Need-cast-result-2
-cast-result-2 c = search needs
+returns-3 c =
+    let args = c .before .before .before .args in
+    simp (le-leb 48 (args .b) (omega arith), lt-leb (args .b) 57 (omega arith), lt-leb 97 (args .b) (omega arith))
 
 returns-4 : tie.Need-returns-4
-returns-4 c = simp (le-leb 48 (c .before .before .before .before .args .b) (omega arith), lt-leb (c .before .before .before .before .args .b) 57 (omega arith), le-leb 97 (c .before .before .before .before .args .b) (omega arith), le-leb (c .before .before .before .before .args .b) 102 (omega arith))
+returns-4 c =
+    let args = c .before .before .before .before .args in
+    simp (le-leb 48 (args .b) (omega arith), lt-leb (args .b) 57 (omega arith), le-leb 97 (args .b) (omega arith), le-leb (args .b) 102 (omega arith))
 
 returns-5 : tie.Need-returns-5
-returns-5 c = simp (le-leb 48 (c .before .before .before .before .args .b) (omega arith), lt-leb (c .before .before .before .before .args .b) 57 (omega arith), le-leb 97 (c .before .before .before .before .args .b) (omega arith), lt-leb (c .before .before .before .before .args .b) 102 (omega arith))
+returns-5 c =
+    let args = c .before .before .before .before .args in
+    simp (le-leb 48 (args .b) (omega arith), lt-leb (args .b) 57 (omega arith), le-leb 97 (args .b) (omega arith), lt-leb (args .b) 102 (omega arith))
 
 pub digit-of-spec : {M : Type 1} → statement M
 digit-of-spec =
     tie.close
-    (tie.spec returns cast-result returns-2 returns-3 sub-result cast-result-2 returns-4 returns-5)
+    (tie.spec returns (λ c. search needs) returns-2 returns-3 (λ c. search needs) (λ c. search needs) returns-4 returns-5)

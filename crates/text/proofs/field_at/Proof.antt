@@ -8,12 +8,6 @@ use Rattle.text.specs.laws.Line.{cut-told, cut-fits, field-cut, field-no
 use Rattle.text.proofs.field_at.Statement.{statement}
 use Rattle.text.proofs.field_at.Tie as tie
 
-cut-at-requires : tie.Need-cut-at-requires
-cut-at-requires c κs = search needs
-
-enum-known-e : tie.Need-enum-known-e
-enum-known-e c = search needs
-
 enum-told : tie.Need-enum-told
 enum-told c = search needs
 
@@ -28,15 +22,6 @@ slice-aggregate-numeral-of c =
     let e = c .before .before .e in
     let h = cut-fits _ _ _ (cut-at .ensures .1) (e .given .1) in
     sym (length-take-le _ _ (omega arith))
-
-numeral-of-requires : tie.Need-numeral-of-requires
-numeral-of-requires c κs = search needs
-
-enum-known-v : tie.Need-enum-known-v
-enum-known-v c = search needs
-
-enum-told-2 : tie.Need-enum-told-2
-enum-told-2 c = search needs
 
 returns-2 : tie.Need-returns-2
 returns-2 c =
@@ -63,14 +48,14 @@ pub field-at-spec : {M : Type 1} → statement M
 field-at-spec =
     tie.close
     (tie.spec
-    cut-at-requires
-    enum-known-e
+    (λ c κs. search needs)
+    (λ c. search needs)
     enum-told
     returns
     slice-aggregate-numeral-of
-    numeral-of-requires
-    enum-known-v
-    enum-told-2
+    (λ c κs. search needs)
+    (λ c. search needs)
+    (λ c. search needs)
     returns-2
     add-t11
     returns-3)

@@ -18,21 +18,17 @@ abbrev μ-loop : tie.MeasureT-loop
 loop-holds : tie.Need-loop-holds Inv-loop μ-loop
 loop-holds c = (omega arith, omega arith)
 
-shared-slice-read-if1 : tie.Need-shared-slice-read-if1 Inv-loop μ-loop
-shared-slice-read-if1 c = search needs
-
 returns : tie.Need-returns Inv-loop μ-loop
-returns c = omega (arith, till-here (c .before .before .before .before .args .c) (c .before .before .before .loop .i) (c .before .before .before .before .args .s .now) (c .before .before .loop-test .taken) (c .if1 .taken))
-
-add-i : tie.Need-add-i Inv-loop μ-loop
-add-i c = search needs
-
-loop-less : tie.Need-loop-less Inv-loop μ-loop
-loop-less c = search needs
+returns c =
+    let args = c .before .before .before .before .args in
+    let loop = c .before .before .before .loop in
+    omega (arith, till-here (args .c) (loop .i) (args .s .now) (c .before .before .loop-test .taken) (c .if1 .taken))
 
 loop-again : tie.Need-loop-again Inv-loop μ-loop
 loop-again c =
-    let e = till-later (c .before .before .before .before .args .c) (c .before .before .before .loop .i) (c .before .before .before .before .args .s .now) (c .before .before .loop-test .taken) (c .if1 .left) in
+    let args = c .before .before .before .before .args in
+    let loop = c .before .before .before .loop in
+    let e = till-later (args .c) (loop .i) (args .s .now) (c .before .before .loop-test .taken) (c .if1 .left) in
     (omega arith, omega (arith, e))
 
 returns-2 : tie.Need-returns-2 Inv-loop μ-loop
@@ -47,9 +43,9 @@ find-spec =
     Inv-loop
     μ-loop
     loop-holds
-    shared-slice-read-if1
+    (λ c. search needs)
     returns
-    add-i
-    loop-less
+    (λ c. search needs)
+    (λ c. search needs)
     loop-again
     returns-2)

@@ -7,12 +7,6 @@ use Rattle.text.specs.laws.Line.{cut-told, cut-fits, name-cut, name-othe
 use Rattle.text.proofs.name_line.Statement.{statement}
 use Rattle.text.proofs.name_line.Tie as tie
 
-cut-at-requires : tie.Need-cut-at-requires
-cut-at-requires c κs = search needs
-
-enum-known-e : tie.Need-enum-known-e
-enum-known-e c = search needs
-
 enum-told : tie.Need-enum-told
 enum-told c = search needs
 
@@ -27,9 +21,6 @@ slice-aggregate-equal c =
     let e = c .before .before .e in
     let h = cut-fits _ _ _ (cut-at .ensures .1) (e .given .1) in
     sym (length-take-le _ _ (omega arith))
-
-equal-requires : tie.Need-equal-requires
-equal-requires c κs = search needs
 
 add-t9 : tie.Need-add-t9
 add-t9 c =
@@ -54,12 +45,12 @@ pub name-line-spec : {M : Type 1} → statement M
 name-line-spec =
     tie.close
     (tie.spec
-    cut-at-requires
-    enum-known-e
+    (λ c κs. search needs)
+    (λ c. search needs)
     enum-told
     returns
     slice-aggregate-equal
-    equal-requires
+    (λ c κs. search needs)
     add-t9
     returns-2
     returns-3)

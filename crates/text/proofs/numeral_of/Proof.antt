@@ -24,9 +24,6 @@ returns c = numeral-empty _ _ _ (c .if1 .taken)
 returns-2 : tie.Need-returns-2 Inv-loop μ-loop
 returns-2 c = numeral-long _ _ _ (c .if2 .taken)
 
-shared-slice-read-if4 : tie.Need-shared-slice-read-if4 Inv-loop μ-loop
-shared-slice-read-if4 c = search needs
-
 returns-3 : tie.Need-returns-3 Inv-loop μ-loop
 returns-3 c = numeral-zero _ _ _ (c .before .before .if3 .taken) (c .before .before .before .if2 .left) (c .if4 .taken)
 
@@ -42,12 +39,6 @@ loop-holds c = (
       (c .if3 .came),
 )
 
-shared-slice-read-digit-of : tie.Need-shared-slice-read-digit-of Inv-loop μ-loop
-shared-slice-read-digit-of c = search needs
-
-digit-of-requires : tie.Need-digit-of-requires Inv-loop μ-loop
-digit-of-requires c κs = search needs
-
 returns-4 : tie.Need-returns-4 Inv-loop μ-loop
 returns-4 c = c .before .before .before .before .loop .inv .4 ∙ digits-stop _ _ _ _ (c .before .before .before .loop-test .taken) (rw (← c .before .digit-of .ensures) (c .if5 .taken))
 
@@ -60,20 +51,16 @@ add-v : tie.Need-add-v Inv-loop μ-loop
 add-v c =
     record { fits = fits _ _ _ _ _ (c .before .before .before .before .loop .inv .3) (c .if5 .left) (omega arith) (c .before .before .before .before .before .before .before .before .before .pre .1) }
 
-add-i : tie.Need-add-i Inv-loop μ-loop
-add-i c = search needs
-
-loop-less : tie.Need-loop-less Inv-loop μ-loop
-loop-less c = search needs
-
 loop-again : tie.Need-loop-again Inv-loop μ-loop
-loop-again c = (
-  refl,
-  omega arith,
-  omega arith,
-  bound _ _ _ _ (c .before .before .before .before .loop .inv .3) (c .if5 .left),
-  c .before .before .before .before .loop .inv .4 ∙ rw (c .before .digit-of .ensures) (digits-step _ _ _ _ (c .before .before .before .loop-test .taken) (rw (← c .before .digit-of .ensures) (c .if5 .left))),
-)
+loop-again c =
+    let loop = c .before .before .before .before .loop in
+    let loop-test = c .before .before .before .loop-test in (
+      refl,
+      omega arith,
+      omega arith,
+      bound _ _ _ _ (loop .inv .3) (c .if5 .left),
+      loop .inv .4 ∙ rw (c .before .digit-of .ensures) (digits-step _ _ _ _ (loop-test .taken) (rw (← c .before .digit-of .ensures) (c .if5 .left))),
+    )
 
 returns-5 : tie.Need-returns-5 Inv-loop μ-loop
 returns-5 c =
@@ -88,15 +75,15 @@ numeral-of-spec =
     μ-loop
     returns
     returns-2
-    shared-slice-read-if4
+    (λ c. search needs)
     returns-3
     loop-holds
-    shared-slice-read-digit-of
-    digit-of-requires
+    (λ c. search needs)
+    (λ c κs. search needs)
     returns-4
     mul-v
     add-v
-    add-i
-    loop-less
+    (λ c. search needs)
+    (λ c. search needs)
     loop-again
     returns-5)

@@ -16,23 +16,8 @@ abbrev μ-loop : tie.MeasureT-loop
 loop-holds : tie.Need-loop-holds Inv-loop μ-loop
 loop-holds c = (refl, omega arith)
 
-shared-slice-read-b : tie.Need-shared-slice-read-b Inv-loop μ-loop
-shared-slice-read-b c = omega arith
-
-put-word-requires : tie.Need-put-word-requires Inv-loop μ-loop
-put-word-requires c κs = search needs
-
 next-place-requires : tie.Need-next-place-requires Inv-loop μ-loop
 next-place-requires c κs = let k = c .before .before .put-word .kept .0 in omega arith
-
-next-value-requires : tie.Need-next-value-requires Inv-loop μ-loop
-next-value-requires c κs = search needs
-
-add-i : tie.Need-add-i Inv-loop μ-loop
-add-i c = omega arith
-
-loop-less : tie.Need-loop-less Inv-loop μ-loop
-loop-less c = omega arith
 
 loop-again : tie.Need-loop-again Inv-loop μ-loop
 loop-again c = let k = c .before .before .before .before .put-word .kept .0 in let e = c .before .next-place .ensures in (omega arith, omega arith)
@@ -50,12 +35,12 @@ numbers-spec =
     Inv-loop
     μ-loop
     loop-holds
-    shared-slice-read-b
-    put-word-requires
+    (λ c. omega arith)
+    (λ c κs. search needs)
     next-place-requires
-    next-value-requires
-    add-i
-    loop-less
+    (λ c κs. search needs)
+    (λ c. omega arith)
+    (λ c. omega arith)
     loop-again
     same-length
     returns)

@@ -12,35 +12,11 @@ Inv-loop xs i₀ i = Unit {0}
 abbrev μ-loop : tie.MeasureT-loop
 μ-loop xs i₀ i = length xs - i
 
-slice-aggregate-write-all : tie.Need-slice-aggregate-write-all Inv-loop μ-loop
-slice-aggregate-write-all c = search needs
-
-write-all-requires : tie.Need-write-all-requires Inv-loop μ-loop
-write-all-requires c κs = search needs
-
 loop-holds : tie.Need-loop-holds Inv-loop μ-loop
 loop-holds c = tt
 
-mul-print-next : tie.Need-mul-print-next Inv-loop μ-loop
-mul-print-next c = omega arith
-
-shared-slice-read-print-next : tie.Need-shared-slice-read-print-next Inv-loop μ-loop
-shared-slice-read-print-next c = omega arith
-
-print-next-requires : tie.Need-print-next-requires Inv-loop μ-loop
-print-next-requires c κs = search needs
-
-add-i : tie.Need-add-i Inv-loop μ-loop
-add-i c = omega arith
-
-loop-less : tie.Need-loop-less Inv-loop μ-loop
-loop-less c = omega arith
-
 loop-again : tie.Need-loop-again Inv-loop μ-loop
 loop-again c = tt
-
-returns : tie.Need-returns Inv-loop μ-loop
-returns c = search needs
 
 pub print-words-spec : {M : Type 1} → statement M
 print-words-spec =
@@ -48,13 +24,13 @@ print-words-spec =
     (tie.spec
     Inv-loop
     μ-loop
-    slice-aggregate-write-all
-    write-all-requires
+    (λ c. search needs)
+    (λ c κs. search needs)
     loop-holds
-    mul-print-next
-    shared-slice-read-print-next
-    print-next-requires
-    add-i
-    loop-less
+    (λ c. omega arith)
+    (λ c. omega arith)
+    (λ c κs. search needs)
+    (λ c. omega arith)
+    (λ c. omega arith)
     loop-again
-    returns)
+    (λ c. search needs))

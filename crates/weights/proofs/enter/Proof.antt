@@ -9,26 +9,11 @@ use borrow.Author.Needs.{needs}
 use Rattle.weights.proofs.enter.Statement.{statement}
 use Rattle.weights.proofs.enter.Tie as tie
 
-mul-x : tie.Need-mul-x
-mul-x c = search needs
-
-shared-slice-read-x : tie.Need-shared-slice-read-x
-shared-slice-read-x c = search needs
-
 seek-requires : tie.Need-seek-requires
 seek-requires c κs =
     let a = c .before .before .before .before .before .before .before .before .args in
     let p = c .before .before .before .before .before .before .before .before .pre in
     enter-slots (a .gens .now) (a .d .now) (a .s .now) (a .i) (a .slots .now) (a .rows .now) (a .w .now) p
-
-slice-write-w : tie.Need-slice-write-w
-slice-write-w c = search needs
-
-same-length : tie.Need-same-length
-same-length c = search needs
-
-same-length-2 : tie.Need-same-length-2
-same-length-2 c = search needs
 
 returns : tie.Need-returns
 returns c =
@@ -37,35 +22,8 @@ returns c =
     entered-none (a .gens .now) (a .d .now) (a .s .now) (a .i) (a .slots .now) (a .rows .now) (a .w .now) p
     (sym (c .before .seek .ensures .0) ∙ c .if1 .taken)
 
-mul-f : tie.Need-mul-f
-mul-f c = search needs
-
-slice-read-f : tie.Need-slice-read-f
-slice-read-f c = search needs
-
 cast-f : tie.Need-cast-f
 cast-f c = omega (arith, c .slice-known4 .given (c .before .before .seek .result))
-
-add-slots : tie.Need-add-slots
-add-slots c = search needs
-
-cast-slots : tie.Need-cast-slots
-cast-slots c = search needs
-
-mul-slots : tie.Need-mul-slots
-mul-slots c = search needs
-
-slice-write-slots : tie.Need-slice-write-slots
-slice-write-slots c = search needs
-
-slice-write-w-2 : tie.Need-slice-write-w-2
-slice-write-w-2 c = search needs
-
-same-length-3 : tie.Need-same-length-3
-same-length-3 c = search needs
-
-same-length-4 : tie.Need-same-length-4
-same-length-4 c = search needs
 
 returns-2 : tie.Need-returns-2
 returns-2 c =
@@ -74,15 +32,6 @@ returns-2 c =
     let p = c .before .before .before .before .before .before .before .before .before .before .before .before .pre in
     entered-first (a .gens .now) (a .d .now) (a .s .now) (a .i) (a .slots .now) (a .rows .now) (a .w .now) p (q .result) (q .ensures .0)
     (q .ensures .1) (c .before .before .if1 .left) (c .if2 .taken)
-
-sub-g : tie.Need-sub-g
-sub-g c = search needs
-
-mul-grow : tie.Need-mul-grow
-mul-grow c = search needs
-
-shared-slice-read-grow : tie.Need-shared-slice-read-grow
-shared-slice-read-grow c = search needs
 
 mul-grow-2 : tie.Need-mul-grow-2
 mul-grow-2 c =
@@ -147,12 +96,6 @@ grow-requires c κs =
     enter-grow (a .gens .now) (a .d .now) (a .s .now) (a .i) (a .slots .now) (a .rows .now) (a .w .now) p
     (c .before .before .before .before .before .before .before .seek .result) (c .before .before .before .before .if2 .left)
 
-add-r : tie.Need-add-r
-add-r c = search needs
-
-cast-w : tie.Need-cast-w
-cast-w c = search needs
-
 slice-write-w-3 : tie.Need-slice-write-w-3
 slice-write-w-3 c =
     let b = c .before .before .before .before .before .before .before .before .before .before .before .before in
@@ -166,15 +109,6 @@ slice-write-w-3 c =
       p .inside,
       p .sizes,
     )
-
-same-length-5 : tie.Need-same-length-5
-same-length-5 c = search needs
-
-same-length-6 : tie.Need-same-length-6
-same-length-6 c = search needs
-
-same-length-7 : tie.Need-same-length-7
-same-length-7 c = search needs
 
 returns-3 : tie.Need-returns-3
 returns-3 c =
@@ -195,37 +129,37 @@ pub enter-spec : {M : Type 1} → statement M
 enter-spec =
     tie.close
     (tie.spec
-    mul-x
-    shared-slice-read-x
+    (λ c. search needs)
+    (λ c. search needs)
     seek-requires
-    slice-write-w
-    same-length
-    same-length-2
+    (λ c. search needs)
+    (λ c. search needs)
+    (λ c. search needs)
     returns
-    mul-f
-    slice-read-f
+    (λ c. search needs)
+    (λ c. search needs)
     cast-f
-    add-slots
-    cast-slots
-    mul-slots
-    slice-write-slots
-    slice-write-w-2
-    same-length-3
-    same-length-4
+    (λ c. search needs)
+    (λ c. search needs)
+    (λ c. search needs)
+    (λ c. search needs)
+    (λ c. search needs)
+    (λ c. search needs)
+    (λ c. search needs)
     returns-2
-    sub-g
-    mul-grow
-    shared-slice-read-grow
+    (λ c. search needs)
+    (λ c. search needs)
+    (λ c. search needs)
     mul-grow-2
     shared-slice-read-grow-2
     slice-read-grow
     cast-grow
     sub-grow
     grow-requires
-    add-r
-    cast-w
+    (λ c. search needs)
+    (λ c. search needs)
     slice-write-w-3
-    same-length-5
-    same-length-6
-    same-length-7
+    (λ c. search needs)
+    (λ c. search needs)
+    (λ c. search needs)
     returns-3)

@@ -25,30 +25,12 @@ shared-slice-read-if1 c =
     let p = c .before .before .before .before .before .before .before .before .before .before .pre in
     omega (arith, p .dead-all, p .few)
 
-add-i : tie.Need-add-i Inv-loop μ-loop
-add-i c = omega arith
-
-loop-less : tie.Need-loop-less Inv-loop μ-loop
-loop-less c = omega arith
-
 loop-again : tie.Need-loop-again Inv-loop μ-loop
 loop-again c =
     let l = c .before .before .before .loop in
     let a = c .before .before .before .before .before .before .before .before .before .before .before .args in
     filling-skip (a .gens .now) (a .d .now) (a .start) (a .dead .now) (a .s .now) (l .i) (l .slots) (l .rows) (l .w) (l .top) (l .inv)
     (c .before .before .loop-test .taken) (inl (c .if1 .taken))
-
-mul-if2 : tie.Need-mul-if2 Inv-loop μ-loop
-mul-if2 c = omega arith
-
-shared-slice-read-if2 : tie.Need-shared-slice-read-if2 Inv-loop μ-loop
-shared-slice-read-if2 c = omega arith
-
-add-i-2 : tie.Need-add-i-2 Inv-loop μ-loop
-add-i-2 c = omega arith
-
-loop-less-2 : tie.Need-loop-less-2 Inv-loop μ-loop
-loop-less-2 c = omega arith
 
 loop-again-2 : tie.Need-loop-again-2 Inv-loop μ-loop
 loop-again-2 c =
@@ -65,24 +47,22 @@ enter-requires c κs =
     filling-entering (a .gens .now) (a .d .now) (a .start) (a .dead .now) (a .s .now) (l .i) (l .slots) (l .rows) (l .w) (l .top) (l .inv)
     (c .before .before .before .before .before .before .before .loop-test .taken)
 
-add-i-3 : tie.Need-add-i-3 Inv-loop μ-loop
-add-i-3 c = omega arith
-
-loop-less-3 : tie.Need-loop-less-3 Inv-loop μ-loop
-loop-less-3 c = omega arith
-
 loop-again-3 : tie.Need-loop-again-3 Inv-loop μ-loop
 loop-again-3 c =
-    let b = c .before .before .before .before .before .before .before .before .before .before .before .before in
+    let before = c .before .before .before .before .before .before .before .before .before .before .before .before in
+    let if2 = c .before .before .before .before .before .before .before .before .before .before .before .if2 in
+    let enter = c .before .before .before .before .before .before .before .enter in
+    let b = before in
     let a = b .before .before .before .before .before .before .before .before .before .before .before .before .args in
     let l = b .before .before .before .before .loop in
-    let E = c .before .before .before .before .before .before .before .enter in
+    let E = enter in
     let t = c .if3 in
     let u : (l .top ≤ t .top) × (E .result ≤ t .top) × ((t .top ≡ l .top) ⊎ (t .top ≡ E .result)) = ⊎-elim (λ w. let e : t .top ≡ E .result = w .1 in
     let k : l .top < E .result = w .0 .taken in (omega arith, omega arith, inr e)) (λ w. let e : t .top ≡ l .top = w .1 in
     let k : E .result ≤ l .top = w .0 .left in
     (omega arith, omega arith, inl e)) (t .came) in filling-next (a .gens .now) (a .d .now) (a .start) (a .dead .now) (a .s .now) (l .i) (l .slots) (l
-    .rows) (l .w) (l .top) (l .inv) (b .before .before .before .loop-test .taken) (c .before .before .before .before .before .before .before .before .before .before .before .if2 .left) (E .last .1 .1 .1 .1 .0) (E .last .1 .1 .1 .1 .1 .0) (E .last .1 .1
+    .rows) (l .w) (l .top) (l .inv) (b .before .before .before .loop-test .taken) (if2 .left) (E .last .1 .1 .1 .1 .0) (E .last .1 .1 .1 .1 .1
+    .0) (E .last .1 .1
     .1 .1 .1 .1 .0) (E .result) (t .top) (E .ensures) (E .kept .1 .1 .1 .1 .0) (E .kept .1 .1 .1 .1 .1 .0) (E .kept .1 .1 .1 .1 .1 .1 .0) (u .0) (u
     .1) (u .2)
 
@@ -119,17 +99,17 @@ fill-spec =
     μ-loop
     loop-holds
     shared-slice-read-if1
-    add-i
-    loop-less
+    (λ c. omega arith)
+    (λ c. omega arith)
     loop-again
-    mul-if2
-    shared-slice-read-if2
-    add-i-2
-    loop-less-2
+    (λ c. omega arith)
+    (λ c. omega arith)
+    (λ c. omega arith)
+    (λ c. omega arith)
     loop-again-2
     enter-requires
-    add-i-3
-    loop-less-3
+    (λ c. omega arith)
+    (λ c. omega arith)
     loop-again-3
     same-length
     same-length-2

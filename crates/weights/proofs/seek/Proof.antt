@@ -11,20 +11,11 @@ Inv-loop slots d x q₀ t₀ q t = Seeking slots d x q t
 abbrev μ-loop : tie.MeasureT-loop
 μ-loop slots d x q₀ t₀ q t = t
 
-bucket-requires : tie.Need-bucket-requires Inv-loop μ-loop
-bucket-requires c κs = search needs
-
 loop-holds : tie.Need-loop-holds Inv-loop μ-loop
 loop-holds c =
     let q = c .bucket in
     let a = c .before .before .before .args in
     seek-start (a .slots .now) (a .d .now) (a .x) (q .result) (q .ensures .0) (q .ensures .1)
-
-mul-f : tie.Need-mul-f Inv-loop μ-loop
-mul-f c = omega arith
-
-shared-slice-read-f : tie.Need-shared-slice-read-f Inv-loop μ-loop
-shared-slice-read-f c = omega arith
 
 cast-f : tie.Need-cast-f Inv-loop μ-loop
 cast-f c = omega (arith, c .shared-slice-known3 .given (c .before .before .loop .q))
@@ -34,9 +25,6 @@ returns c =
     let l = c .before .before .before .loop in
     let a = c .before .before .before .before .before .before .before .args in
     seek-free (a .slots .now) (a .d .now) (a .x) (l .q) (l .t) (l .inv) (c .before .before .loop-test .taken) (c .if1 .taken)
-
-sub-if2 : tie.Need-sub-if2 Inv-loop μ-loop
-sub-if2 c = omega arith
 
 mul-if2 : tie.Need-mul-if2 Inv-loop μ-loop
 mul-if2 c = omega (arith, c .before .before .before .before .before .before .before .pre .number (c .before .before .before .loop .q))
@@ -51,15 +39,6 @@ returns-2 c =
     let l = c .before .before .before .before .before .loop in
     let a = c .before .before .before .before .before .before .before .before .before .args in
     seek-found (a .slots .now) (a .d .now) (a .x) (l .q) (l .t) (l .inv) (c .before .before .before .before .loop-test .taken) (c .if2 .taken)
-
-add-q : tie.Need-add-q Inv-loop μ-loop
-add-q c = omega arith
-
-sub-t : tie.Need-sub-t Inv-loop μ-loop
-sub-t c = omega arith
-
-loop-less : tie.Need-loop-less Inv-loop μ-loop
-loop-less c = omega arith
 
 loop-again : tie.Need-loop-again Inv-loop μ-loop
 loop-again c =
@@ -80,18 +59,18 @@ seek-spec =
     (tie.spec
     Inv-loop
     μ-loop
-    bucket-requires
+    (λ c κs. search needs)
     loop-holds
-    mul-f
-    shared-slice-read-f
+    (λ c. omega arith)
+    (λ c. omega arith)
     cast-f
     returns
-    sub-if2
+    (λ c. omega arith)
     mul-if2
     shared-slice-read-if2
     returns-2
-    add-q
-    sub-t
-    loop-less
+    (λ c. omega arith)
+    (λ c. omega arith)
+    (λ c. omega arith)
     loop-again
     returns-3)

@@ -7,21 +7,12 @@ use borrow.Author.Needs.{needs}
 use Rattle.weights.proofs.weight_of.Statement.{statement}
 use Rattle.weights.proofs.weight_of.Tie as tie
 
-seek-requires : tie.Need-seek-requires
-seek-requires c κs = search needs
-
 returns : tie.Need-returns
 returns c =
     let q = c .before .seek in
     let a = c .before .before .before .before .before .args in
     read-none (a .slots .now) (a .d .now) (a .w .now) (a .x) (q .result) (q .ensures .0)
     (λ n. omega (arith, c .before .before .shared-slice-known3 .given n)) (c .if1 .taken)
-
-mul-f : tie.Need-mul-f
-mul-f c = search needs
-
-shared-slice-read-f : tie.Need-shared-slice-read-f
-shared-slice-read-f c = search needs
 
 cast-f : tie.Need-cast-f
 cast-f c = omega (arith, c .shared-slice-known4 .given (c .before .before .seek .result))
@@ -32,9 +23,6 @@ returns-2 c =
     let a = c .before .before .before .before .before .before .before .args in
     read-free (a .slots .now) (a .d .now) (a .w .now) (a .x) (q .result) (q .ensures .0)
     (λ n. omega (arith, c .before .before .before .before .shared-slice-known3 .given n)) (c .before .before .if1 .left) (c .if2 .taken)
-
-sub-result : tie.Need-sub-result
-sub-result c = search needs
 
 shared-slice-read-result : tie.Need-shared-slice-read-result
 shared-slice-read-result c =
@@ -58,13 +46,13 @@ pub weight-of-spec : {M : Type 1} → statement M
 weight-of-spec =
     tie.close
     (tie.spec
-    seek-requires
+    (λ c κs. search needs)
     returns
-    mul-f
-    shared-slice-read-f
+    (λ c. search needs)
+    (λ c. search needs)
     cast-f
     returns-2
-    sub-result
+    (λ c. search needs)
     shared-slice-read-result
     cast-result
     returns-3)

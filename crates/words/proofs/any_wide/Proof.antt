@@ -20,29 +20,26 @@ abbrev μ-loop : tie.MeasureT-loop
 loop-holds : tie.Need-loop-holds Inv-loop μ-loop
 loop-holds c = (omega arith, refl)
 
-mul-wider : tie.Need-mul-wider Inv-loop μ-loop
-mul-wider c = omega arith
-
-shared-slice-read-wider : tie.Need-shared-slice-read-wider Inv-loop μ-loop
-shared-slice-read-wider c = omega arith
-
-wider-requires : tie.Need-wider-requires Inv-loop μ-loop
-wider-requires c κs = search needs
-
 returns : tie.Need-returns Inv-loop μ-loop
-returns c = wide-here (c .before .before .before .before .before .before .args .n) (c .before .before .before .before .before .before .args .masks .now) (c .before .before .before .before .loop .i) (wide (c .before .before .before .before .before .before .args .n) (c .before .before .before .before .before .before .args .masks .now)) (omega arith) (c .before .before .before .before .loop .inv .1) (sym (c .before .wider .ensures) ∙ c .if1 .taken)
-
-add-i : tie.Need-add-i Inv-loop μ-loop
-add-i c = omega arith
-
-loop-less : tie.Need-loop-less Inv-loop μ-loop
-loop-less c = omega arith
+returns c =
+    let args = c .before .before .before .before .before .before .args in
+    let loop = c .before .before .before .before .loop in
+    wide-here (args .n) (args .masks .now) (loop .i) (wide (args .n) (args .masks .now)) (omega arith) (loop .inv .1)
+    (sym (c .before .wider .ensures) ∙ c .if1 .taken)
 
 loop-again : tie.Need-loop-again Inv-loop μ-loop
-loop-again c = (omega arith, wide-later (c .before .before .before .before .before .before .args .n) (c .before .before .before .before .before .before .args .masks .now) (c .before .before .before .before .loop .i) (wide (c .before .before .before .before .before .before .args .n) (c .before .before .before .before .before .before .args .masks .now)) (omega arith) (c .before .before .before .before .loop .inv .1) (sym (c .before .wider .ensures) ∙ c .if1 .left))
+loop-again c =
+    let args = c .before .before .before .before .before .before .args in
+    let loop = c .before .before .before .before .loop in (
+      omega arith,
+      wide-later (args .n) (args .masks .now) (loop .i) (wide (args .n) (args .masks .now)) (omega arith) (loop .inv .1)
+          (sym (c .before .wider .ensures) ∙ c .if1 .left),
+    )
 
 returns-2 : tie.Need-returns-2 Inv-loop μ-loop
-returns-2 c = wide-end (c .before .before .before .args .n) (c .before .before .before .args .masks .now) (c .before .loop .i) (wide (c .before .before .before .args .n) (c .before .before .before .args .masks .now)) (omega arith) (c .before .loop .inv .1)
+returns-2 c =
+    let args = c .before .before .before .args in
+    wide-end (args .n) (args .masks .now) (c .before .loop .i) (wide (args .n) (args .masks .now)) (omega arith) (c .before .loop .inv .1)
 
 pub any-wide-spec : {M : Type 1} → statement M
 any-wide-spec =
@@ -51,11 +48,11 @@ any-wide-spec =
     Inv-loop
     μ-loop
     loop-holds
-    mul-wider
-    shared-slice-read-wider
-    wider-requires
+    (λ c. omega arith)
+    (λ c. omega arith)
+    (λ c κs. search needs)
     returns
-    add-i
-    loop-less
+    (λ c. omega arith)
+    (λ c. omega arith)
     loop-again
     returns-2)

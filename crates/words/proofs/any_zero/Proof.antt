@@ -19,23 +19,17 @@ abbrev μ-loop : tie.MeasureT-loop
 loop-holds : tie.Need-loop-holds Inv-loop μ-loop
 loop-holds c = (omega arith, refl)
 
-mul-if1 : tie.Need-mul-if1 Inv-loop μ-loop
-mul-if1 c = omega arith
-
-shared-slice-read-if1 : tie.Need-shared-slice-read-if1 Inv-loop μ-loop
-shared-slice-read-if1 c = omega arith
-
 returns : tie.Need-returns Inv-loop μ-loop
-returns c = zero-here (c .before .before .before .before .args .masks .now) (c .before .before .before .loop .i) (zeroIn (c .before .before .before .before .args .masks .now)) (omega arith) (c .before .before .before .loop .inv .1) (c .if1 .taken)
-
-add-i : tie.Need-add-i Inv-loop μ-loop
-add-i c = omega arith
-
-loop-less : tie.Need-loop-less Inv-loop μ-loop
-loop-less c = omega arith
+returns c =
+    let args = c .before .before .before .before .args in
+    let loop = c .before .before .before .loop in
+    zero-here (args .masks .now) (loop .i) (zeroIn (args .masks .now)) (omega arith) (loop .inv .1) (c .if1 .taken)
 
 loop-again : tie.Need-loop-again Inv-loop μ-loop
-loop-again c = (omega arith, zero-later (c .before .before .before .before .args .masks .now) (c .before .before .before .loop .i) (zeroIn (c .before .before .before .before .args .masks .now)) (omega arith) (c .before .before .before .loop .inv .1) (c .if1 .left))
+loop-again c =
+    let args = c .before .before .before .before .args in
+    let loop = c .before .before .before .loop in
+    (omega arith, zero-later (args .masks .now) (loop .i) (zeroIn (args .masks .now)) (omega arith) (loop .inv .1) (c .if1 .left))
 
 returns-2 : tie.Need-returns-2 Inv-loop μ-loop
 returns-2 c = zero-end (c .before .before .args .masks .now) (c .before .loop .i) (zeroIn (c .before .before .args .masks .now)) (omega arith) (c .before .loop .inv .1)
@@ -47,10 +41,10 @@ any-zero-spec =
     Inv-loop
     μ-loop
     loop-holds
-    mul-if1
-    shared-slice-read-if1
+    (λ c. omega arith)
+    (λ c. omega arith)
     returns
-    add-i
-    loop-less
+    (λ c. omega arith)
+    (λ c. omega arith)
     loop-again
     returns-2)

@@ -8,12 +8,6 @@ use Rattle.words.specs.laws.Masks.{shift-none}
 use Rattle.words.proofs.wider.Statement.{statement}
 use Rattle.words.proofs.wider.Tie as tie
 
-returns : tie.Need-returns
-returns c = search needs
-
-shr-result : tie.Need-shr-result
-shr-result c = search needs
-
 returns-2 : tie.Need-returns-2
 returns-2 c = rw (c .before .if1 .left, shift-none)
 
@@ -23,4 +17,4 @@ returns-3 c =
     rw (c .before .if1 .left, lt-ltb (c .before .before .args .x) (2 ^ c .before .before .args .n) (omega arith))
 
 pub wider-spec : {M : Type 1} → statement M
-wider-spec = tie.close (tie.spec returns shr-result returns-2 returns-3)
+wider-spec = tie.close (tie.spec (λ c. search needs) (λ c. search needs) returns-2 returns-3)

@@ -12,12 +12,9 @@ is-zero : (x : ℕ) → eqb x 0 ≡ isZero x
 is-zero zero = refl
 is-zero (suc x) = eqb·suc-zero x
 
-reduce-requires : tie.Need-reduce-requires
-reduce-requires c κs = search needs
-
 returns : tie.Need-returns
 unfolding inside
 returns c = is-zero (c .reduce .result) ∙ ap isZero (c .reduce .ensures)
 
 pub contains-spec : {M : Type 1} → statement M
-contains-spec = tie.close (tie.spec reduce-requires returns)
+contains-spec = tie.close (tie.spec (λ c κs. search needs) returns)

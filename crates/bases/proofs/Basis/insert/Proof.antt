@@ -7,9 +7,6 @@ use Rattle.bases.proofs.Growing.{has-room, holds-old, holds-new}
 use Rattle.bases.proofs.Basis.insert.Statement.{statement}
 use Rattle.bases.proofs.Basis.insert.Tie as tie
 
-array-share-prefix-rows : tie.Need-array-share-prefix-rows
-array-share-prefix-rows c = omega arith
-
 slice-aggregate-reduce-rows : tie.Need-slice-aggregate-reduce-rows
 slice-aggregate-reduce-rows c = sym (rows-length (c .before .before .args .self) (c .before .before .pre))
 
@@ -17,7 +14,10 @@ reduce-rows-requires : tie.Need-reduce-rows-requires
 reduce-rows-requires c κs = tt
 
 returns : tie.Need-returns
-returns c = holds-old (c .before .before .before .before .args .self) (c .before .before .before .before .pre) (c .before .before .before .before .args .v) (sym (c .before .reduce-rows .ensures) ∙ c .if1 .taken)
+returns c =
+    let args = c .before .before .before .before .args in
+    let pre = c .before .before .before .before .pre in
+    holds-old (args .self) pre (args .v) (sym (c .before .reduce-rows .ensures) ∙ c .if1 .taken)
 
 slice-aggregate-place : tie.Need-slice-aggregate-place
 slice-aggregate-place c = sym (c .before .before .before .before .before .pre .whole)
@@ -30,24 +30,25 @@ place-requires c κs =
     let room : a .self .len < 64 = has-room (a .self) p (a .v) (omega arith) (k .result) (k .ensures) (c .before .if1 .left) in
     omega (arith, p .whole)
 
-add-t13 : tie.Need-add-t13
-add-t13 c = omega arith
-
 returns-2 : tie.Need-returns-2
 returns-2 c =
-    let a = c .before .before .before .before .before .before .before .args in
-    let k = c .before .before .before .before .reduce-rows in
-    holds-new (a .self) (c .before .before .before .before .before .before .before .pre) (a .v) (omega arith) (k .result) (k .ensures) (c .before .before .before .if1 .left) _ (c .before .place .ensures)
+    let args = c .before .before .before .before .before .before .before .args in
+    let pre = c .before .before .before .before .before .before .before .pre in
+    let reduce-rows = c .before .before .before .before .reduce-rows in
+    let if1 = c .before .before .before .if1 in
+    let a = args in
+    let k = reduce-rows in
+    holds-new (a .self) pre (a .v) (omega arith) (k .result) (k .ensures) (if1 .left) _ (c .before .place .ensures)
 
 pub insert-spec : {M : Type 1} → statement M
 insert-spec =
     tie.close
     (tie.spec
-    array-share-prefix-rows
+    (λ c. omega arith)
     slice-aggregate-reduce-rows
     reduce-rows-requires
     returns
     slice-aggregate-place
     place-requires
-    add-t13
+    (λ c. omega arith)
     returns-2)

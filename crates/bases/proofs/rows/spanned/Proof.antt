@@ -12,9 +12,6 @@ use Rattle.bases.proofs.rows.spanned.Lts as lts
 use Rattle.bases.proofs.Basis.contains.Reads as contains-reads
 use Rattle.bases.proofs.basis_of.Reads as basis-of-reads
 
-basis-of-requires : tie.Need-basis-of-requires
-basis-of-requires c κs = search needs
-
 contains-requires : tie.Need-contains-requires
 contains-requires c κs = c .basis-of .ensures .valid
 
@@ -22,4 +19,4 @@ returns : tie.Need-returns
 returns c = c .contains .ensures ∙ ap (λ (B : List ℕ). inside word B (c .before .before .before .args .v)) (c .before .basis-of .ensures .is)
 
 pub spanned-spec : {M : Type 1} → statement M
-spanned-spec = tie.close (tie.spec basis-of-requires contains-requires returns)
+spanned-spec = tie.close (tie.spec (λ c κs. search needs) contains-requires returns)

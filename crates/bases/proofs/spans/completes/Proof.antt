@@ -23,40 +23,36 @@ loop-holds : tie.Need-loop-holds Inv-loop μ-loop
 loop-holds c = record { valid = c .before .before .pre; is = refl }
 
 returns : tie.Need-returns Inv-loop μ-loop
-returns c = completing-full (c .before .before .before .before .before .before .args .gens .now) (c .before .before .before .before .before .before .args .w .now) (rowsOf (c .before .before .before .before .before .before .args .b)) (c .before .before .before .before .before .before .args .start) (c .before .before .before .loop .d) (c .before .before .before .loop .i) (c .before .before .before .loop .inv) (c .if1 .taken)
-
-mul-g : tie.Need-mul-g Inv-loop μ-loop
-mul-g c = omega arith
-
-shared-slice-read-g : tie.Need-shared-slice-read-g Inv-loop μ-loop
-shared-slice-read-g c = omega arith
-
-reduce-rows-requires : tie.Need-reduce-rows-requires Inv-loop μ-loop
-reduce-rows-requires c κs = search needs
+returns c =
+    let args = c .before .before .before .before .before .before .args in
+    let loop = c .before .before .before .loop in
+    completing-full (args .gens .now) (args .w .now) (rowsOf (args .b)) (args .start) (loop .d) (loop .i) (loop .inv) (c .if1 .taken)
 
 insert-requires : tie.Need-insert-requires Inv-loop μ-loop
 insert-requires c κs = c .before .before .before .before .before .before .loop .inv .valid
 
-add-i : tie.Need-add-i Inv-loop μ-loop
-add-i c = omega arith
-
-loop-less : tie.Need-loop-less Inv-loop μ-loop
-loop-less c = omega arith
-
 loop-again : tie.Need-loop-again Inv-loop μ-loop
-loop-again c = completing-in (c .before .before .before .before .before .before .before .before .before .before .args .gens .now) (c .before .before .before .before .before .before .before .before .before .before .args .w .now) (rowsOf (c .before .before .before .before .before .before .before .before .before .before .args .b)) (c .before .before .before .before .before .before .before .before .before .before .args .start) (c .before .before .before .before .before .before .before .loop .d) (c .before .before .before .before .before .before .before .loop .i) (c .before .before .before .before .before .before .before .loop .inv) (c .before .before .before .before .before .before .loop-test .taken) (c .before .before .reduce-rows .result) (c .before .before .reduce-rows .ensures) (c .before .if2 .taken) (c .insert .result) (c .insert .ensures)
-
-add-i-2 : tie.Need-add-i-2 Inv-loop μ-loop
-add-i-2 c = omega arith
-
-loop-less-2 : tie.Need-loop-less-2 Inv-loop μ-loop
-loop-less-2 c = omega arith
+loop-again c =
+    let args = c .before .before .before .before .before .before .before .before .before .before .args in
+    let loop = c .before .before .before .before .before .before .before .loop in
+    let loop-test = c .before .before .before .before .before .before .loop-test in
+    let reduce-rows = c .before .before .reduce-rows in
+    completing-in (args .gens .now) (args .w .now) (rowsOf (args .b)) (args .start) (loop .d) (loop .i) (loop .inv) (loop-test .taken)
+    (reduce-rows .result) (reduce-rows .ensures) (c .before .if2 .taken) (c .insert .result) (c .insert .ensures)
 
 loop-again-2 : tie.Need-loop-again-2 Inv-loop μ-loop
-loop-again-2 c = completing-out (c .before .before .before .before .before .before .before .before .before .args .gens .now) (c .before .before .before .before .before .before .before .before .before .args .w .now) (rowsOf (c .before .before .before .before .before .before .before .before .before .args .b)) (c .before .before .before .before .before .before .before .before .before .args .start) (c .before .before .before .before .before .before .loop .d) (c .before .before .before .before .before .before .loop .i) (c .before .before .before .before .before .before .loop .inv) (c .before .before .before .before .before .loop-test .taken) (c .before .reduce-rows .result) (c .before .reduce-rows .ensures) (c .if2 .left)
+loop-again-2 c =
+    let args = c .before .before .before .before .before .before .before .before .before .args in
+    let loop = c .before .before .before .before .before .before .loop in
+    let loop-test = c .before .before .before .before .before .loop-test in
+    completing-out (args .gens .now) (args .w .now) (rowsOf (args .b)) (args .start) (loop .d) (loop .i) (loop .inv) (loop-test .taken)
+    (c .before .reduce-rows .result) (c .before .reduce-rows .ensures) (c .if2 .left)
 
 returns-2 : tie.Need-returns-2 Inv-loop μ-loop
-returns-2 c = completing-end (c .before .before .before .before .before .args .gens .now) (c .before .before .before .before .before .args .w .now) (rowsOf (c .before .before .before .before .before .args .b)) (c .before .before .before .before .before .args .start) (c .before .before .loop .d) (c .before .before .loop .i) (c .before .before .loop .inv) (c .before .loop-test .left)
+returns-2 c =
+    let args = c .before .before .before .before .before .args in
+    let loop = c .before .before .loop in
+    completing-end (args .gens .now) (args .w .now) (rowsOf (args .b)) (args .start) (loop .d) (loop .i) (loop .inv) (c .before .loop-test .left)
 
 pub completes-spec : {M : Type 1} → statement M
 completes-spec =
@@ -66,14 +62,14 @@ completes-spec =
     μ-loop
     loop-holds
     returns
-    mul-g
-    shared-slice-read-g
-    reduce-rows-requires
+    (λ c. omega arith)
+    (λ c. omega arith)
+    (λ c κs. search needs)
     insert-requires
-    add-i
-    loop-less
+    (λ c. omega arith)
+    (λ c. omega arith)
     loop-again
-    add-i-2
-    loop-less-2
+    (λ c. omega arith)
+    (λ c. omega arith)
     loop-again-2
     returns-2)

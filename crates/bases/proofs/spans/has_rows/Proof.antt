@@ -18,7 +18,10 @@ abbrev μ-loop : tie.MeasureT-loop
 μ-loop rows own n i₀ i = length rows - i
 
 returns : tie.Need-returns Inv-loop μ-loop
-returns c = alike-other (rowsOf (c .before .before .args .b)) (c .before .before .args .rows .now) (let l = rows-length (c .before .before .args .b) (c .before .before .pre) in let n = c .if1 .taken in λ e. n (sym l ∙ e))
+returns c =
+    let args = c .before .before .args in
+    alike-other (rowsOf (args .b)) (args .rows .now)
+    (let l = rows-length (args .b) (c .before .before .pre) in let n = c .if1 .taken in λ e. n (sym l ∙ e))
 
 loop-holds : tie.Need-loop-holds Inv-loop μ-loop
 loop-holds c = alike-start (rowsOf (c .before .before .args .b)) (c .before .before .args .rows .now) (rows-length (c .before .before .args .b) (c .before .before .pre) ∙ c .if1 .left)
@@ -33,22 +36,44 @@ mul-if2-2 : tie.Need-mul-if2-2 Inv-loop μ-loop
 mul-if2-2 c = omega (arith, c .before .before .before .before .pre .whole, c .before .before .before .before .pre .room, c .before .before .if1 .left, c .loop-test .taken)
 
 shared-slice-read-if2 : tie.Need-shared-slice-read-if2 Inv-loop μ-loop
-shared-slice-read-if2 c = omega (arith, c .before .before .before .before .before .pre .whole, c .before .before .before .before .before .pre .room, c .before .before .before .if1 .left, c .before .loop-test .taken)
+shared-slice-read-if2 c =
+    let pre = c .before .before .before .before .before .pre in
+    let if1 = c .before .before .before .if1 in
+    omega (arith, pre .whole, pre .room, if1 .left, c .before .loop-test .taken)
 
 returns-2 : tie.Need-returns-2 Inv-loop μ-loop
-returns-2 c = alike-no (rowsOf (c .before .before .before .before .before .before .args .b)) (c .before .before .before .before .before .before .args .rows .now) (c .before .before .before .loop .i) (λ e. c .if2 .taken (sym (getD-take (c .before .before .before .before .before .before .args .b .len) (c .before .before .before .before .before .before .args .b .rows) (c .before .before .before .loop .i) 0 (c .before .before .loop-test .taken)) ∙ e))
+returns-2 c =
+    let args = c .before .before .before .before .before .before .args in
+    let loop = c .before .before .before .loop in
+    alike-no (rowsOf (args .b)) (args .rows .now) (loop .i)
+    (λ e. c .if2 .taken (sym (getD-take (args .b .len) (args .b .rows) (loop .i) 0 (c .before .before .loop-test .taken)) ∙ e))
 
 add-i : tie.Need-add-i Inv-loop μ-loop
-add-i c = omega (arith, c .before .before .before .before .before .before .pre .whole, c .before .before .before .before .before .before .pre .room, c .before .before .before .before .if1 .left, c .before .before .loop-test .taken)
+add-i c =
+    let pre = c .before .before .before .before .before .before .pre in
+    let if1 = c .before .before .before .before .if1 in
+    omega (arith, pre .whole, pre .room, if1 .left, c .before .before .loop-test .taken)
 
 loop-less : tie.Need-loop-less Inv-loop μ-loop
-loop-less c = omega (arith, c .before .before .before .before .before .before .pre .whole, c .before .before .before .before .before .before .pre .room, c .before .before .before .before .if1 .left, c .before .before .loop-test .taken)
+loop-less c =
+    let pre = c .before .before .before .before .before .before .pre in
+    let if1 = c .before .before .before .before .if1 in
+    omega (arith, pre .whole, pre .room, if1 .left, c .before .before .loop-test .taken)
 
 loop-again : tie.Need-loop-again Inv-loop μ-loop
-loop-again c = alike-next (rowsOf (c .before .before .before .before .before .before .args .b)) (c .before .before .before .before .before .before .args .rows .now) (c .before .before .before .loop .i) (c .before .before .before .loop .inv) (let a = c .before .before .loop-test .taken in let b = c .before .before .before .before .if1 .left in omega arith) (getD-take (c .before .before .before .before .before .before .args .b .len) (c .before .before .before .before .before .before .args .b .rows) (c .before .before .before .loop .i) 0 (c .before .before .loop-test .taken) ∙ c .if2 .left)
+loop-again c =
+    let args = c .before .before .before .before .before .before .args in
+    let if1 = c .before .before .before .before .if1 in
+    let loop = c .before .before .before .loop in
+    let loop-test = c .before .before .loop-test in
+    alike-next (rowsOf (args .b)) (args .rows .now) (loop .i) (loop .inv) (let a = loop-test .taken in let b = if1 .left in omega arith)
+    (getD-take (args .b .len) (args .b .rows) (loop .i) 0 (loop-test .taken) ∙ c .if2 .left)
 
 returns-3 : tie.Need-returns-3 Inv-loop μ-loop
-returns-3 c = alike-end (rowsOf (c .before .before .before .before .args .b)) (c .before .before .before .before .args .rows .now) (c .before .loop .i) (c .before .loop .inv) (let a = c .loop-test .left in let b = c .before .before .if1 .left in omega arith)
+returns-3 c =
+    let args = c .before .before .before .before .args in
+    alike-end (rowsOf (args .b)) (args .rows .now) (c .before .loop .i) (c .before .loop .inv)
+    (let a = c .loop-test .left in let b = c .before .before .if1 .left in omega arith)
 
 pub has-rows-spec : {M : Type 1} → statement M
 has-rows-spec =

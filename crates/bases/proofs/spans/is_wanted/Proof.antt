@@ -9,17 +9,17 @@ use Rattle.bases.proofs.spans.is_wanted.Lts as lts
 use Rattle.bases.proofs.Basis.contains.Reads as contains-reads
 use Rattle.forms.proofs.reduce_rows.Reads as reduce-rows-reads
 
-reduce-rows-requires : tie.Need-reduce-rows-requires
-reduce-rows-requires c κs = search needs
-
 returns : tie.Need-returns
-returns c = left-out (c .before .before .before .args .w .now) (rowsOf (c .before .before .before .args .b)) (c .before .before .before .args .g) (c .before .reduce-rows .result) (c .before .reduce-rows .ensures) (c .if1 .taken)
-
-contains-requires : tie.Need-contains-requires
-contains-requires c κs = search needs
+returns c =
+    let args = c .before .before .before .args in
+    left-out (args .w .now) (rowsOf (args .b)) (args .g) (c .before .reduce-rows .result) (c .before .reduce-rows .ensures) (c .if1 .taken)
 
 returns-2 : tie.Need-returns-2
-returns-2 c = left-in (c .before .before .before .before .args .w .now) (rowsOf (c .before .before .before .before .args .b)) (c .before .before .before .before .args .g) (c .before .before .reduce-rows .result) (c .contains .result) (c .before .before .reduce-rows .ensures) (c .before .if1 .left) (c .contains .ensures)
+returns-2 c =
+    let args = c .before .before .before .before .args in
+    let reduce-rows = c .before .before .reduce-rows in
+    left-in (args .w .now) (rowsOf (args .b)) (args .g) (reduce-rows .result) (c .contains .result) (reduce-rows .ensures) (c .before .if1 .left)
+    (c .contains .ensures)
 
 pub is-wanted-spec : {M : Type 1} → statement M
-is-wanted-spec = tie.close (tie.spec reduce-rows-requires returns contains-requires returns-2)
+is-wanted-spec = tie.close (tie.spec (λ c κs. search needs) returns (λ c κs. search needs) returns-2)

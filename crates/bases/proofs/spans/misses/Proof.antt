@@ -21,26 +21,25 @@ abbrev μ-loop : tie.MeasureT-loop
 loop-holds : tie.Need-loop-holds Inv-loop μ-loop
 loop-holds c = missing-start (rowsOf (c .before .args .b)) (c .before .args .targets .now)
 
-mul-contains : tie.Need-mul-contains Inv-loop μ-loop
-mul-contains c = omega arith
-
-shared-slice-read-contains : tie.Need-shared-slice-read-contains Inv-loop μ-loop
-shared-slice-read-contains c = omega arith
-
 contains-requires : tie.Need-contains-requires Inv-loop μ-loop
 contains-requires c κs = c .before .before .before .before .pre
 
 returns : tie.Need-returns Inv-loop μ-loop
-returns c = sym (missing-found (rowsOf (c .before .before .before .before .before .before .args .b)) (c .before .before .before .before .before .before .args .targets .now) (c .before .before .before .before .loop .i) (c .before .before .before .before .loop .inv) (c .before .before .before .loop-test .taken) (ap not (sym (c .before .contains .ensures)) ∙ c .if1 .taken))
-
-add-i : tie.Need-add-i Inv-loop μ-loop
-add-i c = omega arith
-
-loop-less : tie.Need-loop-less Inv-loop μ-loop
-loop-less c = omega arith
+returns c =
+    let args = c .before .before .before .before .before .before .args in
+    let loop = c .before .before .before .before .loop in
+    let loop-test = c .before .before .before .loop-test in
+    sym
+    (missing-found (rowsOf (args .b)) (args .targets .now) (loop .i) (loop .inv) (loop-test .taken)
+    (ap not (sym (c .before .contains .ensures)) ∙ c .if1 .taken))
 
 loop-again : tie.Need-loop-again Inv-loop μ-loop
-loop-again c = missing-past (rowsOf (c .before .before .before .before .before .before .args .b)) (c .before .before .before .before .before .before .args .targets .now) (c .before .before .before .before .loop .i) (c .before .before .before .before .loop .inv) (c .before .before .before .loop-test .taken) (ap not (sym (c .before .contains .ensures)) ∙ c .if1 .left)
+loop-again c =
+    let args = c .before .before .before .before .before .before .args in
+    let loop = c .before .before .before .before .loop in
+    let loop-test = c .before .before .before .loop-test in
+    missing-past (rowsOf (args .b)) (args .targets .now) (loop .i) (loop .inv) (loop-test .taken)
+    (ap not (sym (c .before .contains .ensures)) ∙ c .if1 .left)
 
 returns-2 : tie.Need-returns-2 Inv-loop μ-loop
 returns-2 c = sym (missing-end (rowsOf (c .before .before .before .args .b)) (c .before .before .before .args .targets .now) (c .before .loop .i) (c .before .loop .inv) (omega arith))
@@ -52,11 +51,11 @@ misses-spec =
     Inv-loop
     μ-loop
     loop-holds
-    mul-contains
-    shared-slice-read-contains
+    (λ c. omega arith)
+    (λ c. omega arith)
     contains-requires
     returns
-    add-i
-    loop-less
+    (λ c. omega arith)
+    (λ c. omega arith)
     loop-again
     returns-2)

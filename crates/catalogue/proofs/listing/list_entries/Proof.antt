@@ -15,16 +15,25 @@ returns c =
     listed-below (a .gens .now) (a .targets .now) (a .k) (r .result .len) (a .limit) (a .out .now) (based-dim (a .targets .now) (r .result) (r .ensures)) (c .if1 .taken)
 
 tally-requires : tie.Need-tally-requires
-tally-requires c κs = let a = c .before .before .before .before .before .before .args in rooted (a .gens .now) (a .targets .now) (a .k) (c .before .before .basis-of .result) (c .before .before .before .before .before .before .pre) (c .before .before .basis-of .ensures) (c .before .if1 .left)
+tally-requires c κs =
+    let args = c .before .before .before .before .before .before .args in
+    let pre = c .before .before .before .before .before .before .pre in
+    let basis-of = c .before .before .basis-of in
+    let a = args in rooted (a .gens .now) (a .targets .now) (a .k) (basis-of .result) pre (basis-of .ensures) (c .before .if1 .left)
 
 same-length : tie.Need-same-length
 same-length c = c .before .before .tally .kept .1 .1 .1 .1 .0
 
 returns-2 : tie.Need-returns-2
 returns-2 c =
-    let a = c .before .before .before .before .before .before .before .before .before .args in
-    let r = c .before .before .before .before .before .basis-of in
-    listed-end (a .gens .now) (a .targets .now) (a .k) (a .limit) (a .out .now) (r .result) (r .ensures) (c .before .before .before .before .if1 .left) (c .before .before .tally .result) (c .before .before .tally .last .1 .1 .1 .1 .0) (c .before .before .tally .ensures)
+    let args = c .before .before .before .before .before .before .before .before .before .args in
+    let basis-of = c .before .before .before .before .before .basis-of in
+    let if1 = c .before .before .before .before .if1 in
+    let tally = c .before .before .tally in
+    let a = args in
+    let r = basis-of in
+    listed-end (a .gens .now) (a .targets .now) (a .k) (a .limit) (a .out .now) (r .result) (r .ensures) (if1 .left) (tally .result)
+    (tally .last .1 .1 .1 .1 .0) (tally .ensures)
 
 pub list-entries-spec : {M : Type 1} → statement M
 list-entries-spec =

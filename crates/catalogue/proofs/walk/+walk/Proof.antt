@@ -114,13 +114,18 @@ walk-same-length t c = c .before .before .keep .kept .1 .1 .1 .1 .0
 
 walk-returns : (t : ℕ) → walk-lts.Need-returns (claims t) (walk-at t) walk.Post walk-Inv-loop walk-μ-loop
 walk-returns t c =
-    let a = c .before .before .before .before .before .before .before .before .before .before .before .args in
-    let N = c .before .before .before .before .before .before .before .before .before .before .before .pre .1 .0 in
+    let args = c .before .before .before .before .before .before .before .before .before .before .before .args in
+    let pre = c .before .before .before .before .before .before .before .before .before .before .before .pre in
+    let if1 = c .before .before .before .before .before .before .if1 in
+    let spanned = c .before .before .before .before .before .spanned in
+    let if2 = c .before .before .before .before .if2 in
+    let a = args in
+    let N = pre .1 .0 in
     let m = a .gens .now in
     let h = a .h .now in
     (leaf-yes m (a .k) (rowsOf (a .b)) (chainOf (a .c)) h (length m - a .start) (a .start) (a .missing) (a .limit)
-    (stateOf (a .t) (a .out .now)) (c .before .before .before .before .before .spanned .result) (c .before .before .before .before .before .before .if1 .taken) (N .left) (c .before .before .before .before .before .spanned .ensures)
-    (c .before .before .before .before .if2 .taken) _ (c .before .before .keep .ensures))
+    (stateOf (a .t) (a .out .now)) (spanned .result) (if1 .taken) (N .left) (spanned .ensures)
+    (if2 .taken) _ (c .before .before .keep .ensures))
 
 walk-returns-2 : (t : ℕ) → walk-lts.Need-returns-2 (claims t) (walk-at t) walk.Post walk-Inv-loop walk-μ-loop
 walk-returns-2 t c =
@@ -155,41 +160,66 @@ walk-slice-aggregate-next-marked : (t : ℕ) → walk-lts.Need-slice-aggregate-n
 walk-slice-aggregate-next-marked t c = sym (c .before .before .before .before .sieve .ensures .whole)
 
 walk-next-marked-requires : (t : ℕ) → walk-lts.Need-next-marked-requires (claims t) (walk-at t) walk.Post walk-Inv-loop walk-μ-loop
-walk-next-marked-requires t c κs = let N = c .before .before .before .before .before .before .before .before .before .before .before .before .pre .1 .0 in (N .begin, within (N .small) (c .before .before .before .before .sieve .ensures .whole))
+walk-next-marked-requires t c κs =
+    let pre = c .before .before .before .before .before .before .before .before .before .before .before .before .pre in
+    let sieve = c .before .before .before .before .sieve in
+    let N = pre .1 .0 in (N .begin, within (N .small) (sieve .ensures .whole))
 
 walk-same-length-2 : (t : ℕ) → walk-lts.Need-same-length-2 (claims t) (walk-at t) walk.Post walk-Inv-loop walk-μ-loop
 walk-same-length-2 t c = c .before .before .before .before .before .before .sieve .kept .1 .1 .1 .1 .1 .0
 
 walk-returns-3 : (t : ℕ) → walk-lts.Need-returns-3 (claims t) (walk-at t) walk.Post walk-Inv-loop walk-μ-loop
 walk-returns-3 t c =
-    let a = c .before .before .before .before .before .before .before .before .before .before .before .before .before .before .args in
-    let N = c .before .before .before .before .before .before .before .before .before .before .before .before .before .before .pre .1 .0 in
+    let far = c .before .before .before .before .before .before .before .before .before .before .before .before in
+    let args = far .before .before .args in
+    let pre = far .before .before .pre in
+    let if1 = c .before .before .before .before .before .before .before .before .before .if1 in
+    let sieve = c .before .before .before .before .before .before .sieve in
+    let a = args in
+    let N = pre .1 .0 in
     let m = a .gens .now in
     let h = a .h .now in
-    let I = going-next m (a .k) (a .b) (a .c) (a .missing) (a .limit) (run (a .limit) (stateOf (a .t) (a .out .now)) (search m (a .k) (rowsOf (a .b)) (chainOf (a .c)) (length m - a .start) (a .start) (a .missing))) (length
-    (a .out .now)) h (N .left) (N .valid) (N .tidy) (c .before .before .before .before .before .before .before .before .before .if1 .left) (a .t) (a .out .now) (replicate 4096 0) (a .start)
-    (c .before .before .before .before .before .before .sieve .last .1 .1 .1 .1 .1 .1 .0) (c .before .before .before .before .before .before .sieve .ensures) (a .start) (c .before .next-marked .result) le-refl
+    let I = going-next m (a .k) (a .b) (a .c) (a .missing) (a .limit)
+    (run (a .limit) (stateOf (a .t) (a .out .now))
+    (search m (a .k) (rowsOf (a .b)) (chainOf (a .c)) (length m - a .start) (a .start) (a .missing))) (length
+    (a .out .now)) h (N .left) (N .valid) (N .tidy) (if1 .left) (a .t) (a .out .now) (replicate 4096 0) (a .start)
+    (sieve .last .1 .1 .1 .1 .1 .1 .0) (sieve .ensures) (a .start) (c .before .next-marked .result) le-refl
     (c .before .next-marked .ensures) (record { within = N .begin; rest = refl; sane = N .sane; same = refl; whole = mine-all }) in
-    going-end m (a .k) (a .b) (a .c) (a .missing) (a .limit) (run (a .limit) (stateOf (a .t) (a .out .now)) (search m (a .k) (rowsOf (a .b)) (chainOf (a .c)) (length m - a .start) (a .start) (a .missing))) (length (a .out .now)) h
-    (N .left) (N .valid) (N .tidy) (c .before .before .before .before .before .before .before .before .before .if1 .left) (c .before .next-marked .result) (a .t) (a .out .now) (replicate 4096 0) I (ends (c .if3 .taken))
+    going-end m (a .k) (a .b) (a .c) (a .missing) (a .limit)
+    (run (a .limit) (stateOf (a .t) (a .out .now))
+    (search m (a .k) (rowsOf (a .b)) (chainOf (a .c)) (length m - a .start) (a .start) (a .missing))) (length (a .out .now)) h
+    (N .left) (N .valid) (N .tidy) (if1 .left) (c .before .next-marked .result) (a .t) (a .out .now) (replicate 4096 0) I (ends (c .if3 .taken))
 
 walk-loop-holds : (t : ℕ) → walk-lts.Need-loop-holds (claims t) (walk-at t) walk.Post walk-Inv-loop walk-μ-loop
 walk-loop-holds t c =
-    let a = c .before .before .before .before .before .before .before .before .before .before .before .before .before .before .args in
-    let S = c .before .before .before .before .before .before .sieve in
-    let N = c .before .before .before .before .before .before .before .before .before .before .before .before .before .before .pre .1 .0 in
+    let far = c .before .before .before .before .before .before .before .before .before .before .before .before in
+    let args = far .before .before .args in
+    let pre = far .before .before .pre in
+    let if1 = c .before .before .before .before .before .before .before .before .before .if1 in
+    let sieve = c .before .before .before .before .before .before .sieve in
+    let a = args in
+    let S = sieve in
+    let N = pre .1 .0 in
     let m = a .gens .now in
     let h = a .h .now in (
       c .before .next-marked .ensures .low,
-      going-next m (a .k) (a .b) (a .c) (a .missing) (a .limit) (run (a .limit) (stateOf (a .t) (a .out .now)) (search m (a .k) (rowsOf (a .b)) (chainOf (a .c)) (length m - a .start) (a .start) (a .missing))) (length (a .out .now)) h
-          (N .left) (N .valid) (N .tidy) (c .before .before .before .before .before .before .before .before .before .if1 .left) (a .t) (a .out .now) (replicate 4096 0) (a .start) (S .last .1 .1 .1 .1 .1 .1 .0) (S .ensures) (a .start)
-          (c .before .next-marked .result) le-refl (c .before .next-marked .ensures) (record { within = N .begin; rest = refl; sane = N .sane; same = refl; whole = mine-all }),
-      S .kept .1 .1 .1 .1 .1 .0 ∙ c .before .before .before .before .before .before .before .before .before .before .before .before .before .before .pre .1 .1,
+      going-next m (a .k) (a .b) (a .c) (a .missing) (a .limit)
+          (run (a .limit) (stateOf (a .t) (a .out .now))
+          (search m (a .k) (rowsOf (a .b)) (chainOf (a .c)) (length m - a .start) (a .start) (a .missing))) (length (a .out .now)) h
+          (N .left) (N .valid) (N .tidy) (if1 .left) (a .t) (a .out .now) (replicate 4096 0) (a .start) (S .last .1 .1 .1 .1 .1 .1 .0) (S .ensures)
+          (a .start)
+          (c .before .next-marked .result) le-refl (c .before .next-marked .ensures)
+          (record { within = N .begin; rest = refl; sane = N .sane; same = refl; whole = mine-all }),
+      S .kept .1 .1 .1 .1 .1 .0 ∙ pre .1 .1,
       c .before .next-marked .ensures .marked,
     )
 
 walk-same-length-3 : (t : ℕ) → walk-lts.Need-same-length-3 (claims t) (walk-at t) walk.Post walk-Inv-loop walk-μ-loop
-walk-same-length-3 t c = c .before .before .before .loop .inv .2 ∙ sym (c .before .before .before .before .before .before .before .before .before .before .before .before .before .before .before .before .before .before .pre .1 .1)
+walk-same-length-3 t c =
+    let far = c .before .before .before .before .before .before .before .before .before .before .before .before in
+    let pre = far .before .before .before .before .before .before .pre in
+    let loop = c .before .before .before .loop in
+    loop .inv .2 ∙ sym (pre .1 .1)
 
 walk-same-length-4 : (t : ℕ) → walk-lts.Need-same-length-4 (claims t) (walk-at t) walk.Post walk-Inv-loop walk-μ-loop
 walk-same-length-4 t c = c .before .before .before .loop .inv .1 .same
@@ -205,7 +235,10 @@ walk-returns-4 t c =
     going-full m (a .k) (a .b) (a .c) (a .missing) (a .limit) _ _ h (N .left) (N .valid) (N .tidy) ne (l .j) (l .u) (l .out) (l .mine) (l .inv .1) (c .if4 .taken)
 
 walk-mul-x : (t : ℕ) → walk-lts.Need-mul-x (claims t) (walk-at t) walk.Post walk-Inv-loop walk-μ-loop
-walk-mul-x t c = eight-fits (c .before .before .loop-test .taken) (c .before .before .before .before .before .before .before .before .before .before .before .before .before .before .before .before .before .before .pre .1 .0 .small)
+walk-mul-x t c =
+    let far = c .before .before .before .before .before .before .before .before .before .before .before .before in
+    let pre = far .before .before .before .before .before .before .pre in
+    eight-fits (c .before .before .loop-test .taken) (pre .1 .0 .small)
 
 walk-shared-slice-read-x : (t : ℕ) → walk-lts.Need-shared-slice-read-x (claims t) (walk-at t) walk.Post walk-Inv-loop walk-μ-loop
 walk-shared-slice-read-x t c =
@@ -227,89 +260,154 @@ walk-child-requires t c κs =
     (as-few eh (N .small), c .before .before .before .before .before .loop .inv .1 .whole)
 
 walk-array-share-prefix-mine : (t : ℕ) → walk-lts.Need-array-share-prefix-mine (claims t) (walk-at t) walk.Post walk-Inv-loop walk-μ-loop
-walk-array-share-prefix-mine t c = within
-    (c .before .before .before .before .before .before .before .before .before .before .before .before .before .before .before .before .before .before .before .before .before .before .pre .1 .0 .small) (c .before .child .ensures .whole)
+walk-array-share-prefix-mine t c =
+    let far = c .before .before .before .before .before .before .before .before .before .before .before .before in
+    let pre = far .before .before .before .before .before .before .before .before .before .before .pre in
+    within
+    (pre .1 .0 .small) (c .before .child .ensures .whole)
 
 walk-slice-aggregate-walk : (t : ℕ) → walk-lts.Need-slice-aggregate-walk (claims t) (walk-at t) walk.Post walk-Inv-loop walk-μ-loop
-walk-slice-aggregate-walk t c = sym (length-take-le (length
-    (c .before .before .before .before .before .before .before .before .before .before .before .before .before .before .before .before .before .before .before .before .before .before .before .args .gens .now))
-    (c .before .before .child .last .1 .1 .0) (within
-    (c .before .before .before .before .before .before .before .before .before .before .before .before .before .before .before .before .before .before .before .before .before .before .before .pre .1 .0 .small)
-    (c .before .before .child .ensures .whole)))
+walk-slice-aggregate-walk t c =
+    let far = c .before .before .before .before .before .before .before .before .before .before .before .before in
+    let args = far .before .before .before .before .before .before .before .before .before .before .before .args in
+    let pre = far .before .before .before .before .before .before .before .before .before .before .before .pre in
+    let child = c .before .before .child in
+    sym (length-take-le (length
+    (args .gens .now))
+    (child .last .1 .1 .0) (within
+    (pre .1 .0 .small)
+    (child .ensures .whole)))
 
 walk-add-walk : (t : ℕ) → walk-lts.Need-add-walk (claims t) (walk-at t) walk.Post walk-Inv-loop walk-μ-loop
-walk-add-walk t c = one-fits (c .before .before .before .before .before .before .before .loop-test .taken)
-    (c .before .before .before .before .before .before .before .before .before .before .before .before .before .before .before .before .before .before .before .before .before .before .before .pre .1 .0 .small)
+walk-add-walk t c =
+    let far = c .before .before .before .before .before .before .before .before .before .before .before .before in
+    let pre = far .before .before .before .before .before .before .before .before .before .before .before .pre in
+    let loop-test = c .before .before .before .before .before .before .before .loop-test in
+    one-fits (loop-test .taken)
+    (pre .1 .0 .small)
 
 walk-sub-walk : (t : ℕ) → walk-lts.Need-sub-walk (claims t) (walk-at t) walk.Post walk-Inv-loop walk-μ-loop
 walk-sub-walk t c = some (c .before .before .before .before .before .before .before .before .before .before .before .before .before .before .before .before .before .before .if1 .left)
 
 walk-insert-requires : (t : ℕ) → walk-lts.Need-insert-requires (claims t) (walk-at t) walk.Post walk-Inv-loop walk-μ-loop
-walk-insert-requires t c κs = c .before .before .before .before .before .before .before .before .before .before .before .before .before .before .before .before .before .before .before .before .before .before .before .pre .1 .0 .valid
+walk-insert-requires t c κs =
+    let far = c .before .before .before .before .before .before .before .before .before .before .before .before in
+    let pre = far .before .before .before .before .before .before .before .before .before .before .before .pre in
+    pre .1 .0 .valid
 
 walk-push-requires : (t : ℕ) → walk-lts.Need-push-requires (claims t) (walk-at t) walk.Post walk-Inv-loop walk-μ-loop
 walk-push-requires t c κs =
-    let N = c .before .before .before .before .before .before .before .before .before .before .before .before .before .before .before .before .before .before .before .before .before .before .before .before .pre .1 .0 in
-    let ne = c .before .before .before .before .before .before .before .before .before .before .before .before .before .before .before .before .before .before .before .if1 .left in
+    let far = c .before .before .before .before .before .before .before .before .before .before .before .before in
+    let pre = far .before .before .before .before .before .before .before .before .before .before .before .before .pre in
+    let if1 = far .before .before .before .before .before .before .before .if1 in
+    let N = pre .1 .0 in
+    let ne = if1 .left in
     tidy-one (N .tidy) ne
 
 walk-walk-requires : (t : ℕ) → walk-lts.Need-walk-requires (claims t) (walk-at t) walk.Post walk-Inv-loop walk-μ-loop
 walk-walk-requires t c κs =
-    let a = c .before .before .before .before .before .before .before .before .before .before .before .before .before .before .before .before .before .before .before .before .before .before .before .before .before .before .before .args in
-    let N = c .before .before .before .before .before .before .before .before .before .before .before .before .before .before .before .before .before .before .before .before .before .before .before .before .before .before .before .pre .1 .0 in
+    let far = c .before .before .before .before .before .before .before .before .before .before .before .before in
+    let farther = far .before .before .before .before .before .before .before .before .before .before .before .before in
+    let args = farther .before .before .before .args in
+    let pre = farther .before .before .before .pre in
+    let if1 = far .before .before .before .before .before .before .before .before .before .before .if1 in
+    let sieve = far .before .before .before .before .before .before .before .sieve in
+    let loop = c .before .before .before .before .before .before .before .before .before .before .before .before .loop in
+    let loop-test = c .before .before .before .before .before .before .before .before .before .before .before .loop-test in
+    let child = c .before .before .before .before .before .before .child in
+    let insert = c .before .before .before .insert in
+    let push = c .before .before .push in
+    let a = args in
+    let N = pre .1 .0 in
     let m = a .gens .now in
     let h = a .h .now in
-    let l = c .before .before .before .before .before .before .before .before .before .before .before .before .loop in
-    let ne = c .before .before .before .before .before .before .before .before .before .before .before .before .before .before .before .before .before .before .before .before .before .before .if1 .left in
-    let g : l .j < length m = c .before .before .before .before .before .before .before .before .before .before .before .loop-test .taken in
-    let e : false ≡ known h (l .j) = c .before .before .before .before .before .before .before .before .before .before .before .before .before .before .before .before .before .before .before .sieve .ensures .judged (l .j)
+    let l = loop in
+    let ne = if1 .left in
+    let g : l .j < length m = loop-test .taken in
+    let e : false ≡ known h (l .j) = sieve .ensures .judged (l .j)
     (l .inv .0) g .on (l .inv .3 g) in
-    let d : a .missing ≡ t = c .before .before .before .before .before .before .before .before .before .before .before .before .before .before .before .before .before .before .before .before .before .before .before .before .before .before .before .pre .0 in (
+    let d : a .missing ≡ t = pre .0 in (
       falls-one d ne,
       (
-        node-down m (a .k) (a .b) (a .c) (a .missing) (a .limit) _ _ h (N .left) (N .valid) (N .tidy) ne (l .j) (l .u) (l .out) (l .mine) (l .inv .1) g e (N .small) (c .before .before .before .insert .result)
-            (c .before .before .before .insert .ensures) (c .before .before .push .result) (c .before .before .push .ensures) (c .before .before .before .before .before .before .child .last .1 .1 .0)
-            (c .before .before .before .before .before .before .child .ensures),
+        node-down m (a .k) (a .b) (a .c) (a .missing) (a .limit) _ _ h (N .left) (N .valid) (N .tidy) ne (l .j) (l .u) (l .out) (l .mine) (l .inv .1)
+            g e (N .small) (insert .result)
+            (insert .ensures) (push .result) (push .ensures) (child .last .1 .1 .0)
+            (child .ensures),
         l .inv .2,
       ),
     )
 
 walk-slice-aggregate-next-marked-2 : (t : ℕ) → walk-lts.Need-slice-aggregate-next-marked-2 (claims t) (walk-at t) walk.Post walk-Inv-loop walk-μ-loop
-walk-slice-aggregate-next-marked-2 t c = sym
-    (c .before .before .before .before .before .before .before .before .before .before .before .before .before .before .before .before .before .before .before .before .before .before .before .before .before .sieve .ensures .whole)
+walk-slice-aggregate-next-marked-2 t c =
+    let far = c .before .before .before .before .before .before .before .before .before .before .before .before in
+    let farther = far .before .before .before .before .before .before .before .before .before .before .before .before in
+    let sieve = farther .before .sieve in
+    sym
+    (sieve .ensures .whole)
 
 walk-add-next-marked : (t : ℕ) → walk-lts.Need-add-next-marked (claims t) (walk-at t) walk.Post walk-Inv-loop walk-μ-loop
-walk-add-next-marked t c = one-fits (c .before .before .before .before .before .before .before .before .before .before .before .before .before .before .before .before .before .loop-test .taken)
-    (c .before .before .before .before .before .before .before .before .before .before .before .before .before .before .before .before .before .before .before .before .before .before .before .before .before .before .before .before .before .before .before .before .before .pre .1 .0 .small)
+walk-add-next-marked t c =
+    let far = c .before .before .before .before .before .before .before .before .before .before .before .before in
+    let farther = far .before .before .before .before .before .before .before .before .before .before .before .before in
+    let pre = farther .before .before .before .before .before .before .before .before .before .pre in
+    let loop-test = far .before .before .before .before .before .loop-test in
+    one-fits (loop-test .taken)
+    (pre .1 .0 .small)
 
 walk-next-marked-requires-2 : (t : ℕ) → walk-lts.Need-next-marked-requires-2 (claims t) (walk-at t) walk.Post walk-Inv-loop walk-μ-loop
-walk-next-marked-requires-2 t c κs = let N = c .before .before .before .before .before .before .before .before .before .before .before .before .before .before .before .before .before .before .before .before .before .before .before .before .before .before .before .before .before .before .before .before .before .pre .1 .0 in (next-le (c .before .before .before .before .before .before .before .before .before .before .before .before .before .before .before .before .before .loop-test .taken), within (N .small) (c .before .before .before .before .before .before .before .before .before .before .before .before .before .before .before .before .before .before .before .before .before .before .before .before .before .sieve .ensures .whole))
+walk-next-marked-requires-2 t c κs =
+    let far = c .before .before .before .before .before .before .before .before .before .before .before .before in
+    let farther = far .before .before .before .before .before .before .before .before .before .before .before .before in
+    let pre = farther .before .before .before .before .before .before .before .before .before .pre in
+    let sieve = farther .before .sieve in
+    let loop-test = far .before .before .before .before .before .loop-test in
+    let N = pre .1 .0 in (next-le (loop-test .taken), within (N .small) (sieve .ensures .whole))
 
 walk-loop-less : (t : ℕ) → walk-lts.Need-loop-less (claims t) (walk-at t) walk.Post walk-Inv-loop walk-μ-loop
-walk-loop-less t c = fewer (c .before .before .before .before .before .before .before .before .before .before .before .before .before .before .before .before .before .before .loop-test .taken) (c .next-marked2 .ensures .low)
+walk-loop-less t c =
+    let far = c .before .before .before .before .before .before .before .before .before .before .before .before in
+    let loop-test = far .before .before .before .before .before .before .loop-test in
+    fewer (loop-test .taken) (c .next-marked2 .ensures .low)
     (c .next-marked2 .ensures .high)
 
 walk-loop-again : (t : ℕ) → walk-lts.Need-loop-again (claims t) (walk-at t) walk.Post walk-Inv-loop walk-μ-loop
 walk-loop-again t c =
-    let a = c .before .before .before .before .before .before .before .before .before .before .before .before .before .before .before .before .before .before .before .before .before .before .before .before .before .before .before .before .before .before .before .before .before .before .args in
-    let K = c .before .before .before .before .before .before .before .before .before .before .before .before .before .child in
-    let W = c .before .before .before .before .before .before .walk in
-    let S = c .before .before .before .before .before .before .before .before .before .before .before .before .before .before .before .before .before .before .before .before .before .before .before .before .before .before .sieve in
-    let N = c .before .before .before .before .before .before .before .before .before .before .before .before .before .before .before .before .before .before .before .before .before .before .before .before .before .before .before .before .before .before .before .before .before .before .pre .1 .0 in
+    let far = c .before .before .before .before .before .before .before .before .before .before .before .before in
+    let farther = far .before .before .before .before .before .before .before .before .before .before .before .before in
+    let args = farther .before .before .before .before .before .before .before .before .before .before .args in
+    let pre = farther .before .before .before .before .before .before .before .before .before .before .pre in
+    let if1 = farther .before .before .before .before .before .if1 in
+    let sieve = farther .before .before .sieve in
+    let loop = far .before .before .before .before .before .before .before .loop in
+    let loop-test = far .before .before .before .before .before .before .loop-test in
+    let child = far .before .child in
+    let insert = c .before .before .before .before .before .before .before .before .before .before .insert in
+    let push = c .before .before .before .before .before .before .before .before .before .push in
+    let the-walk = c .before .before .before .before .before .before .walk in
+    let a = args in
+    let K = child in
+    let W = the-walk in
+    let S = sieve in
+    let N = pre .1 .0 in
     let m = a .gens .now in
     let h = a .h .now in
-    let l = c .before .before .before .before .before .before .before .before .before .before .before .before .before .before .before .before .before .before .before .loop in
-    let ne = c .before .before .before .before .before .before .before .before .before .before .before .before .before .before .before .before .before .before .before .before .before .before .before .before .before .before .before .before .before .if1 .left in
-    let g : l .j < length m = c .before .before .before .before .before .before .before .before .before .before .before .before .before .before .before .before .before .before .loop-test .taken in
+    let l = loop in
+    let ne = if1 .left in
+    let g : l .j < length m = loop-test .taken in
     let e : false ≡ known h (l .j) = S .ensures .judged (l .j) (l .inv .0) g .on (l .inv .3 g) in
-    let I = going-down m (a .k) (a .b) (a .c) (a .missing) (a .limit) (run (a .limit) (stateOf (a .t) (a .out .now)) (search m (a .k) (rowsOf (a .b)) (chainOf (a .c)) (length m - a .start) (a .start) (a .missing))) (length
-    (a .out .now)) h (N .left) (N .valid) (N .tidy) ne (l .j) (l .u) (l .out) (l .mine) (l .inv .1) g e (c .before .before .before .before .before .before .before .before .before .before .insert .result)
-    (c .before .before .before .before .before .before .before .before .before .before .insert .ensures) (c .before .before .before .before .before .before .before .before .before .push .result)
-    (c .before .before .before .before .before .before .before .before .before .push .ensures) (W .result) (W .last .1 .1 .1 .1 .1 .1 .1 .1 .1 .1 .0) (K .last .1 .1 .0)
+    let I = going-down m (a .k) (a .b) (a .c) (a .missing) (a .limit)
+    (run (a .limit) (stateOf (a .t) (a .out .now))
+    (search m (a .k) (rowsOf (a .b)) (chainOf (a .c)) (length m - a .start) (a .start) (a .missing))) (length
+    (a .out .now)) h (N .left) (N .valid) (N .tidy) ne (l .j) (l .u) (l .out) (l .mine) (l .inv .1) g e (insert .result)
+    (insert .ensures) (push .result)
+    (push .ensures) (W .result) (W .last .1 .1 .1 .1 .1 .1 .1 .1 .1 .1 .0) (K .last .1 .1 .0)
     (K .ensures .whole) (W .ensures) in (
       after (l .inv .0) (c .next-marked2 .ensures .low),
-      going-next m (a .k) (a .b) (a .c) (a .missing) (a .limit) (run (a .limit) (stateOf (a .t) (a .out .now)) (search m (a .k) (rowsOf (a .b)) (chainOf (a .c)) (length m - a .start) (a .start) (a .missing))) (length (a .out .now)) h
-          (N .left) (N .valid) (N .tidy) ne (W .result) (W .last .1 .1 .1 .1 .1 .1 .1 .1 .1 .1 .0) (K .last .1 .1 .0) (a .start) (S .last .1 .1 .1 .1 .1 .1 .0) (S .ensures) (l .j + 1) (c .next-marked2 .result) (later (l .inv .0))
+      going-next m (a .k) (a .b) (a .c) (a .missing) (a .limit)
+          (run (a .limit) (stateOf (a .t) (a .out .now))
+          (search m (a .k) (rowsOf (a .b)) (chainOf (a .c)) (length m - a .start) (a .start) (a .missing))) (length (a .out .now)) h
+          (N .left) (N .valid) (N .tidy) ne (W .result) (W .last .1 .1 .1 .1 .1 .1 .1 .1 .1 .1 .0) (K .last .1 .1 .0) (a .start)
+          (S .last .1 .1 .1 .1 .1 .1 .0) (S .ensures) (l .j + 1) (c .next-marked2 .result) (later (l .inv .0))
           (c .next-marked2 .ensures) I,
       W .kept .1 .1 .1 .1 .1 .1 .1 .1 .1 .0 ∙ l .inv .2,
       c .next-marked2 .ensures .marked,

@@ -11,18 +11,25 @@ use Rattle.catalogue_text.proofs.report.catalogue_text.Lts as lts
 use Rattle.catalogue_text.proofs.report.put_counts.Reads as put-counts-reads
 use Rattle.catalogue_text.proofs.report.put_listing.Reads as put-listing-reads
 
-put-counts-requires : tie.Need-put-counts-requires
-put-counts-requires c κs = search needs
-
 put-listing-requires : tie.Need-put-listing-requires
-put-listing-requires c κs = records-at (c .before .before .before .before .before .before .before .before .args .listing .now) (c .before .if1 .d) (c .before .before .before .before .before .before .before .before .args .k - c .before .before .before .before .before .before .before .before .args .ell) (c .before .before .before .before .before .before .before .before .args .k) (c .before .before .before .before .before .before .before .before .args .shown) _ 204 (c .before .before .before .before .before .before .before .before .pre) (beyond-ell (c .before .before .before .before .before .before .before .before .args .k) (c .before .before .before .before .before .before .before .before .args .ell) (c .before .if1 .d) (⊎-elim (λ w. inl (w .0 .taken, w .1)) (λ w. inr (w .0 .left, w .1)) (c .before .if1 .came))) (let P = c .before .before .before .before .put-counts .ensures in let a = P .after in let m = P .most in omega arith)
-
-same-length : tie.Need-same-length
-same-length c = search needs
+put-listing-requires c κs =
+    let args = c .before .before .before .before .before .before .before .before .args in
+    let pre = c .before .before .before .before .before .before .before .before .pre in
+    let put-counts = c .before .before .before .before .put-counts in
+    records-at (args .listing .now) (c .before .if1 .d) (args .k - args .ell) (args .k) (args .shown) _ 204 pre
+    (beyond-ell (args .k) (args .ell) (c .before .if1 .d)
+    (⊎-elim (λ w. inl (w .0 .taken, w .1)) (λ w. inr (w .0 .left, w .1)) (c .before .if1 .came)))
+    (let P = put-counts .ensures in let a = P .after in let m = P .most in omega arith)
 
 returns : tie.Need-returns
-returns c = catalogue-put (c .before .before .before .before .before .before .before .before .before .before .before .args .kind) _ _ _ (c .before .before .before .before .before .before .before .before .before .before .before .args .k) (c .before .before .before .before .before .before .before .before .before .before .before .args .ell) _ (c .before .before .before .before .before .before .before .before .before .before .before .args .shown) _ _ (c .before .before .before .before .if1 .d) (c .before .before .before .before .before .before .before .before .before .before .before .args .listing .now) _ _ _ (beyond-ell (c .before .before .before .before .before .before .before .before .before .before .before .args .k) (c .before .before .before .before .before .before .before .before .before .before .before .args .ell) (c .before .before .before .before .if1 .d) (⊎-elim (λ w. inl (w .0 .taken, w .1)) (λ w. inr (w .0 .left, w .1)) (c .before .before .before .before .if1 .came))) (c .before .before .before .before .before .before .before .put-counts .ensures) (c .before .before .put-listing .ensures)
+returns c =
+    let args = c .before .before .before .before .before .before .before .before .before .before .before .args in
+    let put-counts = c .before .before .before .before .before .before .before .put-counts in
+    let if1 = c .before .before .before .before .if1 in
+    catalogue-put (args .kind) _ _ _ (args .k) (args .ell) _ (args .shown) _ _ (if1 .d) (args .listing .now) _ _ _
+    (beyond-ell (args .k) (args .ell) (if1 .d) (⊎-elim (λ w. inl (w .0 .taken, w .1)) (λ w. inr (w .0 .left, w .1)) (if1 .came)))
+    (put-counts .ensures) (c .before .before .put-listing .ensures)
 
 pub catalogue-text-spec : {M : Type 1} → statement M
 catalogue-text-spec =
-    tie.close (tie.spec put-counts-requires put-listing-requires same-length returns)
+    tie.close (tie.spec (λ c κs. search needs) put-listing-requires (λ c. search needs) returns)

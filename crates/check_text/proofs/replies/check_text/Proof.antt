@@ -7,25 +7,10 @@ use Rattle.printing.specs.fields.laws.Pieces.{whole, deliver-told}
 use Rattle.check_text.proofs.replies.check_text.Statement.{statement}
 use Rattle.check_text.proofs.replies.check_text.Tie as tie
 
-slice-aggregate-put-check : tie.Need-slice-aggregate-put-check
-slice-aggregate-put-check c = search needs
-
-put-check-requires : tie.Need-put-check-requires
-put-check-requires c κs = search needs
-
-array-share-prefix-page : tie.Need-array-share-prefix-page
-array-share-prefix-page c = search needs
-
 slice-aggregate-deliver : tie.Need-slice-aggregate-deliver
 slice-aggregate-deliver c =
     let put-check = c .before .before .put-check in
     sym (length-take-le _ _ (omega (arith, put-check .ensures .after, put-check .ensures .most, put-check .kept .1 .1 .1 .1 .1 .1 .1 .0)))
-
-deliver-requires : tie.Need-deliver-requires
-deliver-requires c κs = search needs
-
-same-length : tie.Need-same-length
-same-length c = search needs
 
 returns : tie.Need-returns
 returns c =
@@ -37,10 +22,10 @@ pub check-text-spec : {M : Type 1} → statement M
 check-text-spec =
     tie.close
     (tie.spec
-    slice-aggregate-put-check
-    put-check-requires
-    array-share-prefix-page
+    (λ c. search needs)
+    (λ c κs. search needs)
+    (λ c. search needs)
     slice-aggregate-deliver
-    deliver-requires
-    same-length
+    (λ c κs. search needs)
+    (λ c. search needs)
     returns)

@@ -8,9 +8,6 @@ use Rattle.linear.specs.laws.Shift.{one-shift}
 use Rattle.forms.proofs.products.mask.Statement.{statement}
 use Rattle.forms.proofs.products.mask.Tie as tie
 
-shl-result : tie.Need-shl-result
-shl-result c = search needs
-
 sub-result : tie.Need-sub-result
 sub-result c = let m : ℕ = c .before .args .m in omega (arith, one-shift m (omega arith), pow-pos m)
 
@@ -27,4 +24,4 @@ returns-2 c =
     ap (λ (k : ℕ). 2 ^ k - 1) e
 
 pub mask-spec : {M : Type 1} → statement M
-mask-spec = tie.close (tie.spec shl-result sub-result returns returns-2)
+mask-spec = tie.close (tie.spec (λ c. search needs) sub-result returns returns-2)

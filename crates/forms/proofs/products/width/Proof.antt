@@ -21,9 +21,6 @@ returns c =
     let e : 0 ≡ min (n * m) 64 = omega arith in
     e
 
-div-if2 : tie.Need-div-if2
-div-if2 c = search needs
-
 mul-result : tie.Need-mul-result
 mul-result c =
     let n : ℕ = c .before .before .args .n in
@@ -47,4 +44,4 @@ returns-3 c =
     e
 
 pub width-spec : {M : Type 1} → statement M
-width-spec = tie.close (tie.spec returns div-if2 mul-result returns-2 returns-3)
+width-spec = tie.close (tie.spec returns (λ c. search needs) mul-result returns-2 returns-3)

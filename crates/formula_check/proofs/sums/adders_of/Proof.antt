@@ -24,26 +24,11 @@ abbrev μ-loop : tie.MeasureT-loop
 loop-holds : tie.Need-loop-holds Inv-loop μ-loop
 loop-holds c = (omega arith, omega arith, omega arith)
 
-mul-ones : tie.Need-mul-ones Inv-loop μ-loop
-mul-ones c = omega arith
-
-shared-slice-read-ones : tie.Need-shared-slice-read-ones Inv-loop μ-loop
-shared-slice-read-ones c = omega arith
-
-ones-requires : tie.Need-ones-requires Inv-loop μ-loop
-ones-requires c κs = search needs
-
-sub-sum : tie.Need-sub-sum Inv-loop μ-loop
-sub-sum c = omega arith
-
 add-sum : tie.Need-add-sum Inv-loop μ-loop
-add-sum c = let e = c .before .ones .ensures in let m = weight-most 64 (getD (c .before .before .before .before .before .before .args .masks .now) (c .before .before .before .before .loop .i) 0) in omega arith
-
-add-i : tie.Need-add-i Inv-loop μ-loop
-add-i c = omega arith
-
-loop-less : tie.Need-loop-less Inv-loop μ-loop
-loop-less c = omega arith
+add-sum c =
+    let args = c .before .before .before .before .before .before .args in
+    let loop = c .before .before .before .before .loop in
+    let e = c .before .ones .ensures in let m = weight-most 64 (getD (args .masks .now) (loop .i) 0) in omega arith
 
 loop-again : tie.Need-loop-again Inv-loop μ-loop
 loop-again c =
@@ -55,7 +40,12 @@ loop-again c =
     (omega arith, adders-next xs (l .i) (l .sum) (c .if1 .sum) (addersOf xs) (omega arith) (l .inv .1) s, omega arith)
 
 returns : tie.Need-returns Inv-loop μ-loop
-returns c = (adders-end (c .before .before .before .args .masks .now) (c .before .loop .i) (c .before .loop .sum) (addersOf (c .before .before .before .args .masks .now)) (omega arith) (c .before .loop .inv .1), omega arith)
+returns c =
+    let args = c .before .before .before .args in (
+      adders-end (args .masks .now) (c .before .loop .i) (c .before .loop .sum) (addersOf (args .masks .now)) (omega arith)
+          (c .before .loop .inv .1),
+      omega arith,
+    )
 
 pub adders-of-spec : {M : Type 1} → statement M
 adders-of-spec =
@@ -64,12 +54,12 @@ adders-of-spec =
     Inv-loop
     μ-loop
     loop-holds
-    mul-ones
-    shared-slice-read-ones
-    ones-requires
-    sub-sum
+    (λ c. omega arith)
+    (λ c. omega arith)
+    (λ c κs. search needs)
+    (λ c. omega arith)
     add-sum
-    add-i
-    loop-less
+    (λ c. omega arith)
+    (λ c. omega arith)
     loop-again
     returns)

@@ -23,53 +23,32 @@ abbrev μ-loop : tie.MeasureT-loop
 loop-holds : tie.Need-loop-holds Inv-loop μ-loop
 loop-holds c = (omega arith, c .before .before .pre .2, refl)
 
-mul-product : tie.Need-mul-product Inv-loop μ-loop
-mul-product c = omega arith
-
-shared-slice-read-product : tie.Need-shared-slice-read-product Inv-loop μ-loop
-shared-slice-read-product c = omega arith
-
-mul-product-2 : tie.Need-mul-product-2 Inv-loop μ-loop
-mul-product-2 c = omega arith
-
-shared-slice-read-product-2 : tie.Need-shared-slice-read-product-2 Inv-loop μ-loop
-shared-slice-read-product-2 c = omega arith
-
-product-requires : tie.Need-product-requires Inv-loop μ-loop
-product-requires c κs = search needs
-
-mul-out : tie.Need-mul-out Inv-loop μ-loop
-mul-out c = omega arith
-
-element-write-out : tie.Need-element-write-out Inv-loop μ-loop
-element-write-out c = omega arith
-
-add-i : tie.Need-add-i Inv-loop μ-loop
-add-i c = omega arith
-
-loop-less : tie.Need-loop-less Inv-loop μ-loop
-loop-less c = omega arith
-
 loop-again : tie.Need-loop-again Inv-loop μ-loop
 loop-again c =
-    let l = c .before .before .before .before .loop in
-    let xs = c .before .before .before .before .before .before .before .args .a .now in
-    let ys = c .before .before .before .before .before .before .before .args .b .now in (
+    let args = c .before .before .before .before .before .before .before .args in
+    let loop = c .before .before .before .before .loop in
+    let l = loop in
+    let xs = args .a .now in
+    let ys = args .b .now in (
       omega arith,
       length-set (l .out) (l .i) (c .product .result) ∙ l .inv .1,
-      ap (λ (f : ℕ). take (l .i + 1) (set (l .out) (l .i) f) ++ productForms (c .before .before .before .before .before .before .before .args .n) (c .before .before .before .before .before .before .before .args .m) (drop (l .i + 1) xs) (drop (l .i + 1) ys)) (c .product .ensures)
-          ∙ forms-next (c .before .before .before .before .before .before .before .args .n) (c .before .before .before .before .before .before .before .args .m) xs ys (l .i) (l .out) (productForms (c .before .before .before .before .before .before .before .args .n) (c .before .before .before .before .before .before .before .args .m) xs ys) (omega arith) (omega arith) (omega arith) (l .inv .2),
+      ap (λ (f : ℕ). take (l .i + 1) (set (l .out) (l .i) f) ++ productForms (args .n) (args .m) (drop (l .i + 1) xs) (drop (l .i + 1) ys))
+          (c .product .ensures)
+          ∙ forms-next (args .n) (args .m) xs ys (l .i) (l .out) (productForms (args .n) (args .m) xs ys) (omega arith) (omega arith) (omega arith)
+          (l .inv .2),
     )
 
 returns : tie.Need-returns Inv-loop μ-loop
 returns c =
+    let args = c .before .before .before .before .args in
     let l = c .before .loop in
-    let xs = c .before .before .before .before .args .a .now in
-    let ys = c .before .before .before .before .args .b .now in
+    let xs = args .a .now in
+    let ys = args .b .now in
     let e : l .i ≡ length xs = omega arith in
     record {
       whole = l .inv .1;
-      start = ap (λ (n : ℕ). take n (l .out)) (sym e) ∙ forms-end (c .before .before .before .before .args .n) (c .before .before .before .before .args .m) xs ys (l .i) (l .out) (productForms (c .before .before .before .before .args .n) (c .before .before .before .before .args .m) xs ys) (omega arith) (l .inv .2);
+      start = ap (λ (n : ℕ). take n (l .out)) (sym e) ∙ forms-end (args .n) (args .m) xs ys (l .i) (l .out) (productForms (args .n) (args .m) xs ys)
+          (omega arith) (l .inv .2);
     }
 
 pub product-forms-spec : {M : Type 1} → statement M
@@ -79,14 +58,14 @@ product-forms-spec =
     Inv-loop
     μ-loop
     loop-holds
-    mul-product
-    shared-slice-read-product
-    mul-product-2
-    shared-slice-read-product-2
-    product-requires
-    mul-out
-    element-write-out
-    add-i
-    loop-less
+    (λ c. omega arith)
+    (λ c. omega arith)
+    (λ c. omega arith)
+    (λ c. omega arith)
+    (λ c κs. search needs)
+    (λ c. omega arith)
+    (λ c. omega arith)
+    (λ c. omega arith)
+    (λ c. omega arith)
     loop-again
     returns)

@@ -21,21 +21,6 @@ abbrev μ-loop : tie.MeasureT-loop
 loop-holds : tie.Need-loop-holds Inv-loop μ-loop
 loop-holds c = (omega arith, xor-zero-l (rowForm (c .args .forms .now) (c .args .row) 0))
 
-shr-if1 : tie.Need-shr-if1 Inv-loop μ-loop
-shr-if1 c = omega arith
-
-mul-sum : tie.Need-mul-sum Inv-loop μ-loop
-mul-sum c = omega arith
-
-shared-slice-read-sum : tie.Need-shared-slice-read-sum Inv-loop μ-loop
-shared-slice-read-sum c = omega arith
-
-add-i : tie.Need-add-i Inv-loop μ-loop
-add-i c = omega arith
-
-loop-less : tie.Need-loop-less Inv-loop μ-loop
-loop-less c = omega arith
-
 loop-again : tie.Need-loop-again Inv-loop μ-loop
 loop-again c =
     let fs = c .before .before .before .args .forms .now in
@@ -50,7 +35,10 @@ loop-again c =
     )
 
 returns : tie.Need-returns Inv-loop μ-loop
-returns c = row-end (c .before .before .args .forms .now) (c .before .before .args .row) (c .before .loop .i) (c .before .loop .sum) (rowForm (c .before .before .args .forms .now) (c .before .before .args .row) 0) (omega arith) (c .before .loop .inv .1)
+returns c =
+    let args = c .before .before .args in
+    row-end (args .forms .now) (args .row) (c .before .loop .i) (c .before .loop .sum) (rowForm (args .forms .now) (args .row) 0) (omega arith)
+    (c .before .loop .inv .1)
 
 pub row-form-spec : {M : Type 1} → statement M
 row-form-spec =
@@ -59,10 +47,10 @@ row-form-spec =
     Inv-loop
     μ-loop
     loop-holds
-    shr-if1
-    mul-sum
-    shared-slice-read-sum
-    add-i
-    loop-less
+    (λ c. omega arith)
+    (λ c. omega arith)
+    (λ c. omega arith)
+    (λ c. omega arith)
+    (λ c. omega arith)
     loop-again
     returns)

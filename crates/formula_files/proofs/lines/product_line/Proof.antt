@@ -9,9 +9,6 @@ use Rattle.formula_files.specs.lines.laws.Loops.{product-first, product-
 use Rattle.formula_files.proofs.lines.product_line.Statement.{statement}
 use Rattle.formula_files.proofs.lines.product_line.Tie as tie
 
-field-at-requires : tie.Need-field-at-requires
-field-at-requires c κs = search needs
-
 enum-known-x : tie.Need-enum-known-x
 enum-known-x c = c .match .keys1
 
@@ -36,9 +33,6 @@ part-field-at-start c =
 
 part-field-at-end : tie.Need-part-field-at-end
 part-field-at-end c = le-refl _
-
-field-at-requires-2 : tie.Need-field-at-requires-2
-field-at-requires-2 c κs = search needs
 
 enum-known-y : tie.Need-enum-known-y
 enum-known-y c = c .match2 .keys1
@@ -66,24 +60,32 @@ add-t9 c =
 
 returns-3 : tie.Need-returns-3
 returns-3 c =
-    let field-at = c .before .before .before .before .before .before .before .before .field-at in
-    let args = c .before .before .before .before .before .before .before .before .before .before .args in
-    let x = c .before .before .before .before .before .before .x in
-    let field-at2 = c .before .before .before .field-at2 in
-    (product-is _ _ _ _ _ (field-at .ensures .0 ∙ ap (seenField (args .s .now)) (x .given .1)) (field-from _ _ _ (args .s .now) _ _ _ _ (field-at2 .ensures .0) (c .before .y .given .1)), (field-fits (args .s .now) _ _ _ _ (field-at2 .ensures .1) (c .before .y .given .1) (field-fit _ _ _ _ (field-at .ensures .1) (x .given .1))))
+    let the-args = c .before .before .before .before .before .before .before .before .before .before .args in
+    let the-field-at = c .before .before .before .before .before .before .before .before .field-at in
+    let the-x = c .before .before .before .before .before .before .x in
+    let the-field-at2 = c .before .before .before .field-at2 in
+    let field-at = the-field-at in
+    let args = the-args in
+    let x = the-x in
+    let field-at2 = the-field-at2 in (
+      product-is _ _ _ _ _ (field-at .ensures .0 ∙ ap (seenField (args .s .now)) (x .given .1))
+          (field-from _ _ _ (args .s .now) _ _ _ _ (field-at2 .ensures .0) (c .before .y .given .1)),
+      (field-fits (args .s .now) _ _ _ _ (field-at2 .ensures .1) (c .before .y .given .1)
+          (field-fit _ _ _ _ (field-at .ensures .1) (x .given .1))),
+    )
 
 pub product-line-spec : {M : Type 1} → statement M
 product-line-spec =
     tie.close
     (tie.spec
-    field-at-requires
+    (λ c κs. search needs)
     enum-known-x
     enum-told
     returns
     sub-field-at
     part-field-at-start
     part-field-at-end
-    field-at-requires-2
+    (λ c κs. search needs)
     enum-known-y
     enum-told-2
     returns-2

@@ -10,9 +10,6 @@ use Rattle.formula_files.specs.lines.laws.Body.{products-unnamed, produc
 use Rattle.formula_files.proofs.lines.products_part.Statement.{statement}
 use Rattle.formula_files.proofs.lines.products_part.Tie as tie
 
-slice-aggregate-name-line : tie.Need-slice-aggregate-name-line
-slice-aggregate-name-line c = search needs
-
 name-line-requires : tie.Need-name-line-requires
 name-line-requires c κs = tt
 
@@ -23,7 +20,11 @@ enum-told : tie.Need-enum-told
 enum-told c = c .match .keys2
 
 returns : tie.Need-returns
-returns c = (products-unnamed _ _ _ (c .before .before .before .before .before .before .before .args .s .now) _ _ (c .before .before .name-line .ensures .0 ∙ ap (seenUsed (c .before .before .before .before .before .before .before .args .s .now)) (c .enum-told .given .1)), omega arith)
+returns c =
+    let args = c .before .before .before .before .before .before .before .args in (
+      products-unnamed _ _ _ (args .s .now) _ _ (c .before .before .name-line .ensures .0 ∙ ap (seenUsed (args .s .now)) (c .enum-told .given .1)),
+      omega arith,
+    )
 
 sub-read-products : tie.Need-sub-read-products
 sub-read-products c = used-fit _ _ _ (c .before .before .before .name-line .ensures .1) (c .before .u .given .1)
@@ -50,10 +51,28 @@ same-length-2 : tie.Need-same-length-2
 same-length-2 c = c .before .before .before .before .before .before .read-products .kept .1 .1 .1 .1 .1 .0
 
 returns-2 : tie.Need-returns-2
-returns-2 c = (products-named _ _ _ (c .before .before .before .before .before .before .before .before .before .before .before .before .before .before .before .before .before .before .args .s .now) _ _ _ (c .before .before .before .before .before .before .before .before .before .before .before .before .before .name-line .ensures .0 ∙ ap (seenUsed (c .before .before .before .before .before .before .before .before .before .before .before .before .before .before .before .before .before .before .args .s .now)) (c .before .before .before .before .before .before .before .before .before .before .before .u .given .1)) ∙ products-not (c .before .before .before .before .before .before .before .before .before .before .before .before .before .before .before .before .before .before .args .s .now) _ _ _ _ _ _ _ _ _ (c .before .before .before .before .before .before .read-products .ensures .0) (c .enum-told2 .given .1), omega arith)
+returns-2 c =
+    let far = c .before .before .before .before .before .before .before .before .before .before .before .before in
+    let args = far .before .before .before .before .before .before .args in
+    let name-line = far .before .name-line in
+    let u = c .before .before .before .before .before .before .before .before .before .before .before .u in
+    let read-products = c .before .before .before .before .before .before .read-products in (
+      products-named _ _ _ (args .s .now) _ _ _ (name-line .ensures .0 ∙ ap (seenUsed (args .s .now)) (u .given .1)) ∙ products-not (args .s .now)
+          _ _ _ _ _ _ _ _ _ (read-products .ensures .0) (c .enum-told2 .given .1),
+      omega arith,
+    )
 
 add-t17 : tie.Need-add-t17
-add-t17 c = let h = fits-at (c .before .before .before .before .before .before .before .before .before .before .before .before .before .before .before .before .before .before .before .args .s .now) _ _ _ bytesProducts (c .before .before .before .before .before .before .before .read-products .ensures .1) (c .before .v .given .1) (used-fit _ _ _ (c .before .before .before .before .before .before .before .before .before .before .before .before .before .before .name-line .ensures .1) (c .before .before .before .before .before .before .before .before .before .before .before .before .u .given .1)) in omega (arith, h, c .before .before .before .before .before .before .before .before .before .before .before .before .before .before .before .before .before .before .before .good)
+add-t17 c =
+    let far = c .before .before .before .before .before .before .before .before .before .before .before .before in
+    let args = far .before .before .before .before .before .before .before .args in
+    let good = far .before .before .before .before .before .before .before .good in
+    let name-line = far .before .before .name-line in
+    let u = c .before .before .before .before .before .before .before .before .before .before .before .before .u in
+    let read-products = c .before .before .before .before .before .before .before .read-products in
+    let h = fits-at (args .s .now) _ _ _ bytesProducts (read-products .ensures .1) (c .before .v .given .1)
+    (used-fit _ _ _ (name-line .ensures .1) (u .given .1)) in
+    omega (arith, h, good)
 
 same-length-3 : tie.Need-same-length-3
 same-length-3 c = c .before .before .before .before .before .before .before .read-products .kept .1 .1 .1 .1 .0
@@ -62,13 +81,23 @@ same-length-4 : tie.Need-same-length-4
 same-length-4 c = c .before .before .before .before .before .before .before .read-products .kept .1 .1 .1 .1 .1 .0
 
 returns-3 : tie.Need-returns-3
-returns-3 c = (products-named _ _ _ (c .before .before .before .before .before .before .before .before .before .before .before .before .before .before .before .before .before .before .before .args .s .now) _ _ _ (c .before .before .before .before .before .before .before .before .before .before .before .before .before .before .name-line .ensures .0 ∙ ap (seenUsed (c .before .before .before .before .before .before .before .before .before .before .before .before .before .before .before .before .before .before .before .args .s .now)) (c .before .before .before .before .before .before .before .before .before .before .before .before .u .given .1)) ∙ products-at (c .before .before .before .before .before .before .before .before .before .before .before .before .before .before .before .before .before .before .before .args .s .now) _ _ _ _ _ _ _ _ _ _ _ _ (c .before .before .before .before .before .before .before .read-products .ensures .0) (c .before .v .given .1), fits-at (c .before .before .before .before .before .before .before .before .before .before .before .before .before .before .before .before .before .before .before .args .s .now) _ _ _ bytesProducts (c .before .before .before .before .before .before .before .read-products .ensures .1) (c .before .v .given .1) (used-fit _ _ _ (c .before .before .before .before .before .before .before .before .before .before .before .before .before .before .name-line .ensures .1) (c .before .before .before .before .before .before .before .before .before .before .before .before .u .given .1)))
+returns-3 c =
+    let far = c .before .before .before .before .before .before .before .before .before .before .before .before in
+    let args = far .before .before .before .before .before .before .before .args in
+    let name-line = far .before .before .name-line in
+    let u = c .before .before .before .before .before .before .before .before .before .before .before .before .u in
+    let read-products = c .before .before .before .before .before .before .before .read-products in (
+      products-named _ _ _ (args .s .now) _ _ _ (name-line .ensures .0 ∙ ap (seenUsed (args .s .now)) (u .given .1)) ∙ products-at (args .s .now) _
+          _ _ _ _ _ _ _ _ _ _ _ (read-products .ensures .0) (c .before .v .given .1),
+      fits-at (args .s .now) _ _ _ bytesProducts
+          (read-products .ensures .1) (c .before .v .given .1) (used-fit _ _ _ (name-line .ensures .1) (u .given .1)),
+    )
 
 pub products-part-spec : {M : Type 1} → statement M
 products-part-spec =
     tie.close
     (tie.spec
-    slice-aggregate-name-line
+    (λ c. search needs)
     name-line-requires
     enum-known-u
     enum-told

@@ -22,7 +22,11 @@ same-length-2 : tie.Need-same-length-2
 same-length-2 c = c .before .before .before .before .before .before .products-part .kept .1 .1 .1 .1 .1 .0
 
 returns : tie.Need-returns
-returns c = run-1 _ _ _ _ (c .before .before .before .before .before .before .before .before .before .before .before .before .before .args .s .now) _ _ _ (c .before .before .before .before .before .before .products-part .ensures .0 ∙ ap (seenProducts (c .before .before .before .before .before .before .before .before .before .before .before .before .before .args .s .now) _ _) (c .enum-told .given .1))
+returns c =
+    let far = c .before .before .before .before .before .before .before .before .before .before .before .before in
+    let args = far .before .args in
+    let products-part = c .before .before .before .before .before .before .products-part in
+    run-1 _ _ _ _ (args .s .now) _ _ _ (products-part .ensures .0 ∙ ap (seenProducts (args .s .now) _ _) (c .enum-told .given .1))
 
 sub-rows-part : tie.Need-sub-rows-part
 sub-rows-part c = products-fit _ _ _ _ _ (c .before .before .before .before .before .before .before .products-part .ensures .1) (c .before .u .given .1)
@@ -52,7 +56,14 @@ same-length-5 : tie.Need-same-length-5
 same-length-5 c = c .before .before .before .before .rows-part .kept .1 .1 .1 .0
 
 returns-2 : tie.Need-returns-2
-returns-2 c = run-2 _ _ _ _ (c .before .before .before .before .before .before .before .before .before .before .before .before .before .before .before .before .before .before .before .before .before .args .s .now) _ _ _ _ _ _ _ _ (c .before .before .before .before .before .before .before .before .before .before .before .before .before .before .products-part .ensures .0 ∙ ap (seenProducts (c .before .before .before .before .before .before .before .before .before .before .before .before .before .before .before .before .before .before .before .before .before .args .s .now) _ _) (c .before .before .before .before .before .before .before .before .u .given .1)) (last-not (c .before .before .before .before .before .before .before .before .before .before .before .before .before .before .before .before .before .before .before .before .before .args .s .now) _ _ _ _ _ _ (c .before .before .before .before .rows-part .ensures) (c .enum-told2 .given .1))
+returns-2 c =
+    let far = c .before .before .before .before .before .before .before .before .before .before .before .before in
+    let args = far .before .before .before .before .before .before .before .before .before .args in
+    let products-part = far .before .before .products-part in
+    let u = c .before .before .before .before .before .before .before .before .u in
+    let rows-part = c .before .before .before .before .rows-part in
+    run-2 _ _ _ _ (args .s .now) _ _ _ _ _ _ _ _ (products-part .ensures .0 ∙ ap (seenProducts (args .s .now) _ _) (u .given .1))
+    (last-not (args .s .now) _ _ _ _ _ _ (rows-part .ensures) (c .enum-told2 .given .1))
 
 either-requires : tie.Need-either-requires
 either-requires c κs = tt
@@ -67,7 +78,14 @@ same-length-8 : tie.Need-same-length-8
 same-length-8 c = c .before .before .before .before .before .before .rows-part .kept .1 .1 .1 .0
 
 returns-3 : tie.Need-returns-3
-returns-3 c = run-is _ _ _ _ (c .before .before .before .before .before .before .before .before .before .before .before .before .before .before .before .before .before .before .before .before .before .before .before .args .s .now) _ _ _ _ _ _ _ _ _ _ _ (c .before .before .before .before .before .before .before .before .before .before .before .before .before .before .before .before .products-part .ensures .0 ∙ ap (seenProducts (c .before .before .before .before .before .before .before .before .before .before .before .before .before .before .before .before .before .before .before .before .before .before .before .args .s .now) _ _) (c .before .before .before .before .before .before .before .before .before .before .u .given .1)) (last-at (c .before .before .before .before .before .before .before .before .before .before .before .before .before .before .before .before .before .before .before .before .before .before .before .args .s .now) _ _ _ _ _ _ _ (c .before .before .before .before .before .before .rows-part .ensures) (c .before .before .o .given .1)) (c .either .ensures)
+returns-3 c =
+    let far = c .before .before .before .before .before .before .before .before .before .before .before .before in
+    let args = far .before .before .before .before .before .before .before .before .before .before .before .args in
+    let products-part = far .before .before .before .before .products-part in
+    let u = c .before .before .before .before .before .before .before .before .before .before .u in
+    let rows-part = c .before .before .before .before .before .before .rows-part in
+    run-is _ _ _ _ (args .s .now) _ _ _ _ _ _ _ _ _ _ _ (products-part .ensures .0 ∙ ap (seenProducts (args .s .now) _ _) (u .given .1))
+    (last-at (args .s .now) _ _ _ _ _ _ _ (rows-part .ensures) (c .before .before .o .given .1)) (c .either .ensures)
 
 pub read-body-spec : {M : Type 1} → statement M
 read-body-spec =

@@ -25,12 +25,6 @@ abbrev μ-loop : tie.MeasureT-loop
 loop-holds : tie.Need-loop-holds Inv-loop μ-loop
 loop-holds c = (omega arith, omega arith, refl, refl, rw sub-zero)
 
-sub-product-line : tie.Need-sub-product-line Inv-loop μ-loop
-sub-product-line c = search needs
-
-part-product-line-start : tie.Need-part-product-line-start Inv-loop μ-loop
-part-product-line-start c = search needs
-
 part-product-line-end : tie.Need-part-product-line-end Inv-loop μ-loop
 part-product-line-end c = le-refl _
 
@@ -55,11 +49,17 @@ same-length-2 c =
 
 returns : tie.Need-returns Inv-loop μ-loop
 returns c =
-    let loop = c .before .before .before .before .before .loop in
-    let args = c .before .before .before .before .before .before .before .before .before .args in
-    let loop-test = c .before .before .before .before .loop-test in
-    let product-line = c .before .before .product-line in
-    (loop .inv .4 ∙ products-stop _ _ _ (loop .at) _ (args .s .now) _ _ _ _ (loop-test .taken) (read-at (args .s .now) (loop .at) _ _ productLine seenProduct (product-line .ensures .0) (c .enum-told .given .1)), omega arith)
+    let the-args = c .before .before .before .before .before .before .before .before .before .args in
+    let the-loop = c .before .before .before .before .before .loop in
+    let the-loop-test = c .before .before .before .before .loop-test in
+    let loop = the-loop in
+    let args = the-args in
+    let loop-test = the-loop-test in
+    let product-line = c .before .before .product-line in (
+      loop .inv .4 ∙ products-stop _ _ _ (loop .at) _ (args .s .now) _ _ _ _ (loop-test .taken)
+          (read-at (args .s .now) (loop .at) _ _ productLine seenProduct (product-line .ensures .0) (c .enum-told .given .1)),
+      omega arith,
+    )
 
 put-word-requires : tie.Need-put-word-requires Inv-loop μ-loop
 put-word-requires c κs = tt
@@ -81,19 +81,29 @@ nil-requires-2 c κs = tt
 
 add-at : tie.Need-add-at Inv-loop μ-loop
 add-at c =
-    let args = c .before .before .before .before .before .before .before .before .before .before .before .before .before .before .before .before .before .before .before .before .before .before .args in
-    let loop = c .before .before .before .before .before .before .before .before .before .before .before .before .before .before .before .before .before .before .loop in
-    let product-line = c .before .before .before .before .before .before .before .before .before .before .before .before .before .before .before .product-line in
-    let x = c .before .before .before .before .before .before .before .before .before .before .before .before .before .x in
-    let good = c .before .before .before .before .before .before .before .before .before .before .before .before .before .before .before .before .before .before .before .before .before .before .good in
+    let far = c .before .before .before .before .before .before .before .before .before .before .before .before in
+    let the-args = far .before .before .before .before .before .before .before .before .before .before .args in
+    let the-good = far .before .before .before .before .before .before .before .before .before .before .good in
+    let the-loop = far .before .before .before .before .before .before .loop in
+    let the-product-line = far .before .before .before .product-line in
+    let the-x = far .before .x in
+    let args = the-args in
+    let loop = the-loop in
+    let product-line = the-product-line in
+    let x = the-x in
+    let good = the-good in
     let h = fits-at (args .s .now) (loop .at) _ _ bytesProduct (product-line .ensures .1) (x .given .1) (omega (arith, loop)) in
     omega (arith, h, good)
 
 add-i : tie.Need-add-i Inv-loop μ-loop
 add-i c =
-    let loop = c .before .before .before .before .before .before .before .before .before .before .before .before .before .before .before .before .before .before .loop in
-    let loop-test = c .before .before .before .before .before .before .before .before .before .before .before .before .before .before .before .before .before .loop-test in
-    let fits = c .before .before .before .before .before .before .before .before .before .before .before .before .before .before .before .before .before .before .before .before .before .before .fits in
+    let far = c .before .before .before .before .before .before .before .before .before .before .before .before in
+    let the-fits = far .before .before .before .before .before .before .before .before .before .before .fits in
+    let the-loop = far .before .before .before .before .before .before .loop in
+    let the-loop-test = far .before .before .before .before .before .loop-test in
+    let loop = the-loop in
+    let loop-test = the-loop-test in
+    let fits = the-fits in
     omega (arith, loop, loop-test, fits)
 
 loop-less : tie.Need-loop-less Inv-loop μ-loop
@@ -104,21 +114,32 @@ loop-less c =
 
 loop-again : tie.Need-loop-again Inv-loop μ-loop
 loop-again c =
-    let args = c .before .before .before .before .before .before .before .before .before .before .before .before .before .before .before .before .before .before .before .before .before .before .args in
-    let loop = c .before .before .before .before .before .before .before .before .before .before .before .before .before .before .before .before .before .before .loop in
-    let product-line = c .before .before .before .before .before .before .before .before .before .before .before .before .before .before .before .product-line in
-    let x = c .before .before .before .before .before .before .before .before .before .before .before .before .before .x in
-    let loop-test = c .before .before .before .before .before .before .before .before .before .before .before .before .before .before .before .before .before .loop-test in
-    let put-word = c .before .before .before .before .before .before .before .before .before .before .put-word in
-    let put-word2 = c .before .before .before .before .before .before .put-word2 in
-    let wider = c .before .before .before .wider in
+    let far = c .before .before .before .before .before .before .before .before .before .before .before .before in
+    let the-args = far .before .before .before .before .before .before .before .before .before .before .args in
+    let the-loop = far .before .before .before .before .before .before .loop in
+    let the-loop-test = far .before .before .before .before .before .loop-test in
+    let the-product-line = far .before .before .before .product-line in
+    let the-x = far .before .x in
+    let the-put-word = c .before .before .before .before .before .before .before .before .before .before .put-word in
+    let the-put-word2 = c .before .before .before .before .before .before .put-word2 in
+    let the-wider = c .before .before .before .wider in
+    let args = the-args in
+    let loop = the-loop in
+    let product-line = the-product-line in
+    let x = the-x in
+    let loop-test = the-loop-test in
+    let put-word = the-put-word in
+    let put-word2 = the-put-word2 in
+    let wider = the-wider in
     let wider2 = c .before .before .wider2 in
     let h = fits-at (args .s .now) (loop .at) _ _ bytesProduct (product-line .ensures .1) (x .given .1) (omega (arith, loop)) in (
       omega (arith, loop-test),
       h,
       put-word .kept .0 ∙ loop .inv .2,
       put-word2 .kept .0 ∙ loop .inv .3,
-      loop .inv .4 ∙ products-turn _ _ _ (loop .at) _ (args .s .now) _ _ _ _ _ _ _ _ _ _ _ _ _ (loop-test .taken) (product-at (args .s .now) (loop .at) _ _ _ _ (product-line .ensures .0) (x .given .1)) (put-word .ensures) (put-word2 .ensures) (wider .ensures) (wider2 .ensures) (c .before .nil .ensures) (c .nil2 .ensures),
+      loop .inv .4 ∙ products-turn _ _ _ (loop .at) _ (args .s .now) _ _ _ _ _ _ _ _ _ _ _ _ _ (loop-test .taken)
+          (product-at (args .s .now) (loop .at) _ _ _ _ (product-line .ensures .0) (x .given .1)) (put-word .ensures) (put-word2 .ensures)
+          (wider .ensures) (wider2 .ensures) (c .before .nil .ensures) (c .nil2 .ensures),
     )
 
 same-length-3 : tie.Need-same-length-3 Inv-loop μ-loop
@@ -140,8 +161,8 @@ read-products-spec =
     Inv-loop
     μ-loop
     loop-holds
-    sub-product-line
-    part-product-line-start
+    (λ c. search needs)
+    (λ c. search needs)
     part-product-line-end
     product-line-requires
     enum-known-x

@@ -23,17 +23,8 @@ abbrev μ-loop : tie.MeasureT-loop
 loop-holds : tie.Need-loop-holds Inv-loop μ-loop
 loop-holds c = (omega arith, omega arith, refl, rw sub-zero)
 
-sub-field-at : tie.Need-sub-field-at Inv-loop μ-loop
-sub-field-at c = search needs
-
-part-field-at-start : tie.Need-part-field-at-start Inv-loop μ-loop
-part-field-at-start c = search needs
-
 part-field-at-end : tie.Need-part-field-at-end Inv-loop μ-loop
 part-field-at-end c = le-refl _
-
-field-at-requires : tie.Need-field-at-requires Inv-loop μ-loop
-field-at-requires c κs = search needs
 
 enum-known-x : tie.Need-enum-known-x Inv-loop μ-loop
 enum-known-x c = c .match .keys1
@@ -85,17 +76,25 @@ loop-less c =
 
 loop-again : tie.Need-loop-again Inv-loop μ-loop
 loop-again c =
-    let args = c .before .before .before .before .before .before .before .before .before .before .before .before .before .before .args in
-    let loop = c .before .before .before .before .before .before .before .before .before .before .before .loop in
-    let field-at = c .before .before .before .before .before .before .before .before .field-at in
-    let x = c .before .before .before .before .before .before .x in
-    let loop-test = c .before .before .before .before .before .before .before .before .before .before .loop-test in
-    let put-word = c .before .before .before .put-word in
+    let far = c .before .before .before .before .before .before .before .before .before .before .before .before in
+    let the-args = far .before .before .args in
+    let the-loop = c .before .before .before .before .before .before .before .before .before .before .before .loop in
+    let the-loop-test = c .before .before .before .before .before .before .before .before .before .before .loop-test in
+    let the-field-at = c .before .before .before .before .before .before .before .before .field-at in
+    let the-x = c .before .before .before .before .before .before .x in
+    let the-put-word = c .before .before .before .put-word in
+    let args = the-args in
+    let loop = the-loop in
+    let field-at = the-field-at in
+    let x = the-x in
+    let loop-test = the-loop-test in
+    let put-word = the-put-word in
     let h = field-fits (args .s .now) (loop .at) _ _ _ (field-at .ensures .1) (x .given .1) (omega (arith, loop)) in (
       omega (arith, loop-test),
       h,
       put-word .kept .0 ∙ loop .inv .2,
-      loop .inv .3 ∙ rows-turn _ _ (loop .at) _ (args .s .now) _ _ _ _ _ _ (loop-test .taken) (field-from _ _ _ (args .s .now) (loop .at) _ _ _ (field-at .ensures .0) (x .given .1)) (put-word .ensures) (c .wider .ensures),
+      loop .inv .3 ∙ rows-turn _ _ (loop .at) _ (args .s .now) _ _ _ _ _ _ (loop-test .taken)
+          (field-from _ _ _ (args .s .now) (loop .at) _ _ _ (field-at .ensures .0) (x .given .1)) (put-word .ensures) (c .wider .ensures),
     )
 
 same-length-2 : tie.Need-same-length-2 Inv-loop μ-loop
@@ -114,10 +113,10 @@ read-rows-spec =
     Inv-loop
     μ-loop
     loop-holds
-    sub-field-at
-    part-field-at-start
+    (λ c. search needs)
+    (λ c. search needs)
     part-field-at-end
-    field-at-requires
+    (λ c κs. search needs)
     enum-known-x
     enum-told
     same-length

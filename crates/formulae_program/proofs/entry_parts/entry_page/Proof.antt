@@ -10,50 +10,88 @@ use Rattle.formulae_program.proofs.entry_parts.entry_page.Reads as read
 use Rattle.formulae_program.proofs.entry_parts.entry_page.Lts as lts
 use Rattle.formulae_text.proofs.entry_formulae.Reads as entry-formulae-reads
 
-add-at : tie.Need-add-at
-add-at c = search needs
-
 mul-at : tie.Need-mul-at
-mul-at c = let h = entry-in (c .before .before .before .before .before .args .plan) (c .before .before .before .before .before .args .gs .now) (c .before .before .before .before .before .args .ts .now) (c .before .before .before .before .before .args .listing .now) (c .before .before .before .before .before .args .i) (c .before .before .before .before .before .pre .0) (c .before .before .before .before .before .pre .1) in let w = c .before .before .before .before .before .pre .0 .words in omega arith
+mul-at c =
+    let args = c .before .before .before .before .before .args in
+    let pre = c .before .before .before .before .before .pre in
+    let h = entry-in (args .plan) (args .gs .now) (args .ts .now) (args .listing .now) (args .i) (pre .0) (pre .1) in
+    let w = pre .0 .words in
+    omega arith
 
 add-at-2 : tie.Need-add-at-2
-add-at-2 c = let h = entry-in (c .before .before .before .before .before .before .args .plan) (c .before .before .before .before .before .before .args .gs .now) (c .before .before .before .before .before .before .args .ts .now) (c .before .before .before .before .before .before .args .listing .now) (c .before .before .before .before .before .before .args .i) (c .before .before .before .before .before .before .pre .0) (c .before .before .before .before .before .before .pre .1) in let w = c .before .before .before .before .before .before .pre .0 .words in omega arith
+add-at-2 c =
+    let args = c .before .before .before .before .before .before .args in
+    let pre = c .before .before .before .before .before .before .pre in
+    let h = entry-in (args .plan) (args .gs .now) (args .ts .now) (args .listing .now) (args .i) (pre .0) (pre .1) in
+    let w = pre .0 .words in
+    omega arith
 
 slice-aggregate-entry-formulae : tie.Need-slice-aggregate-entry-formulae
-slice-aggregate-entry-formulae c = let g = c .before .before .before .before .before .before .before .pre .0 .generators in sym (length-take-le (c .before .before .before .before .before .before .before .args .plan .generators) (c .before .before .before .before .before .before .before .args .gs .now) (omega arith))
+slice-aggregate-entry-formulae c =
+    let args = c .before .before .before .before .before .before .before .args in
+    let pre = c .before .before .before .before .before .before .before .pre in
+    let g = pre .0 .generators in sym (length-take-le (args .plan .generators) (args .gs .now) (omega arith))
 
 slice-aggregate-entry-formulae-2 : tie.Need-slice-aggregate-entry-formulae-2
-slice-aggregate-entry-formulae-2 c = let g = c .before .before .before .before .before .before .before .before .pre .0 .targets in sym (length-take-le (c .before .before .before .before .before .before .before .before .args .plan .targets) (c .before .before .before .before .before .before .before .before .args .ts .now) (omega arith))
+slice-aggregate-entry-formulae-2 c =
+    let args = c .before .before .before .before .before .before .before .before .args in
+    let pre = c .before .before .before .before .before .before .before .before .pre in
+    let g = pre .0 .targets in sym (length-take-le (args .plan .targets) (args .ts .now) (omega arith))
 
 add-entry-formulae : tie.Need-add-entry-formulae
-add-entry-formulae c = let h = entry-in (c .before .before .before .before .before .before .before .before .args .plan) (c .before .before .before .before .before .before .before .before .args .gs .now) (c .before .before .before .before .before .before .before .before .args .ts .now) (c .before .before .before .before .before .before .before .before .args .listing .now) (c .before .before .before .before .before .before .before .before .args .i) (c .before .before .before .before .before .before .before .before .pre .0) (c .before .before .before .before .before .before .before .before .pre .1) in let w = c .before .before .before .before .before .before .before .before .pre .0 .words in omega arith
+add-entry-formulae c =
+    let args = c .before .before .before .before .before .before .before .before .args in
+    let pre = c .before .before .before .before .before .before .before .before .pre in
+    let h = entry-in (args .plan) (args .gs .now) (args .ts .now) (args .listing .now) (args .i) (pre .0) (pre .1) in
+    let w = pre .0 .words in
+    omega arith
 
 mul-entry-formulae : tie.Need-mul-entry-formulae
-mul-entry-formulae c = let h = entry-in (c .before .before .before .before .before .before .before .before .args .plan) (c .before .before .before .before .before .before .before .before .args .gs .now) (c .before .before .before .before .before .before .before .before .args .ts .now) (c .before .before .before .before .before .before .before .before .args .listing .now) (c .before .before .before .before .before .before .before .before .args .i) (c .before .before .before .before .before .before .before .before .pre .0) (c .before .before .before .before .before .before .before .before .pre .1) in let w = c .before .before .before .before .before .before .before .before .pre .0 .words in omega arith
+mul-entry-formulae c =
+    let args = c .before .before .before .before .before .before .before .before .args in
+    let pre = c .before .before .before .before .before .before .before .before .pre in
+    let h = entry-in (args .plan) (args .gs .now) (args .ts .now) (args .listing .now) (args .i) (pre .0) (pre .1) in
+    let w = pre .0 .words in
+    omega arith
 
 sub-entry-formulae : tie.Need-sub-entry-formulae
-sub-entry-formulae c = let h = entry-in (c .before .before .before .before .before .before .before .before .args .plan) (c .before .before .before .before .before .before .before .before .args .gs .now) (c .before .before .before .before .before .before .before .before .args .ts .now) (c .before .before .before .before .before .before .before .before .args .listing .now) (c .before .before .before .before .before .before .before .before .args .i) (c .before .before .before .before .before .before .before .before .pre .0) (c .before .before .before .before .before .before .before .before .pre .1) in let w = c .before .before .before .before .before .before .before .before .pre .0 .words in omega arith
+sub-entry-formulae c =
+    let args = c .before .before .before .before .before .before .before .before .args in
+    let pre = c .before .before .before .before .before .before .before .before .pre in
+    let h = entry-in (args .plan) (args .gs .now) (args .ts .now) (args .listing .now) (args .i) (pre .0) (pre .1) in
+    let w = pre .0 .words in
+    omega arith
 
 part-entry-formulae-start : tie.Need-part-entry-formulae-start
-part-entry-formulae-start c = let h = entry-in (c .before .before .before .before .before .before .before .before .args .plan) (c .before .before .before .before .before .before .before .before .args .gs .now) (c .before .before .before .before .before .before .before .before .args .ts .now) (c .before .before .before .before .before .before .before .before .args .listing .now) (c .before .before .before .before .before .before .before .before .args .i) (c .before .before .before .before .before .before .before .before .pre .0) (c .before .before .before .before .before .before .before .before .pre .1) in let w = c .before .before .before .before .before .before .before .before .pre .0 .words in omega arith
+part-entry-formulae-start c =
+    let args = c .before .before .before .before .before .before .before .before .args in
+    let pre = c .before .before .before .before .before .before .before .before .pre in
+    let h = entry-in (args .plan) (args .gs .now) (args .ts .now) (args .listing .now) (args .i) (pre .0) (pre .1) in
+    let w = pre .0 .words in
+    omega arith
 
 part-entry-formulae-end : tie.Need-part-entry-formulae-end
-part-entry-formulae-end c = let h = entry-in (c .before .before .before .before .before .before .before .before .args .plan) (c .before .before .before .before .before .before .before .before .args .gs .now) (c .before .before .before .before .before .before .before .before .args .ts .now) (c .before .before .before .before .before .before .before .before .args .listing .now) (c .before .before .before .before .before .before .before .before .args .i) (c .before .before .before .before .before .before .before .before .pre .0) (c .before .before .before .before .before .before .before .before .pre .1) in let w = c .before .before .before .before .before .before .before .before .pre .0 .words in omega arith
-
-entry-formulae-requires : tie.Need-entry-formulae-requires
-entry-formulae-requires c κs = search needs
+part-entry-formulae-end c =
+    let args = c .before .before .before .before .before .before .before .before .args in
+    let pre = c .before .before .before .before .before .before .before .before .pre in
+    let h = entry-in (args .plan) (args .gs .now) (args .ts .now) (args .listing .now) (args .i) (pre .0) (pre .1) in
+    let w = pre .0 .words in
+    omega arith
 
 same-length : tie.Need-same-length
 same-length c = c .before .before .entry-formulae .kept .1 .1 .1 .1 .1 .1 .1 .1 .0
 
 returns : tie.Need-returns
-returns c = entry-said (c .before .before .before .before .before .before .before .before .before .before .before .before .before .args .plan) (c .before .before .before .before .before .before .before .before .before .before .before .before .before .args .gs .now) (c .before .before .before .before .before .before .before .before .before .before .before .before .before .args .ts .now) (c .before .before .before .before .before .before .before .before .before .before .before .before .before .args .listing .now) (c .before .before .before .before .before .before .before .before .before .before .before .before .before .args .i) _ _ (c .before .before .entry-formulae .ensures)
+returns c =
+    let far = c .before .before .before .before .before .before .before .before .before .before .before .before in
+    let args = far .before .args in
+    entry-said (args .plan) (args .gs .now) (args .ts .now) (args .listing .now) (args .i) _ _ (c .before .before .entry-formulae .ensures)
 
 pub entry-page-spec : {M : Type 1} → statement M
 entry-page-spec =
     tie.close
     (tie.spec
-    add-at
+    (λ c. search needs)
     mul-at
     add-at-2
     slice-aggregate-entry-formulae
@@ -63,6 +101,6 @@ entry-page-spec =
     sub-entry-formulae
     part-entry-formulae-start
     part-entry-formulae-end
-    entry-formulae-requires
+    (λ c κs. search needs)
     same-length
     returns)

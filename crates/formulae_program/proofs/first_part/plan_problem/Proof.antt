@@ -41,7 +41,16 @@ same-length-2 : tie.Need-same-length-2
 same-length-2 c = c .before .before .plan-refused .kept .1 .0
 
 returns : tie.Need-returns
-returns c = starts-refused (c .before .before .before .before .before .before .before .before .before .before .before .before .before .before .before .before .args .kind) (c .before .before .before .before .before .before .before .before .before .before .before .before .before .before .before .before .args .p) (c .before .before .before .before .before .before .before .before .before .before .before .before .before .before .before .before .args .q) (c .before .before .before .before .before .before .before .before .before .before .before .before .before .before .before .before .args .r) (c .before .before .before .before .before .before .before .before .before .before .before .before .before .before .before .before .args .k) (c .before .before .before .before .before .before .before .before .before .before .before .before .before .before .before .before .args .gs .now) (c .before .before .before .before .before .before .before .before .before .before .before .before .before .before .before .before .args .ts .now) _ (c .before .before .before .before .before .before .before .before .before .catalogue .result) (c .before .before .before .before .before .before .before .before .before .before .before .before .before .before .before .before .args .listing .now) _ (record { named = c .before .before .before .before .before .before .before .before .before .before .before .number-of .ensures; blank = c .before .before .before .before .before .before .before .before .before .before .before .before .before .before .before .before .pre .0; answer = c .before .before .before .before .before .before .before .before .before .catalogue .ensures .0; same = c .before .before .before .before .before .before .before .before .before .catalogue .kept .1 .1 .1 .1 .1 .1 .1 .0 }) (c .before .before .before .before .before .e .given .0 .0) (c .before .before .before .before .before .e .given .1) _ _ (c .before .before .plan-refused .ensures)
+returns c =
+    let far = c .before .before .before .before .before .before .before .before .before .before .before .before in
+    let args = far .before .before .before .before .args in
+    let pre = far .before .before .before .before .pre in
+    let number-of = c .before .before .before .before .before .before .before .before .before .before .before .number-of in
+    let catalogue = c .before .before .before .before .before .before .before .before .before .catalogue in
+    let e = c .before .before .before .before .before .e in
+    starts-refused (args .kind) (args .p) (args .q) (args .r) (args .k) (args .gs .now) (args .ts .now) _ (catalogue .result) (args .listing .now) _
+    (record { named = number-of .ensures; blank = pre .0; answer = catalogue .ensures .0; same = catalogue .kept .1 .1 .1 .1 .1 .1 .1 .0 })
+    (e .given .0 .0) (e .given .1) _ _ (c .before .before .plan-refused .ensures)
 
 same-length-3 : tie.Need-same-length-3
 same-length-3 c = c .before .before .before .before .before .before .before .before .before .before .catalogue .kept .1 .1 .1 .1 .1 .1 .1 .0
@@ -50,7 +59,31 @@ same-length-4 : tie.Need-same-length-4
 same-length-4 c = c .before .before .before .put-head .kept .1 .1 .1 .1 .1 .1 .1 .1 .0
 
 returns-2 : tie.Need-returns-2
-returns-2 c = starts-listed (c .before .before .before .before .before .before .before .before .before .before .before .before .before .before .before .before .before .args .kind) (c .before .before .before .before .before .before .before .before .before .before .before .before .before .before .before .before .before .args .p) (c .before .before .before .before .before .before .before .before .before .before .before .before .before .before .before .before .before .args .q) (c .before .before .before .before .before .before .before .before .before .before .before .before .before .before .before .before .before .args .r) (c .before .before .before .before .before .before .before .before .before .before .before .before .before .before .before .before .before .args .k) (c .before .before .before .before .before .before .before .before .before .before .before .before .before .before .before .before .before .args .gs .now) (c .before .before .before .before .before .before .before .before .before .before .before .before .before .before .before .before .before .args .ts .now) _ (c .before .before .before .before .before .before .before .before .before .before .catalogue .result) (c .before .before .before .before .before .before .before .before .before .before .before .before .before .before .before .before .before .args .listing .now) _ (record { named = c .before .before .before .before .before .before .before .before .before .before .before .before .number-of .ensures; blank = c .before .before .before .before .before .before .before .before .before .before .before .before .before .before .before .before .before .pre .0; answer = c .before .before .before .before .before .before .before .before .before .before .catalogue .ensures .0; same = c .before .before .before .before .before .before .before .before .before .before .catalogue .kept .1 .1 .1 .1 .1 .1 .1 .0 }) (c .before .before .before .before .before .before .ell .given .0 .0) (c .before .before .before .before .before .before .ell .given .0 .1 .0) (c .before .before .before .before .before .before .ell .given .0 .1 .1 .0) (c .before .before .before .before .before .before .ell .given .1) _ _ (record { number = c .before .before .before .before .before .before .before .before .before .before .before .before .number-of .ensures; p = refl; q = refl; r = refl; generators = take-length (c .before .before .before .before .before .before .before .before .before .before .before .before .before .before .before .before .before .args .gs .now); targets = take-length (c .before .before .before .before .before .before .before .before .before .before .before .before .before .before .before .before .before .args .ts .now); numbers = c .extension-length .ensures; rows = refl; shown = refl; buffer = refl }) (omega arith) (omega arith) (c .before .before .before .put-head .ensures)
+returns-2 c =
+    let far = c .before .before .before .before .before .before .before .before .before .before .before .before in
+    let args = far .before .before .before .before .before .args in
+    let pre = far .before .before .before .before .before .pre in
+    let number-of = c .before .before .before .before .before .before .before .before .before .before .before .before .number-of in
+    let catalogue = c .before .before .before .before .before .before .before .before .before .before .catalogue in
+    let ell = c .before .before .before .before .before .before .ell in
+    let put-head = c .before .before .before .put-head in
+    starts-listed (args .kind) (args .p) (args .q) (args .r) (args .k) (args .gs .now) (args .ts .now) _ (catalogue .result) (args .listing .now) _
+    (record { named = number-of .ensures; blank = pre .0; answer = catalogue .ensures .0; same = catalogue .kept .1 .1 .1 .1 .1 .1 .1 .0 })
+    (ell .given .0 .0) (ell .given .0 .1 .0) (ell .given .0 .1 .1 .0) (ell .given .1) _ _
+    (record {
+      number = number-of .ensures;
+      p = refl;
+      q = refl;
+      r = refl;
+      generators = take-length (args .gs .now);
+      targets = take-length
+          (args .ts .now);
+      numbers = c .extension-length .ensures;
+      rows = refl;
+      shown = refl;
+      buffer = refl;
+    }) (omega arith) (omega arith)
+    (put-head .ensures)
 
 pub plan-problem-spec : {M : Type 1} → statement M
 plan-problem-spec =

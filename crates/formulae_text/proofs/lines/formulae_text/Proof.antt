@@ -8,18 +8,13 @@ use Rattle.formulae_text.proofs.lines.formulae_text.Lts as lts
 use Rattle.formulae_text.proofs.lines.put_formulae.Reads as put-formulae-reads
 use Rattle.formulae_text.proofs.lines.put_left.Reads as put-left-reads
 
-put-formulae-requires : tie.Need-put-formulae-requires
-put-formulae-requires c κs = search needs
-
-put-left-requires : tie.Need-put-left-requires
-put-left-requires c κs = search needs
-
-same-length : tie.Need-same-length
-same-length c = search needs
-
 returns : tie.Need-returns
-returns c = text-put (c .before .before .before .before .before .before .before .before .before .before .args .entry) (c .before .before .before .before .before .before .before .before .before .before .args .k) (c .before .before .before .before .before .before .before .before .before .before .args .t) (c .before .before .before .before .before .before .before .before .before .before .args .n) (c .before .before .before .before .before .before .before .before .before .before .args .whole) (c .before .before .before .before .before .before .before .before .before .before .args .listing .now) _ _ (c .before .before .before .before .before .before .before .before .before .before .args .out .now) _ _ (c .before .before .before .before .before .before .put-formulae .ensures) (c .before .before .put-left .ensures)
+returns c =
+    let args = c .before .before .before .before .before .before .before .before .before .before .args in
+    let put-formulae = c .before .before .before .before .before .before .put-formulae in
+    text-put (args .entry) (args .k) (args .t) (args .n) (args .whole) (args .listing .now) _ _ (args .out .now) _ _ (put-formulae .ensures)
+    (c .before .before .put-left .ensures)
 
 pub formulae-text-spec : {M : Type 1} → statement M
 formulae-text-spec =
-    tie.close (tie.spec put-formulae-requires put-left-requires same-length returns)
+    tie.close (tie.spec (λ c κs. search needs) (λ c κs. search needs) (λ c. search needs) returns)

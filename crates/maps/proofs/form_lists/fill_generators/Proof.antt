@@ -19,7 +19,9 @@ loop-holds : tie.Need-loop-holds Inv-loop μ-loop
 loop-holds c = let a = c .before .args in (omega arith, refl, listed-none (generatorForm (a .n) (a .m)) (a .c) (a .g .now))
 
 generator-form-requires : tie.Need-generator-form-requires Inv-loop μ-loop
-generator-form-requires c κs = record { below = (let e = c .before .before .before .pre .count in omega arith); few = (let e = c .before .before .before .pre .count in let f = c .before .before .before .pre .few in omega arith) }
+generator-form-requires c κs =
+    let pre = c .before .before .before .pre in
+    record { below = (let e = pre .count in omega arith); few = (let e = pre .count in let f = pre .few in omega arith) }
 
 mul-g : tie.Need-mul-g Inv-loop μ-loop
 mul-g c = let f = c .before .before .before .before .pre .few in omega arith
@@ -30,17 +32,17 @@ slice-write-g c = let f = c .before .before .before .before .pre .room in omega 
 add-j : tie.Need-add-j Inv-loop μ-loop
 add-j c = let f = c .before .before .before .before .pre .few in omega arith
 
-loop-less : tie.Need-loop-less Inv-loop μ-loop
-loop-less c = omega arith
-
 loop-again : tie.Need-loop-again Inv-loop μ-loop
 loop-again c =
-    let a = c .before .before .before .before .args in
+    let args = c .before .before .before .before .args in
+    let pre = c .before .before .before .before .pre in
+    let a = args in
     let l = c .before .before .loop in
-    let f = c .before .before .before .before .pre .room in (
+    let f = pre .room in (
       omega arith,
       length-set (l .g) (l .j) (c .generator-form .result) ∙ l .inv .1,
-      listed-next (generatorForm (a .n) (a .m)) (l .j) (a .c) (c .generator-form .result) (l .g) (listOf (generatorForm (a .n) (a .m)) 0 (a .c)) (omega arith) (omega arith) (c .generator-form .ensures) (l .inv .2),
+      listed-next (generatorForm (a .n) (a .m)) (l .j) (a .c) (c .generator-form .result) (l .g) (listOf (generatorForm (a .n) (a .m)) 0 (a .c))
+          (omega arith) (omega arith) (c .generator-form .ensures) (l .inv .2),
     )
 
 same-length : tie.Need-same-length Inv-loop μ-loop
@@ -65,7 +67,7 @@ fill-generators-spec =
     mul-g
     slice-write-g
     add-j
-    loop-less
+    (λ c. omega arith)
     loop-again
     same-length
     returns)

@@ -25,26 +25,38 @@ target-requires : tie.Need-target-requires Inv-loop μ-loop
 target-requires c κs = record { outputs = c .before .before .before .args .u; sized = c .before .before .before .pre .sized; asked = omega arith }
 
 mul-t : tie.Need-mul-t Inv-loop μ-loop
-mul-t c = let a = c .before .before .before .before .args in let b = sizes-bounds (a .kind) (a .p) (a .q) (a .r) (a .n, a .m, a .u) (c .before .before .before .before .pre .sized) .most-outputs in omega arith
+mul-t c =
+    let args = c .before .before .before .before .args in
+    let pre = c .before .before .before .before .pre in
+    let a = args in let b = sizes-bounds (a .kind) (a .p) (a .q) (a .r) (a .n, a .m, a .u) (pre .sized) .most-outputs in omega arith
 
 slice-write-t : tie.Need-slice-write-t Inv-loop μ-loop
-slice-write-t c = let a = c .before .before .before .before .args in let b = sizes-bounds (a .kind) (a .p) (a .q) (a .r) (a .n, a .m, a .u) (c .before .before .before .before .pre .sized) .most-outputs in let f = c .before .before .before .before .pre .room in omega arith
+slice-write-t c =
+    let args = c .before .before .before .before .args in
+    let pre = c .before .before .before .before .pre in
+    let a = args in
+    let b = sizes-bounds (a .kind) (a .p) (a .q) (a .r) (a .n, a .m, a .u) (pre .sized) .most-outputs in
+    let f = pre .room in
+    omega arith
 
 add-i : tie.Need-add-i Inv-loop μ-loop
-add-i c = let a = c .before .before .before .before .args in let b = sizes-bounds (a .kind) (a .p) (a .q) (a .r) (a .n, a .m, a .u) (c .before .before .before .before .pre .sized) .most-outputs in omega arith
-
-loop-less : tie.Need-loop-less Inv-loop μ-loop
-loop-less c = omega arith
+add-i c =
+    let args = c .before .before .before .before .args in
+    let pre = c .before .before .before .before .pre in
+    let a = args in let b = sizes-bounds (a .kind) (a .p) (a .q) (a .r) (a .n, a .m, a .u) (pre .sized) .most-outputs in omega arith
 
 loop-again : tie.Need-loop-again Inv-loop μ-loop
 loop-again c =
-    let a = c .before .before .before .before .args in
+    let args = c .before .before .before .before .args in
+    let pre = c .before .before .before .before .pre in
+    let a = args in
     let l = c .before .before .loop in
-    let b = sizes-bounds (a .kind) (a .p) (a .q) (a .r) (a .n, a .m, a .u) (c .before .before .before .before .pre .sized) .most-outputs in
-    let f = c .before .before .before .before .pre .room in (
+    let b = sizes-bounds (a .kind) (a .p) (a .q) (a .r) (a .n, a .m, a .u) (pre .sized) .most-outputs in
+    let f = pre .room in (
       omega arith,
       length-set (l .t) (l .i) (c .target .result) ∙ l .inv .1,
-      listed-next (targetForm (a .kind) (a .p) (a .q) (a .r) (a .n) (a .m)) (l .i) (a .u) (c .target .result) (l .t) (listOf (targetForm (a .kind) (a .p) (a .q) (a .r) (a .n) (a .m)) 0 (a .u)) (omega arith) (omega arith) (c .target .ensures) (l .inv .2),
+      listed-next (targetForm (a .kind) (a .p) (a .q) (a .r) (a .n) (a .m)) (l .i) (a .u) (c .target .result) (l .t)
+          (listOf (targetForm (a .kind) (a .p) (a .q) (a .r) (a .n) (a .m)) 0 (a .u)) (omega arith) (omega arith) (c .target .ensures) (l .inv .2),
     )
 
 same-length : tie.Need-same-length Inv-loop μ-loop
@@ -52,9 +64,11 @@ same-length c = c .before .loop .inv .1
 
 returns : tie.Need-returns Inv-loop μ-loop
 returns c =
-    let a = c .before .before .before .args in
+    let args = c .before .before .before .args in
+    let a = args in
     let l = c .before .loop in
-    listed-end (targetForm (a .kind) (a .p) (a .q) (a .r) (a .n) (a .m)) (l .i) (a .u) (l .t) (listOf (targetForm (a .kind) (a .p) (a .q) (a .r) (a .n) (a .m)) 0 (a .u)) (omega arith) (omega arith) (l .inv .2)
+    listed-end (targetForm (a .kind) (a .p) (a .q) (a .r) (a .n) (a .m)) (l .i) (a .u) (l .t)
+    (listOf (targetForm (a .kind) (a .p) (a .q) (a .r) (a .n) (a .m)) 0 (a .u)) (omega arith) (omega arith) (l .inv .2)
 
 pub fill-targets-spec : {M : Type 1} → statement M
 fill-targets-spec =
@@ -67,7 +81,7 @@ fill-targets-spec =
     mul-t
     slice-write-t
     add-i
-    loop-less
+    (λ c. omega arith)
     loop-again
     same-length
     returns)

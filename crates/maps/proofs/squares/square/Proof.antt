@@ -5,9 +5,6 @@ use Rattle.maps.specs.Squares.{table-end, squares-rule}
 use Rattle.maps.proofs.squares.square.Statement.{statement}
 use Rattle.maps.proofs.squares.square.Tie as tie
 
-sub-d : tie.Need-sub-d
-sub-d c = search needs
-
 mul-at : tie.Need-mul-at
 mul-at c = record { fits = omega (arith, table-end (c .args .s) (c .args .t) (c .pre)) }
 
@@ -24,4 +21,4 @@ returns : tie.Need-returns
 returns c = squares-rule (c .args .s) (c .args .t) (c .pre .some) (c .pre .most) (c .pre .coefficient)
 
 pub square-spec : {M : Type 1} → statement M
-square-spec = tie.close (tie.spec sub-d mul-at add-at mul-result array-read-result returns)
+square-spec = tie.close (tie.spec (λ c. search needs) mul-at add-at mul-result array-read-result returns)

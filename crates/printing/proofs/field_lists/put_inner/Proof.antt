@@ -13,55 +13,61 @@ use Rattle.printing.proofs.field_lists.put_spaced.Reads as put-spaced-r
 use Rattle.printing.proofs.put_bytes.Reads as put-bytes-reads
 use Rattle.printing.proofs.put_number.Reads as put-number-reads
 
-slice-aggregate-put-bytes : tie.Need-slice-aggregate-put-bytes
-slice-aggregate-put-bytes c = search needs
-
-put-bytes-requires : tie.Need-put-bytes-requires
-put-bytes-requires c κs = search needs
-
-same-length : tie.Need-same-length
-same-length c = search needs
-
 returns : tie.Need-returns
-returns c = inner-none (c .before .before .before .before .before .before .before .before .args .xs .now) (c .before .before .before .before .before .before .before .before .args .base) (c .before .before .before .before .before .before .before .before .args .most) (c .before .before .before .before .before .before .before .before .args .at) _ (c .before .before .before .before .before .before .before .before .args .out .now) _ (c .before .before .before .before .before .if1 .taken) (c .before .before .put-bytes .ensures)
-
-shared-slice-read-put-number : tie.Need-shared-slice-read-put-number
-shared-slice-read-put-number c = search needs
+returns c =
+    let args = c .before .before .before .before .before .before .before .before .args in
+    let if1 = c .before .before .before .before .before .if1 in
+    inner-none (args .xs .now) (args .base) (args .most) (args .at) _ (args .out .now) _ (if1 .taken) (c .before .before .put-bytes .ensures)
 
 put-number-requires : tie.Need-put-number-requires
-put-number-requires c κs = let b = c .before .before .before .before .before .pre .some in let d = c .before .before .before .before .before .pre .small in let f = c .before .before .before .before .before .pre .few in let p = c .before .before .before .before .before .pre .place in (b, d, omega arith)
-
-sub-put-spaced : tie.Need-sub-put-spaced
-sub-put-spaced c = search needs
-
-part-put-spaced-start : tie.Need-part-put-spaced-start
-part-put-spaced-start c = search needs
-
-part-put-spaced-end : tie.Need-part-put-spaced-end
-part-put-spaced-end c = search needs
+put-number-requires c κs =
+    let pre = c .before .before .before .before .before .pre in
+    let b = pre .some in let d = pre .small in let f = pre .few in let p = pre .place in (b, d, omega arith)
 
 put-spaced-requires : tie.Need-put-spaced-requires
-put-spaced-requires c κs = let b = c .before .before .before .before .before .before .before .before .before .before .pre .some in let d = c .before .before .before .before .before .before .before .before .before .before .pre .small in let f = c .before .before .before .before .before .before .before .before .before .before .pre .few in let p = c .before .before .before .before .before .before .before .before .before .before .pre .place in let s = c .before .before .before .before .before .before .before .before .before .before .pre .short in let e = c .before .before .before .before .put-number .ensures .0 in let q = printed-fits (c .before .before .before .before .before .before .before .before .before .before .args .base) (c .before .before .before .before .before .before .before .before .before .before .args .most) (getD (c .before .before .before .before .before .before .before .before .before .before .args .xs .now) 0 0) in record { some = b; small = d; few = f; place = omega arith; short = omega (arith, s, length-take (length (c .before .before .before .before .before .before .before .before .before .before .args .xs .now) - 1) (drop 1 (c .before .before .before .before .before .before .before .before .before .before .args .xs .now))) }
-
-same-length-2 : tie.Need-same-length-2
-same-length-2 c = search needs
+put-spaced-requires c κs =
+    let args = c .before .before .before .before .before .before .before .before .before .before .args in
+    let pre = c .before .before .before .before .before .before .before .before .before .before .pre in
+    let put-number = c .before .before .before .before .put-number in
+    let b = pre .some in
+    let d = pre .small in
+    let f = pre .few in
+    let p = pre .place in
+    let s = pre .short in
+    let e = put-number .ensures .0 in
+    let q = printed-fits (args .base) (args .most) (getD (args .xs .now) 0 0) in
+    record {
+      some = b;
+      small = d;
+      few = f;
+      place = omega arith;
+      short = omega
+          (arith, s, length-take (length (args .xs .now) - 1) (drop 1 (args .xs .now)));
+    }
 
 returns-2 : tie.Need-returns-2
-returns-2 c = inner-some (c .before .before .before .before .before .before .before .before .before .before .before .before .before .args .xs .now) (c .before .before .before .before .before .before .before .before .before .before .before .before .before .args .base) (c .before .before .before .before .before .before .before .before .before .before .before .before .before .args .most) (c .before .before .before .before .before .before .before .before .before .before .before .before .before .args .at) _ _ (c .before .before .before .before .before .before .before .before .before .before .before .before .before .args .out .now) _ _ (c .before .before .before .before .before .before .before .before .before .before .if1 .left) (c .before .before .before .before .before .before .before .before .before .before .before .before .before .pre .few) (c .before .before .before .before .before .before .before .put-number .ensures) (c .before .before .put-spaced .ensures)
+returns-2 c =
+    let far = c .before .before .before .before .before .before .before .before .before .before .before .before in
+    let args = far .before .args in
+    let pre = far .before .pre in
+    let if1 = c .before .before .before .before .before .before .before .before .before .before .if1 in
+    let put-number = c .before .before .before .before .before .before .before .put-number in
+    inner-some (args .xs .now) (args .base) (args .most) (args .at) _ _ (args .out .now) _ _ (if1 .left) (pre .few) (put-number .ensures)
+    (c .before .before .put-spaced .ensures)
 
 pub put-inner-spec : {M : Type 1} → statement M
 put-inner-spec =
     tie.close
     (tie.spec
-    slice-aggregate-put-bytes
-    put-bytes-requires
-    same-length
+    (λ c. search needs)
+    (λ c κs. search needs)
+    (λ c. search needs)
     returns
-    shared-slice-read-put-number
+    (λ c. search needs)
     put-number-requires
-    sub-put-spaced
-    part-put-spaced-start
-    part-put-spaced-end
+    (λ c. search needs)
+    (λ c. search needs)
+    (λ c. search needs)
     put-spaced-requires
-    same-length-2
+    (λ c. search needs)
     returns-2)

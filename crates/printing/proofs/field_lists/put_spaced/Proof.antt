@@ -21,35 +21,47 @@ abbrev μ-loop : tie.MeasureT-loop
 loop-holds : tie.Need-loop-holds Inv-loop μ-loop
 loop-holds c = spacing-start (c .before .before .args .xs .now) (c .before .before .args .base) (c .before .before .args .most) (c .before .before .args .out .now) (c .before .before .args .at)
 
-put-byte-requires : tie.Need-put-byte-requires Inv-loop μ-loop
-put-byte-requires c κs = search needs
-
-mul-put-number : tie.Need-mul-put-number Inv-loop μ-loop
-mul-put-number c = omega arith
-
-shared-slice-read-put-number : tie.Need-shared-slice-read-put-number Inv-loop μ-loop
-shared-slice-read-put-number c = omega arith
-
 add-put-number : tie.Need-add-put-number Inv-loop μ-loop
-add-put-number c = let S = c .before .before .before .before .before .before .before .loop .inv in let a = S .is .after in let m = S .is .most in let w = S .within in let p = c .before .before .before .before .before .before .before .before .before .before .pre .place in let s = c .before .before .before .before .before .before .before .before .before .before .pre .short in omega arith
+add-put-number c =
+    let pre = c .before .before .before .before .before .before .before .before .before .before .pre in
+    let loop = c .before .before .before .before .before .before .before .loop in
+    let S = loop .inv in let a = S .is .after in let m = S .is .most in let w = S .within in let p = pre .place in let s = pre .short in omega arith
 
 put-number-requires : tie.Need-put-number-requires Inv-loop μ-loop
-put-number-requires c κs = let S = c .before .before .before .before .before .before .before .loop .inv in let a = S .is .after in let m = S .is .most in let w = S .within in let p = c .before .before .before .before .before .before .before .before .before .before .pre .place in let s = c .before .before .before .before .before .before .before .before .before .before .pre .short in let b = c .before .before .before .before .before .before .before .before .before .before .pre .some in let d = c .before .before .before .before .before .before .before .before .before .before .pre .small in let f = c .before .before .before .before .before .before .before .before .before .before .pre .few in (b, d, omega arith)
-
-add-i : tie.Need-add-i Inv-loop μ-loop
-add-i c = omega arith
-
-loop-less : tie.Need-loop-less Inv-loop μ-loop
-loop-less c = omega arith
+put-number-requires c κs =
+    let pre = c .before .before .before .before .before .before .before .before .before .before .pre in
+    let loop = c .before .before .before .before .before .before .before .loop in
+    let S = loop .inv in
+    let a = S .is .after in
+    let m = S .is .most in
+    let w = S .within in
+    let p = pre .place in
+    let s = pre .short in
+    let b = pre .some in
+    let d = pre .small in
+    let f = pre .few in
+    (b, d, omega arith)
 
 loop-again : tie.Need-loop-again Inv-loop μ-loop
-loop-again c = spacing-next (c .before .before .before .before .before .before .before .before .before .before .before .before .before .args .xs .now) (c .before .before .before .before .before .before .before .before .before .before .before .before .before .args .base) (c .before .before .before .before .before .before .before .before .before .before .before .before .before .args .most) (c .before .before .before .before .before .before .before .before .before .before .before .before .before .args .out .now) (c .before .before .before .before .before .before .before .before .before .before .before .before .before .args .at) (c .before .before .before .before .before .before .before .before .before .before .loop .out) _ _ (c .before .before .before .before .before .before .before .before .before .before .loop .e) _ (c .before .before .before .before .before .before .before .before .before .before .loop .i) (c .before .before .before .before .before .before .before .before .before .before .loop .inv) (c .before .before .before .before .before .before .before .before .before .loop-test .taken) (c .before .before .before .before .before .before .before .before .before .before .before .before .before .pre .few) (c .before .before .before .before .before .before .before .put-byte .ensures) (c .before .before .put-number .ensures) (c .before .before .put-number .kept .1 .1 .1 .0 ∙ c .before .before .before .before .before .before .before .put-byte .kept .0)
+loop-again c =
+    let far = c .before .before .before .before .before .before .before .before .before .before .before .before in
+    let args = far .before .args in
+    let pre = far .before .pre in
+    let loop = c .before .before .before .before .before .before .before .before .before .before .loop in
+    let loop-test = c .before .before .before .before .before .before .before .before .before .loop-test in
+    let put-byte = c .before .before .before .before .before .before .before .put-byte in
+    let put-number = c .before .before .put-number in
+    spacing-next (args .xs .now) (args .base) (args .most) (args .out .now) (args .at) (loop .out) _ _ (loop .e) _ (loop .i) (loop .inv)
+    (loop-test .taken) (pre .few) (put-byte .ensures) (put-number .ensures) (put-number .kept .1 .1 .1 .0 ∙ put-byte .kept .0)
 
 same-length : tie.Need-same-length Inv-loop μ-loop
 same-length c = c .before .loop .inv .same
 
 returns : tie.Need-returns Inv-loop μ-loop
-returns c = spacing-end (c .before .before .before .before .args .xs .now) (c .before .before .before .before .args .base) (c .before .before .before .before .args .most) (c .before .before .before .before .args .out .now) (c .before .before .before .before .args .at) (c .before .loop .out) (c .before .loop .e) (c .before .loop .i) (c .before .loop .inv) (omega arith)
+returns c =
+    let args = c .before .before .before .before .args in
+    spacing-end (args .xs .now) (args .base) (args .most) (args .out .now) (args .at) (c .before .loop .out) (c .before .loop .e) (c .before .loop .i)
+    (c .before .loop .inv) (omega arith)
 
 pub put-spaced-spec : {M : Type 1} → statement M
 put-spaced-spec =
@@ -58,13 +70,13 @@ put-spaced-spec =
     Inv-loop
     μ-loop
     loop-holds
-    put-byte-requires
-    mul-put-number
-    shared-slice-read-put-number
+    (λ c κs. search needs)
+    (λ c. omega arith)
+    (λ c. omega arith)
     add-put-number
     put-number-requires
-    add-i
-    loop-less
+    (λ c. omega arith)
+    (λ c. omega arith)
     loop-again
     same-length
     returns)

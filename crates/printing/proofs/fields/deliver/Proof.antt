@@ -9,12 +9,6 @@ returns c =
     let args = c .before .before .before .args in
     deliver-none (args .s .now) (args .out .now) (c .if1 .taken)
 
-put-bytes-requires : tie.Need-put-bytes-requires
-put-bytes-requires c κs = search needs
-
-same-length : tie.Need-same-length
-same-length c = search needs
-
 returns-2 : tie.Need-returns-2
 returns-2 c =
     let args = c .before .before .before .before .before .before .before .args in
@@ -23,4 +17,4 @@ returns-2 c =
     deliver-all (args .s .now) (args .out .now) _ _ (if1 .left) (put-bytes .ensures)
 
 pub deliver-spec : {M : Type 1} → statement M
-deliver-spec = tie.close (tie.spec returns put-bytes-requires same-length returns-2)
+deliver-spec = tie.close (tie.spec returns (λ c κs. search needs) (λ c. search needs) returns-2)

@@ -5,19 +5,10 @@ use Rattle.printing.specs.fields.laws.Pieces.{number-short, refused-put}
 use Rattle.printing.proofs.fields.put_refused.Statement.{statement}
 use Rattle.printing.proofs.fields.put_refused.Tie as tie
 
-slice-aggregate-put-bytes : tie.Need-slice-aggregate-put-bytes
-slice-aggregate-put-bytes c = search needs
-
-put-bytes-requires : tie.Need-put-bytes-requires
-put-bytes-requires c κs = search needs
-
 put-number-requires : tie.Need-put-number-requires
 put-number-requires c κs =
     let put-bytes = c .before .before .before .put-bytes in
     omega (arith, put-bytes .ensures .0)
-
-slice-aggregate-put-bytes-2 : tie.Need-slice-aggregate-put-bytes-2
-slice-aggregate-put-bytes-2 c = search needs
 
 put-bytes-requires-2 : tie.Need-put-bytes-requires-2
 put-bytes-requires-2 c κs =
@@ -25,9 +16,6 @@ put-bytes-requires-2 c κs =
     let put-number = c .before .before .before .before .put-number in
     let args = c .before .before .before .before .before .before .before .before .before .before .before .before .args in
     omega (arith, put-bytes .ensures .0, put-number .ensures .0, number-short (args .n))
-
-same-length : tie.Need-same-length
-same-length c = search needs
 
 returns : tie.Need-returns
 returns c =
@@ -41,10 +29,10 @@ pub put-refused-spec : {M : Type 1} → statement M
 put-refused-spec =
     tie.close
     (tie.spec
-    slice-aggregate-put-bytes
-    put-bytes-requires
+    (λ c. search needs)
+    (λ c κs. search needs)
     put-number-requires
-    slice-aggregate-put-bytes-2
+    (λ c. search needs)
     put-bytes-requires-2
-    same-length
+    (λ c. search needs)
     returns)

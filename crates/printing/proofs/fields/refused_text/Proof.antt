@@ -7,25 +7,10 @@ use Rattle.printing.specs.fields.laws.Pieces.{whole, deliver-told}
 use Rattle.printing.proofs.fields.refused_text.Statement.{statement}
 use Rattle.printing.proofs.fields.refused_text.Tie as tie
 
-slice-aggregate-put-refused : tie.Need-slice-aggregate-put-refused
-slice-aggregate-put-refused c = search needs
-
-put-refused-requires : tie.Need-put-refused-requires
-put-refused-requires c κs = search needs
-
-array-share-prefix-page : tie.Need-array-share-prefix-page
-array-share-prefix-page c = search needs
-
 slice-aggregate-deliver : tie.Need-slice-aggregate-deliver
 slice-aggregate-deliver c =
     let put-refused = c .before .before .put-refused in
     sym (length-take-le _ _ (omega (arith, put-refused .ensures .after, put-refused .ensures .most, put-refused .kept .1 .0)))
-
-deliver-requires : tie.Need-deliver-requires
-deliver-requires c κs = search needs
-
-same-length : tie.Need-same-length
-same-length c = search needs
 
 returns : tie.Need-returns
 returns c =
@@ -37,10 +22,10 @@ pub refused-text-spec : {M : Type 1} → statement M
 refused-text-spec =
     tie.close
     (tie.spec
-    slice-aggregate-put-refused
-    put-refused-requires
-    array-share-prefix-page
+    (λ c. search needs)
+    (λ c κs. search needs)
+    (λ c. search needs)
     slice-aggregate-deliver
-    deliver-requires
-    same-length
+    (λ c κs. search needs)
+    (λ c. search needs)
     returns)

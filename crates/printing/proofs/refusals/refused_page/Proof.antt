@@ -7,14 +7,11 @@ use Rattle.printing.proofs.refusals.refused_page.Reads as reads
 use Rattle.printing.proofs.refusals.refused_page.Lts as lts
 use Rattle.printing.proofs.fields.refused_text.Reads as refused-text-reads
 
-refused-text-requires : tie.Need-refused-text-requires
-refused-text-requires c κs = search needs
-
-same-length : tie.Need-same-length
-same-length c = search needs
-
 returns : tie.Need-returns
-returns c = refused-fits (c .before .before .before .before .before .args .n) _ (c .before .before .before .before .before .args .page .now) _ (c .before .before .before .before .before .pre) (c .before .before .refused-text .ensures)
+returns c =
+    let args = c .before .before .before .before .before .args in
+    let pre = c .before .before .before .before .before .pre in
+    refused-fits (args .n) _ (args .page .now) _ pre (c .before .before .refused-text .ensures)
 
 pub refused-page-spec : {M : Type 1} → statement M
-refused-page-spec = tie.close (tie.spec refused-text-requires same-length returns)
+refused-page-spec = tie.close (tie.spec (λ c κs. search needs) (λ c. search needs) returns)

@@ -7,12 +7,6 @@ use Rattle.problem_files.specs.handed_forms.laws.Lines.{map-many, map-mo
 use Rattle.problem_files.proofs.handed_forms.map_lines.Statement.{statement}
 use Rattle.problem_files.proofs.handed_forms.map_lines.Tie as tie
 
-generator-count-requires : tie.Need-generator-count-requires
-generator-count-requires c κs = search needs
-
-enum-known-c : tie.Need-enum-known-c
-enum-known-c c = search needs
-
 enum-told : tie.Need-enum-told
 enum-told c = search needs
 
@@ -20,12 +14,18 @@ returns : tie.Need-returns
 returns c = map-many _ _ (c .before .before .before .before .args .s .now) (c .before .before .generator-count .ensures ∙ ap seenCount (c .enum-told .given .1))
 
 returns-2 : tie.Need-returns-2
-returns-2 c = map-more _ _ (c .before .before .before .before .before .before .args .s .now) _ (c .before .before .before .before .generator-count .ensures ∙ ap seenCount (c .before .before .c .given .1)) (c .if1 .taken)
+returns-2 c =
+    let args = c .before .before .before .before .before .before .args in
+    let generator-count = c .before .before .before .before .generator-count in
+    map-more _ _ (args .s .now) _ (generator-count .ensures ∙ ap seenCount (c .before .before .c .given .1)) (c .if1 .taken)
 
 returns-3 : tie.Need-returns-3
-returns-3 c = map-none _ _ (c .before .before .before .before .before .before .args .s .now) _ (c .before .before .before .before .generator-count .ensures ∙ ap seenCount (c .before .before .c .given .1)) (omega (arith, c .if1))
+returns-3 c =
+    let args = c .before .before .before .before .before .before .args in
+    let generator-count = c .before .before .before .before .generator-count in
+    map-none _ _ (args .s .now) _ (generator-count .ensures ∙ ap seenCount (c .before .before .c .given .1)) (omega (arith, c .if1))
 
 pub map-lines-spec : {M : Type 1} → statement M
 map-lines-spec =
     tie.close
-    (tie.spec generator-count-requires enum-known-c enum-told returns returns-2 returns-3)
+    (tie.spec (λ c κs. search needs) (λ c. search needs) enum-told returns returns-2 returns-3)

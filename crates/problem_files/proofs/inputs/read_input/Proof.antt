@@ -20,7 +20,11 @@ same-length-2 : tie.Need-same-length-2
 same-length-2 c = c .before .before .before .before .read-problem .kept .1 .1 .1 .0
 
 returns-2 : tie.Need-returns-2
-returns-2 c = input-read (c .before .before .before .before .before .before .before .before .before .before .before .args .purpose) (c .before .before .before .before .before .before .before .before .before .before .before .args .file .now) (c .before .before .before .before .before .before .before .before .before .before .before .args .gs .now) (c .before .before .before .before .before .before .before .before .before .before .before .args .ts .now) _ _ _ (omega arith) (c .before .before .before .before .before .before .before .before .before .before .before .pre .0) (c .before .before .before .before .before .before .before .before .before .before .before .pre .1) (c .before .before .before .before .read-problem .ensures)
+returns-2 c =
+    let args = c .before .before .before .before .before .before .before .before .before .before .before .args in
+    let pre = c .before .before .before .before .before .before .before .before .before .before .before .pre in
+    let read-problem = c .before .before .before .before .read-problem in
+    input-read (args .purpose) (args .file .now) (args .gs .now) (args .ts .now) _ _ _ (omega arith) (pre .0) (pre .1) (read-problem .ensures)
 
 pub read-input-spec : {M : Type 1} → statement M
 read-input-spec =

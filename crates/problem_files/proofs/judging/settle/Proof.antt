@@ -6,35 +6,47 @@ use Rattle.problem_files.specs.judging.laws.Judging.{settled-8, settled-
 use Rattle.problem_files.proofs.judging.settle.Statement.{statement}
 use Rattle.problem_files.proofs.judging.settle.Tie as tie
 
-beyond-requires : tie.Need-beyond-requires
-beyond-requires c κs = search needs
-
 returns : tie.Need-returns
-returns c = settled-8 (c .before .before .before .args .purpose) (c .before .before .before .args .kind) (c .before .before .before .args .p) (c .before .before .before .args .q) (c .before .before .before .args .r) (c .before .before .before .args .k) (c .before .before .before .args .u) (c .before .before .before .args .v) (c .before .before .before .args .targets .now) (sym (c .before .beyond .ensures) ∙ c .if1 .taken)
-
-handed-requires : tie.Need-handed-requires
-handed-requires c κs = search needs
+returns c =
+    let args = c .before .before .before .args in
+    settled-8 (args .purpose) (args .kind) (args .p) (args .q) (args .r) (args .k) (args .u) (args .v) (args .targets .now)
+    (sym (c .before .beyond .ensures) ∙ c .if1 .taken)
 
 returns-2 : tie.Need-returns-2
-returns-2 c = settled-9 (c .before .before .before .before .before .args .purpose) (c .before .before .before .before .before .args .kind) (c .before .before .before .before .before .args .p) (c .before .before .before .before .before .args .q) (c .before .before .before .before .before .args .r) (c .before .before .before .before .before .args .k) (c .before .before .before .before .before .args .u) (c .before .before .before .before .before .args .v) (c .before .before .before .before .before .args .targets .now) (sym (c .before .before .before .beyond .ensures) ∙ c .before .before .if1 .left) (let e = c .before .handed .ensures in let h = c .if2 .taken in omega arith)
-
-handed-requires-2 : tie.Need-handed-requires-2
-handed-requires-2 c κs = search needs
+returns-2 c =
+    let args = c .before .before .before .before .before .args in
+    let beyond = c .before .before .before .beyond in
+    settled-9 (args .purpose) (args .kind) (args .p) (args .q) (args .r) (args .k) (args .u) (args .v) (args .targets .now)
+    (sym (beyond .ensures) ∙ c .before .before .if1 .left) (let e = c .before .handed .ensures in let h = c .if2 .taken in omega arith)
 
 returns-3 : tie.Need-returns-3
-returns-3 c = settled-short (c .before .before .before .before .before .before .before .args .purpose) (c .before .before .before .before .before .before .before .args .kind) (c .before .before .before .before .before .before .before .args .p) (c .before .before .before .before .before .before .before .args .q) (c .before .before .before .before .before .before .before .args .r) (c .before .before .before .before .before .before .before .args .k) (c .before .before .before .before .before .before .before .args .u) (c .before .before .before .before .before .before .before .args .v) (c .before .before .before .before .before .before .before .args .targets .now) (sym (c .before .before .before .before .before .beyond .ensures) ∙ c .before .before .before .before .if1 .left) (let e = c .before .before .before .handed .ensures in let h = c .before .before .if2 .left in omega arith) (let e = c .before .handed2 .ensures in let h = c .if3 .taken in omega arith)
+returns-3 c =
+    let args = c .before .before .before .before .before .before .before .args in
+    let beyond = c .before .before .before .before .before .beyond in
+    let if1 = c .before .before .before .before .if1 in
+    let handed = c .before .before .before .handed in
+    settled-short (args .purpose) (args .kind) (args .p) (args .q) (args .r) (args .k) (args .u) (args .v) (args .targets .now)
+    (sym (beyond .ensures) ∙ if1 .left) (let e = handed .ensures in let h = c .before .before .if2 .left in omega arith)
+    (let e = c .before .handed2 .ensures in let h = c .if3 .taken in omega arith)
 
 returns-4 : tie.Need-returns-4
-returns-4 c = settled-is (c .before .before .before .before .before .before .before .args .purpose) (c .before .before .before .before .before .before .before .args .kind) (c .before .before .before .before .before .before .before .args .p) (c .before .before .before .before .before .before .before .args .q) (c .before .before .before .before .before .before .before .args .r) (c .before .before .before .before .before .before .before .args .k) (c .before .before .before .before .before .before .before .args .u) (c .before .before .before .before .before .before .before .args .v) (c .before .before .before .before .before .before .before .args .targets .now) (sym (c .before .before .before .before .before .beyond .ensures) ∙ c .before .before .before .before .if1 .left) (let e = c .before .before .before .handed .ensures in let h = c .before .before .if2 .left in omega arith) (let e = c .before .handed2 .ensures in let h = c .if3 .left in omega arith)
+returns-4 c =
+    let args = c .before .before .before .before .before .before .before .args in
+    let beyond = c .before .before .before .before .before .beyond in
+    let if1 = c .before .before .before .before .if1 in
+    let handed = c .before .before .before .handed in
+    settled-is (args .purpose) (args .kind) (args .p) (args .q) (args .r) (args .k) (args .u) (args .v) (args .targets .now)
+    (sym (beyond .ensures) ∙ if1 .left) (let e = handed .ensures in let h = c .before .before .if2 .left in omega arith)
+    (let e = c .before .handed2 .ensures in let h = c .if3 .left in omega arith)
 
 pub settle-spec : {M : Type 1} → statement M
 settle-spec =
     tie.close
     (tie.spec
-    beyond-requires
+    (λ c κs. search needs)
     returns
-    handed-requires
+    (λ c κs. search needs)
     returns-2
-    handed-requires-2
+    (λ c κs. search needs)
     returns-3
     returns-4)

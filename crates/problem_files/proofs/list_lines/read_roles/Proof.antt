@@ -23,21 +23,6 @@ abbrev μ-loop : tie.MeasureT-loop
 loop-holds : tie.Need-loop-holds Inv-loop μ-loop
 loop-holds c = (omega arith, omega arith, refl, roles-start _ _ _)
 
-sub-role-line : tie.Need-sub-role-line Inv-loop μ-loop
-sub-role-line c = search needs
-
-part-role-line-start : tie.Need-part-role-line-start Inv-loop μ-loop
-part-role-line-start c = search needs
-
-part-role-line-end : tie.Need-part-role-line-end Inv-loop μ-loop
-part-role-line-end c = search needs
-
-role-line-requires : tie.Need-role-line-requires Inv-loop μ-loop
-role-line-requires c κs = search needs
-
-enum-known-x : tie.Need-enum-known-x Inv-loop μ-loop
-enum-known-x c = search needs
-
 enum-told : tie.Need-enum-told Inv-loop μ-loop
 enum-told c = search needs
 
@@ -45,30 +30,62 @@ same-length : tie.Need-same-length Inv-loop μ-loop
 same-length c = c .before .before .before .before .before .loop .inv .2
 
 returns : tie.Need-returns Inv-loop μ-loop
-returns c = (c .before .before .before .before .before .loop .inv .3 ∙ roles-stop _ _ (c .before .before .before .before .before .loop .at) _ (c .before .before .before .before .before .before .before .before .args .s .now) _ (c .before .before .before .before .loop-test .taken) (role-no _ (c .before .before .before .before .before .before .before .before .args .s .now) (c .before .before .before .before .before .loop .at) _ (c .before .before .role-line .ensures .0) (c .enum-told .given .1)), omega arith)
+returns c =
+    let args = c .before .before .before .before .before .before .before .before .args in
+    let loop = c .before .before .before .before .before .loop in
+    let loop-test = c .before .before .before .before .loop-test in (
+      loop .inv .3 ∙ roles-stop _ _ (loop .at) _ (args .s .now) _ (loop-test .taken)
+          (role-no _ (args .s .now) (loop .at) _ (c .before .before .role-line .ensures .0) (c .enum-told .given .1)),
+      omega arith,
+    )
 
 mul-d : tie.Need-mul-d Inv-loop μ-loop
-mul-d c = omega (arith, c .before .before .before .before .before .before .loop, c .before .before .before .before .before .loop-test, c .before .before .before .before .before .before .before .before .before .pre, c .before .before .before .before .before .before .before .before .before .fits)
+mul-d c =
+    let fits = c .before .before .before .before .before .before .before .before .before .fits in
+    let pre = c .before .before .before .before .before .before .before .before .before .pre in
+    let loop = c .before .before .before .before .before .before .loop in
+    let loop-test = c .before .before .before .before .before .loop-test in
+    omega (arith, loop, loop-test, pre, fits)
 
 slice-write-d : tie.Need-slice-write-d Inv-loop μ-loop
-slice-write-d c = omega (arith, c .before .before .before .before .before .before .loop, c .before .before .before .before .before .loop-test, c .before .before .before .before .before .before .before .before .before .pre)
+slice-write-d c =
+    let pre = c .before .before .before .before .before .before .before .before .before .pre in
+    let loop = c .before .before .before .before .before .before .loop in
+    let loop-test = c .before .before .before .before .before .loop-test in
+    omega (arith, loop, loop-test, pre)
 
 add-at : tie.Need-add-at Inv-loop μ-loop
-add-at c = let h = field-fits (c .before .before .before .before .before .before .before .before .before .args .s .now) (c .before .before .before .before .before .before .loop .at) _ _ _ (c .before .before .before .role-line .ensures .1) (c .before .x .given .1) (omega (arith, c .before .before .before .before .before .before .loop)) in omega (arith, h, c .before .before .before .before .before .before .before .before .before .good)
+add-at c =
+    let args = c .before .before .before .before .before .before .before .before .before .args in
+    let good = c .before .before .before .before .before .before .before .before .before .good in
+    let loop = c .before .before .before .before .before .before .loop in
+    let role-line = c .before .before .before .role-line in
+    let h = field-fits (args .s .now) (loop .at) _ _ _ (role-line .ensures .1) (c .before .x .given .1) (omega (arith, loop)) in
+    omega (arith, h, good)
 
 add-i : tie.Need-add-i Inv-loop μ-loop
-add-i c = omega (arith, c .before .before .before .before .before .before .loop, c .before .before .before .before .before .loop-test, c .before .before .before .before .before .before .before .before .before .fits)
+add-i c =
+    let fits = c .before .before .before .before .before .before .before .before .before .fits in
+    let loop = c .before .before .before .before .before .before .loop in
+    let loop-test = c .before .before .before .before .before .loop-test in
+    omega (arith, loop, loop-test, fits)
 
 loop-less : tie.Need-loop-less Inv-loop μ-loop
 loop-less c = omega (arith, c .before .before .before .before .before .before .loop, c .before .before .before .before .before .loop-test)
 
 loop-again : tie.Need-loop-again Inv-loop μ-loop
-loop-again c = (
-  omega (arith, c .before .before .before .before .before .loop-test),
-  field-fits (c .before .before .before .before .before .before .before .before .before .args .s .now) (c .before .before .before .before .before .before .loop .at) _ _ _ (c .before .before .before .role-line .ensures .1) (c .before .x .given .1) (omega (arith, c .before .before .before .before .before .before .loop)),
-  length-set (c .before .before .before .before .before .before .loop .d) (c .before .before .before .before .before .before .loop .i) _ ∙ c .before .before .before .before .before .before .loop .inv .2,
-  c .before .before .before .before .before .before .loop .inv .3 ∙ roles-turn _ _ (c .before .before .before .before .before .before .loop .at) _ (c .before .before .before .before .before .before .before .before .before .args .s .now) _ _ _ (c .before .before .before .before .before .loop-test .taken) (omega (arith, c .before .before .before .before .before .before .loop, c .before .before .before .before .before .loop-test, c .before .before .before .before .before .before .before .before .before .pre)) (role-from _ (c .before .before .before .before .before .before .before .before .before .args .s .now) (c .before .before .before .before .before .before .loop .at) _ _ _ (c .before .before .before .role-line .ensures .0) (c .before .x .given .1)),
-)
+loop-again c =
+    let args = c .before .before .before .before .before .before .before .before .before .args in
+    let pre = c .before .before .before .before .before .before .before .before .before .pre in
+    let loop = c .before .before .before .before .before .before .loop in
+    let loop-test = c .before .before .before .before .before .loop-test in
+    let role-line = c .before .before .before .role-line in (
+      omega (arith, loop-test),
+      field-fits (args .s .now) (loop .at) _ _ _ (role-line .ensures .1) (c .before .x .given .1) (omega (arith, loop)),
+      length-set (loop .d) (loop .i) _ ∙ loop .inv .2,
+      loop .inv .3 ∙ roles-turn _ _ (loop .at) _ (args .s .now) _ _ _ (loop-test .taken) (omega (arith, loop, loop-test, pre))
+          (role-from _ (args .s .now) (loop .at) _ _ _ (role-line .ensures .0) (c .before .x .given .1)),
+    )
 
 same-length-2 : tie.Need-same-length-2 Inv-loop μ-loop
 same-length-2 c = c .before .loop .inv .2
@@ -83,11 +100,11 @@ read-roles-spec =
     Inv-loop
     μ-loop
     loop-holds
-    sub-role-line
-    part-role-line-start
-    part-role-line-end
-    role-line-requires
-    enum-known-x
+    (λ c. search needs)
+    (λ c. search needs)
+    (λ c. search needs)
+    (λ c κs. search needs)
+    (λ c. search needs)
     enum-told
     same-length
     returns

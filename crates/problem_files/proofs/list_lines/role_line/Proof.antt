@@ -10,59 +10,60 @@ use Rattle.problem_files.proofs.list_lines.role_line.Tie as tie
 returns : tie.Need-returns
 returns c = (role-short _ (c .before .before .args .s .now) (c .if1 .taken), omega arith)
 
-shared-slice-read-if2 : tie.Need-shared-slice-read-if2
-shared-slice-read-if2 c = search needs
-
 returns-2 : tie.Need-returns-2
 returns-2 c = (role-other _ (c .before .before .before .before .args .s .now) (c .if2 .taken), omega arith)
 
-shared-slice-read-if3 : tie.Need-shared-slice-read-if3
-shared-slice-read-if3 c = search needs
-
 returns-3 : tie.Need-returns-3
 returns-3 c = (role-comma _ (c .before .before .before .before .before .before .args .s .now) (c .before .before .if2 .left) (c .if3 .taken), omega arith)
-
-sub-field-at : tie.Need-sub-field-at
-sub-field-at c = search needs
-
-part-field-at-start : tie.Need-part-field-at-start
-part-field-at-start c = search needs
-
-part-field-at-end : tie.Need-part-field-at-end
-part-field-at-end c = search needs
-
-field-at-requires : tie.Need-field-at-requires
-field-at-requires c κs = search needs
-
-enum-known-x : tie.Need-enum-known-x
-enum-known-x c = search needs
 
 enum-told : tie.Need-enum-told
 enum-told c = search needs
 
 returns-4 : tie.Need-returns-4
-returns-4 c = (role-is _ (c .before .before .before .before .before .before .before .before .before .before .args .s .now) (omega (arith, c .before .before .before .before .before .before .before .before .if1)) (c .before .before .before .before .before .before .if2 .left) (c .before .before .before .before .if3 .left) ∙ field-no _ _ _ (c .before .before .before .before .before .before .before .before .before .before .args .s .now) 2 _ (c .before .before .field-at .ensures .0) (c .enum-told .given .1), omega arith)
+returns-4 c =
+    let args = c .before .before .before .before .before .before .before .before .before .before .args in
+    let if1 = c .before .before .before .before .before .before .before .before .if1 in
+    let if2 = c .before .before .before .before .before .before .if2 in
+    let if3 = c .before .before .before .before .if3 in (
+      role-is _ (args .s .now) (omega (arith, if1)) (if2 .left) (if3 .left) ∙ field-no _ _ _ (args .s .now) 2 _
+          (c .before .before .field-at .ensures .0) (c .enum-told .given .1),
+      omega arith,
+    )
 
 add-t5 : tie.Need-add-t5
-add-t5 c = let h = field-fits (c .before .before .before .before .before .before .before .before .before .before .before .args .s .now) 2 _ _ _ (c .before .before .before .field-at .ensures .1) (c .before .x .given .1) (omega (arith, c .before .before .before .before .before .before .before .before .before .if1)) in omega (arith, h, c .before .before .before .before .before .before .before .before .before .before .before .good)
+add-t5 c =
+    let args = c .before .before .before .before .before .before .before .before .before .before .before .args in
+    let good = c .before .before .before .before .before .before .before .before .before .before .before .good in
+    let if1 = c .before .before .before .before .before .before .before .before .before .if1 in
+    let field-at = c .before .before .before .field-at in
+    let h = field-fits (args .s .now) 2 _ _ _ (field-at .ensures .1) (c .before .x .given .1) (omega (arith, if1)) in omega (arith, h, good)
 
 returns-5 : tie.Need-returns-5
-returns-5 c = (role-is _ (c .before .before .before .before .before .before .before .before .before .before .before .args .s .now) (omega (arith, c .before .before .before .before .before .before .before .before .before .if1)) (c .before .before .before .before .before .before .before .if2 .left) (c .before .before .before .before .before .if3 .left) ∙ field-from _ _ _ (c .before .before .before .before .before .before .before .before .before .before .before .args .s .now) 2 _ _ _ (c .before .before .before .field-at .ensures .0) (c .before .x .given .1), field-fits (c .before .before .before .before .before .before .before .before .before .before .before .args .s .now) 2 _ _ _ (c .before .before .before .field-at .ensures .1) (c .before .x .given .1) (omega (arith, c .before .before .before .before .before .before .before .before .before .if1)))
+returns-5 c =
+    let args = c .before .before .before .before .before .before .before .before .before .before .before .args in
+    let if1 = c .before .before .before .before .before .before .before .before .before .if1 in
+    let if2 = c .before .before .before .before .before .before .before .if2 in
+    let if3 = c .before .before .before .before .before .if3 in
+    let field-at = c .before .before .before .field-at in (
+      role-is _ (args .s .now) (omega (arith, if1)) (if2 .left) (if3 .left) ∙ field-from _ _ _ (args .s .now) 2 _ _ _ (field-at .ensures .0)
+          (c .before .x .given .1),
+      field-fits (args .s .now) 2 _ _ _ (field-at .ensures .1) (c .before .x .given .1) (omega (arith, if1)),
+    )
 
 pub role-line-spec : {M : Type 1} → statement M
 role-line-spec =
     tie.close
     (tie.spec
     returns
-    shared-slice-read-if2
+    (λ c. search needs)
     returns-2
-    shared-slice-read-if3
+    (λ c. search needs)
     returns-3
-    sub-field-at
-    part-field-at-start
-    part-field-at-end
-    field-at-requires
-    enum-known-x
+    (λ c. search needs)
+    (λ c. search needs)
+    (λ c. search needs)
+    (λ c κs. search needs)
+    (λ c. search needs)
     enum-told
     returns-4
     add-t5

@@ -19,31 +19,54 @@ add-end : tie.Need-add-end Inv-loop μ-loop
 add-end c = let h = c .before .before .before .pre .narrow in omega arith
 
 loop-holds : tie.Need-loop-holds Inv-loop μ-loop
-loop-holds c = looking-start (c .before .before .before .args .gens .now) (c .before .before .before .args .targets .now) (c .before .before .before .args .ell) (c .before .before .before .args .room .now) (c .before .before .before .pre)
+loop-holds c =
+    let args = c .before .before .before .args in
+    let pre = c .before .before .before .pre in
+    looking-start (args .gens .now) (args .targets .now) (args .ell) (args .room .now) pre
 
 list-entries-requires : tie.Need-list-entries-requires Inv-loop μ-loop
-list-entries-requires c κs = record { small = c .before .before .before .before .before .before .pre .small; near = (let h : c .before .before .loop .k < c .before .before .before .before .before .before .args .ell + 7 = c .before .loop-test .taken in let d = c .before .before .before .before .before .before .pre .dims in omega arith) }
+list-entries-requires c κs =
+    let args = c .before .before .before .before .before .before .args in
+    let pre = c .before .before .before .before .before .before .pre in
+    record {
+      small = pre .small;
+      near =
+          (let h : c .before .before .loop .k < args .ell + 7 = c .before .loop-test .taken in let d = pre .dims in omega arith);
+    }
 
 same-length : tie.Need-same-length Inv-loop μ-loop
-same-length c = c .before .before .before .before .list-entries .kept .1 .1 .1 .1 .0 ∙ c .before .before .before .before .before .before .before .loop .inv .room ∙ sym (c .before .before .before .before .before .before .before .before .before .before .before .pre .room)
+same-length c =
+    let pre = c .before .before .before .before .before .before .before .before .before .before .before .pre in
+    let loop = c .before .before .before .before .before .before .before .loop in
+    let list-entries = c .before .before .before .before .list-entries in
+    list-entries .kept .1 .1 .1 .1 .0 ∙ loop .inv .room ∙ sym (pre .room)
 
 returns : tie.Need-returns Inv-loop μ-loop
-returns c = looking-found (c .before .before .before .before .before .before .before .before .before .before .before .args .gens .now) (c .before .before .before .before .before .before .before .before .before .before .before .args .targets .now) (c .before .before .before .before .before .before .before .before .before .before .before .args .ell) (c .before .before .before .before .before .before .before .loop .k) (c .before .before .before .before .before .before .before .loop .room) _ (c .before .before .before .before .list-entries .result) (c .before .before .before .before .before .before .before .loop .inv) (c .before .before .before .before .before .before .before .before .before .before .before .pre .dims) (c .before .before .before .before .before .before .before .before .before .before .before .pre .narrow) (c .before .before .before .before .before .before .loop-test .taken) (c .before .before .before .before .list-entries .ensures) (c .if1 .taken) (c .before .before .before .before .list-entries .kept .1 .1 .1 .1 .0)
-
-add-k : tie.Need-add-k Inv-loop μ-loop
-add-k c = omega arith
-
-loop-less : tie.Need-loop-less Inv-loop μ-loop
-loop-less c = omega arith
+returns c =
+    let args = c .before .before .before .before .before .before .before .before .before .before .before .args in
+    let pre = c .before .before .before .before .before .before .before .before .before .before .before .pre in
+    let loop = c .before .before .before .before .before .before .before .loop in
+    let loop-test = c .before .before .before .before .before .before .loop-test in
+    let list-entries = c .before .before .before .before .list-entries in
+    looking-found (args .gens .now) (args .targets .now) (args .ell) (loop .k) (loop .room) _ (list-entries .result) (loop .inv) (pre .dims)
+    (pre .narrow) (loop-test .taken) (list-entries .ensures) (c .if1 .taken) (list-entries .kept .1 .1 .1 .1 .0)
 
 loop-again : tie.Need-loop-again Inv-loop μ-loop
-loop-again c = looking-next (c .before .before .before .before .before .before .before .before .before .before .before .args .gens .now) (c .before .before .before .before .before .before .before .before .before .before .before .args .targets .now) (c .before .before .before .before .before .before .before .before .before .before .before .args .ell) (c .before .before .before .before .before .before .before .loop .k) (c .before .before .before .before .before .before .before .loop .room) _ _ (c .before .before .before .before .list-entries .result) (c .before .before .before .before .before .before .before .loop .inv) (c .before .before .before .before .before .before .loop-test .taken) (c .before .before .before .before .list-entries .ensures) (c .if1 .left) (c .before .before .before .before .list-entries .kept .1 .1 .1 .1 .0)
+loop-again c =
+    let args = c .before .before .before .before .before .before .before .before .before .before .before .args in
+    let loop = c .before .before .before .before .before .before .before .loop in
+    let loop-test = c .before .before .before .before .before .before .loop-test in
+    let list-entries = c .before .before .before .before .list-entries in
+    looking-next (args .gens .now) (args .targets .now) (args .ell) (loop .k) (loop .room) _ _ (list-entries .result) (loop .inv) (loop-test .taken)
+    (list-entries .ensures) (c .if1 .left) (list-entries .kept .1 .1 .1 .1 .0)
 
 same-length-2 : tie.Need-same-length-2 Inv-loop μ-loop
 same-length-2 c = c .before .loop .inv .room ∙ sym (c .before .before .before .before .before .pre .room)
 
 returns-2 : tie.Need-returns-2 Inv-loop μ-loop
-returns-2 c = looking-none (c .before .before .before .before .before .args .gens .now) (c .before .before .before .before .before .args .targets .now) (c .before .before .before .before .before .args .ell) (c .before .loop .k) (c .before .loop .room) (c .before .loop .inv) (omega arith)
+returns-2 c =
+    let args = c .before .before .before .before .before .args in
+    looking-none (args .gens .now) (args .targets .now) (args .ell) (c .before .loop .k) (c .before .loop .room) (c .before .loop .inv) (omega arith)
 
 pub least-entry-spec : {M : Type 1} → statement M
 least-entry-spec =
@@ -56,8 +79,8 @@ least-entry-spec =
     list-entries-requires
     same-length
     returns
-    add-k
-    loop-less
+    (λ c. omega arith)
+    (λ c. omega arith)
     loop-again
     same-length-2
     returns-2)

@@ -9,43 +9,32 @@ use Rattle.rank_text.proofs.report.far_rank_text.Lts as lts
 use Rattle.printing.proofs.put_bytes.Reads as put-bytes-reads
 use Rattle.rank_text.proofs.report.put_rank_head.Reads as put-rank-head-reads
 
-put-rank-head-requires : tie.Need-put-rank-head-requires
-put-rank-head-requires c κs = search needs
-
-slice-aggregate-put-bytes : tie.Need-slice-aggregate-put-bytes
-slice-aggregate-put-bytes c = search needs
-
-put-bytes-requires : tie.Need-put-bytes-requires
-put-bytes-requires c κs = search needs
-
-same-length : tie.Need-same-length
-same-length c = search needs
-
 returns : tie.Need-returns
-returns c = far-said (c .before .before .before .before .before .before .before .before .before .before .before .args .kind) (c .before .before .before .before .before .before .before .before .before .before .before .args .p) (c .before .before .before .before .before .before .before .before .before .before .before .args .q) (c .before .before .before .before .before .before .before .before .before .before .before .args .r) (c .before .before .before .before .before .before .before .before .before .before .before .args .k) (c .before .before .before .before .before .before .before .before .before .before .before .args .ell) _ true _ _ _ _ _ (c .before .before .before .before .before .if1 .taken) (c .before .before .before .before .before .before .before .before .put-rank-head .ensures) (c .before .before .put-bytes .ensures)
-
-slice-aggregate-put-bytes-2 : tie.Need-slice-aggregate-put-bytes-2
-slice-aggregate-put-bytes-2 c = search needs
-
-put-bytes-requires-2 : tie.Need-put-bytes-requires-2
-put-bytes-requires-2 c κs = search needs
-
-same-length-2 : tie.Need-same-length-2
-same-length-2 c = search needs
+returns c =
+    let args = c .before .before .before .before .before .before .before .before .before .before .before .args in
+    let put-rank-head = c .before .before .before .before .before .before .before .before .put-rank-head in
+    let if1 = c .before .before .before .before .before .if1 in
+    far-said (args .kind) (args .p) (args .q) (args .r) (args .k) (args .ell) _ true _ _ _ _ _ (if1 .taken) (put-rank-head .ensures)
+    (c .before .before .put-bytes .ensures)
 
 returns-2 : tie.Need-returns-2
-returns-2 c = far-said (c .before .before .before .before .before .before .before .before .before .before .before .args .kind) (c .before .before .before .before .before .before .before .before .before .before .before .args .p) (c .before .before .before .before .before .before .before .before .before .before .before .args .q) (c .before .before .before .before .before .before .before .before .before .before .before .args .r) (c .before .before .before .before .before .before .before .before .before .before .before .args .k) (c .before .before .before .before .before .before .before .before .before .before .before .args .ell) _ false _ _ _ _ _ (c .before .before .before .before .before .if1 .left) (c .before .before .before .before .before .before .before .before .put-rank-head .ensures) (c .before .before .put-bytes2 .ensures)
+returns-2 c =
+    let args = c .before .before .before .before .before .before .before .before .before .before .before .args in
+    let put-rank-head = c .before .before .before .before .before .before .before .before .put-rank-head in
+    let if1 = c .before .before .before .before .before .if1 in
+    far-said (args .kind) (args .p) (args .q) (args .r) (args .k) (args .ell) _ false _ _ _ _ _ (if1 .left) (put-rank-head .ensures)
+    (c .before .before .put-bytes2 .ensures)
 
 pub far-rank-text-spec : {M : Type 1} → statement M
 far-rank-text-spec =
     tie.close
     (tie.spec
-    put-rank-head-requires
-    slice-aggregate-put-bytes
-    put-bytes-requires
-    same-length
+    (λ c κs. search needs)
+    (λ c. search needs)
+    (λ c κs. search needs)
+    (λ c. search needs)
     returns
-    slice-aggregate-put-bytes-2
-    put-bytes-requires-2
-    same-length-2
+    (λ c. search needs)
+    (λ c κs. search needs)
+    (λ c. search needs)
     returns-2)

@@ -10,35 +10,24 @@ use Rattle.printing.proofs.put_bytes.Reads as put-bytes-reads
 use Rattle.printing.proofs.record_lines.put_lists.Reads as put-lists-reads
 use Rattle.rank_text.proofs.report.put_rank_head.Reads as put-rank-head-reads
 
-put-rank-head-requires : tie.Need-put-rank-head-requires
-put-rank-head-requires c κs = search needs
-
-put-field-requires : tie.Need-put-field-requires
-put-field-requires c κs = search needs
-
-slice-aggregate-put-bytes : tie.Need-slice-aggregate-put-bytes
-slice-aggregate-put-bytes c = search needs
-
-put-bytes-requires : tie.Need-put-bytes-requires
-put-bytes-requires c κs = search needs
-
-put-lists-requires : tie.Need-put-lists-requires
-put-lists-requires c κs = search needs
-
-same-length : tie.Need-same-length
-same-length c = search needs
-
 returns : tie.Need-returns
-returns c = rank-put (c .before .before .before .before .before .before .before .before .before .before .before .before .before .before .before .before .before .before .before .before .args .kind) _ _ _ _ _ _ _ _ _ (c .before .before .before .before .before .before .before .before .before .before .before .before .before .before .before .before .before .before .before .before .args .products .now) (c .before .before .before .before .before .before .before .before .before .before .before .before .before .before .before .before .before .before .before .before .args .rows .now) _ _ _ _ _ (c .before .before .before .before .before .before .before .before .before .before .before .before .before .before .before .put-rank-head .ensures) (c .before .before .before .before .before .before .before .before .before .before .before .put-field .ensures) (c .before .before .before .before .before .before .put-bytes .ensures) (c .before .before .put-lists .ensures)
+returns c =
+    let far = c .before .before .before .before .before .before .before .before .before .before .before .before in
+    let args = far .before .before .before .before .before .before .before .before .args in
+    let put-rank-head = far .before .before .before .put-rank-head in
+    let put-field = c .before .before .before .before .before .before .before .before .before .before .before .put-field in
+    let put-bytes = c .before .before .before .before .before .before .put-bytes in
+    rank-put (args .kind) _ _ _ _ _ _ _ _ _ (args .products .now) (args .rows .now) _ _ _ _ _ (put-rank-head .ensures) (put-field .ensures)
+    (put-bytes .ensures) (c .before .before .put-lists .ensures)
 
 pub rank-text-spec : {M : Type 1} → statement M
 rank-text-spec =
     tie.close
     (tie.spec
-    put-rank-head-requires
-    put-field-requires
-    slice-aggregate-put-bytes
-    put-bytes-requires
-    put-lists-requires
-    same-length
+    (λ c κs. search needs)
+    (λ c κs. search needs)
+    (λ c. search needs)
+    (λ c κs. search needs)
+    (λ c κs. search needs)
+    (λ c. search needs)
     returns)

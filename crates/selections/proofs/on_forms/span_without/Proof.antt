@@ -17,47 +17,46 @@ Inv-loop gens sel skip b₀ i₀ b i = Spanning gens sel skip b i
 abbrev μ-loop : tie.MeasureT-loop
 μ-loop gens sel skip b₀ i₀ b i = length sel - i
 
-empty-requires : tie.Need-empty-requires Inv-loop μ-loop
-empty-requires c κs = search needs
-
 loop-holds : tie.Need-loop-holds Inv-loop μ-loop
 loop-holds c = spanning-start (c .before .before .before .args .gens .now) (c .before .before .before .args .sel .now) (c .before .before .before .args .skip) _ (c .empty .ensures)
 
-mul-e : tie.Need-mul-e Inv-loop μ-loop
-mul-e c = omega arith
-
-shared-slice-read-e : tie.Need-shared-slice-read-e Inv-loop μ-loop
-shared-slice-read-e c = omega arith
-
-add-i : tie.Need-add-i Inv-loop μ-loop
-add-i c = omega arith
-
-loop-less : tie.Need-loop-less Inv-loop μ-loop
-loop-less c = omega arith
-
 loop-again : tie.Need-loop-again Inv-loop μ-loop
-loop-again c = spanning-skip (c .before .before .before .before .before .before .before .args .gens .now) (c .before .before .before .before .before .before .before .args .sel .now) (c .before .before .before .before .before .before .before .args .skip) (c .before .before .before .loop .b) (c .before .before .before .loop .i) (c .before .before .before .loop .inv) (c .before .before .loop-test .taken) (c .if1 .taken)
+loop-again c =
+    let args = c .before .before .before .before .before .before .before .args in
+    let loop = c .before .before .before .loop in
+    spanning-skip (args .gens .now) (args .sel .now) (args .skip) (loop .b) (loop .i) (loop .inv) (c .before .before .loop-test .taken)
+    (c .if1 .taken)
 
 mul-insert : tie.Need-mul-insert Inv-loop μ-loop
-mul-insert c = let h = spanning-number (c .before .before .before .before .before .before .before .args .gens .now) (c .before .before .before .before .before .before .before .args .sel .now) (c .before .before .before .before .before .before .before .args .skip) (c .before .before .before .loop .i) (c .before .before .before .before .before .before .before .pre) (c .before .before .loop-test .taken) in omega arith
+mul-insert c =
+    let args = c .before .before .before .before .before .before .before .args in
+    let pre = c .before .before .before .before .before .before .before .pre in
+    let loop = c .before .before .before .loop in
+    let h = spanning-number (args .gens .now) (args .sel .now) (args .skip) (loop .i) pre (c .before .before .loop-test .taken) in omega arith
 
 shared-slice-read-insert : tie.Need-shared-slice-read-insert Inv-loop μ-loop
-shared-slice-read-insert c = let h = spanning-number (c .before .before .before .before .before .before .before .before .args .gens .now) (c .before .before .before .before .before .before .before .before .args .sel .now) (c .before .before .before .before .before .before .before .before .args .skip) (c .before .before .before .before .loop .i) (c .before .before .before .before .before .before .before .before .pre) (c .before .before .before .loop-test .taken) in omega arith
+shared-slice-read-insert c =
+    let args = c .before .before .before .before .before .before .before .before .args in
+    let pre = c .before .before .before .before .before .before .before .before .pre in
+    let loop = c .before .before .before .before .loop in
+    let loop-test = c .before .before .before .loop-test in
+    let h = spanning-number (args .gens .now) (args .sel .now) (args .skip) (loop .i) pre (loop-test .taken) in omega arith
 
 insert-requires : tie.Need-insert-requires Inv-loop μ-loop
 insert-requires c κs = c .before .before .before .before .loop .inv .valid
 
-add-i-2 : tie.Need-add-i-2 Inv-loop μ-loop
-add-i-2 c = omega arith
-
-loop-less-2 : tie.Need-loop-less-2 Inv-loop μ-loop
-loop-less-2 c = omega arith
-
 loop-again-2 : tie.Need-loop-again-2 Inv-loop μ-loop
-loop-again-2 c = spanning-take (c .before .before .before .before .before .before .before .before .before .args .gens .now) (c .before .before .before .before .before .before .before .before .before .args .sel .now) (c .before .before .before .before .before .before .before .before .before .args .skip) (c .before .before .before .before .before .loop .b) _ (c .before .before .before .before .before .loop .i) (c .before .before .before .before .before .loop .inv) (c .before .before .before .before .loop-test .taken) (c .before .before .if1 .left) (c .insert .ensures)
+loop-again-2 c =
+    let args = c .before .before .before .before .before .before .before .before .before .args in
+    let loop = c .before .before .before .before .before .loop in
+    let loop-test = c .before .before .before .before .loop-test in
+    spanning-take (args .gens .now) (args .sel .now) (args .skip) (loop .b) _ (loop .i) (loop .inv) (loop-test .taken) (c .before .before .if1 .left)
+    (c .insert .ensures)
 
 returns : tie.Need-returns Inv-loop μ-loop
-returns c = spanning-end (c .before .before .before .before .before .args .gens .now) (c .before .before .before .before .before .args .sel .now) (c .before .before .before .before .before .args .skip) (c .before .loop .b) (c .before .loop .i) (c .before .loop .inv) (omega arith)
+returns c =
+    let args = c .before .before .before .before .before .args in
+    spanning-end (args .gens .now) (args .sel .now) (args .skip) (c .before .loop .b) (c .before .loop .i) (c .before .loop .inv) (omega arith)
 
 pub span-without-spec : {M : Type 1} → statement M
 span-without-spec =
@@ -65,17 +64,17 @@ span-without-spec =
     (tie.spec
     Inv-loop
     μ-loop
-    empty-requires
+    (λ c κs. search needs)
     loop-holds
-    mul-e
-    shared-slice-read-e
-    add-i
-    loop-less
+    (λ c. omega arith)
+    (λ c. omega arith)
+    (λ c. omega arith)
+    (λ c. omega arith)
     loop-again
     mul-insert
     shared-slice-read-insert
     insert-requires
-    add-i-2
-    loop-less-2
+    (λ c. omega arith)
+    (λ c. omega arith)
     loop-again-2
     returns)

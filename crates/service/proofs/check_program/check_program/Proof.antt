@@ -13,10 +13,13 @@ same-length : tie.Need-same-length
 same-length c = c .before .before .refused-text .kept .1 .0
 
 returns : tie.Need-returns
-returns c = (
-  program-long (c .before .before .before .before .before .before .before .args .file .now) (c .before .before .before .before .before .before .before .args .out .now) _ _ (c .before .before .before .before .before .before .before .pre) (omega arith) (c .before .before .refused-text .ensures .0) (c .before .before .refused-text .ensures .1),
-  (let e = c .before .before .refused-text .ensures .0 in let m = bytes-most (refusedText 1) (c .before .before .before .before .before .before .before .args .out .now) (c .before .before .before .before .before .before .before .pre) in omega arith),
-)
+returns c =
+    let args = c .before .before .before .before .before .before .before .args in
+    let pre = c .before .before .before .before .before .before .before .pre in
+    let refused-text = c .before .before .refused-text in (
+      program-long (args .file .now) (args .out .now) _ _ pre (omega arith) (refused-text .ensures .0) (refused-text .ensures .1),
+      (let e = refused-text .ensures .0 in let m = bytes-most (refusedText 1) (args .out .now) pre in omega arith),
+    )
 
 gijpsando-check-requires : tie.Need-gijpsando-check-requires
 gijpsando-check-requires c κs = tt
@@ -25,10 +28,14 @@ same-length-2 : tie.Need-same-length-2
 same-length-2 c = c .before .before .before .gijpsando-check .kept .1 .0
 
 returns-2 : tie.Need-returns-2
-returns-2 c = (
-  print-text (c .before .before .before .before .before .before .before .before .args .file .now) (c .before .before .before .before .before .before .before .before .args .out .now) _ _ (c .before .before .before .before .before .before .before .before .pre) (c .before .before .before .gijpsando-check .ensures .0) (c .before .before .before .gijpsando-check .ensures .1) (omega arith) ∙ program-short (c .before .before .before .before .before .before .before .before .args .file .now) (omega arith),
-  (let e = c .before .before .before .gijpsando-check .ensures .0 in let m = reply-most (c .before .before .before .before .before .before .before .before .args .file .now) (c .before .before .before .before .before .before .before .before .args .out .now) in omega arith),
-)
+returns-2 c =
+    let args = c .before .before .before .before .before .before .before .before .args in
+    let pre = c .before .before .before .before .before .before .before .before .pre in
+    let gijpsando-check = c .before .before .before .gijpsando-check in (
+      print-text (args .file .now) (args .out .now) _ _ pre (gijpsando-check .ensures .0) (gijpsando-check .ensures .1) (omega arith) ∙ program-short
+          (args .file .now) (omega arith),
+      (let e = gijpsando-check .ensures .0 in let m = reply-most (args .file .now) (args .out .now) in omega arith),
+    )
 
 refused-text-requires-2 : tie.Need-refused-text-requires-2
 refused-text-requires-2 c κs = tt
@@ -37,13 +44,19 @@ same-length-3 : tie.Need-same-length-3
 same-length-3 c = c .before .before .refused-text2 .kept .1 .0 ∙ c .before .before .before .before .before .before .before .gijpsando-check .kept .1 .0
 
 returns-3 : tie.Need-returns-3
-returns-3 c = (
-  print-refusal (c .before .before .before .before .before .before .before .before .before .before .before .before .args .file .now) (c .before .before .before .before .before .before .before .before .before .before .before .before .args .out .now) _ _ (c .before .before .before .before .before .before .before .gijpsando-check .result) _ (c .before .before .before .before .before .before .before .before .before .before .before .before .pre) (c .before .before .before .before .before .before .before .gijpsando-check .ensures .0) (c .before .before .before .before .before .before .before .gijpsando-check .ensures .1) (omega arith) (c .before .before .refused-text2 .ensures .0) (c .before .before .refused-text2 .ensures .1)
-      ∙ program-short (c .before .before .before .before .before .before .before .before .before .before .before .before .args .file .now) (omega arith),
-  (let e = c .before .before .refused-text2 .ensures .0 in
-      let l = refused-length (c .before .before .before .before .before .before .before .before .before .before .before .before .args .file .now) (c .before .before .before .before .before .before .before .before .before .before .before .before .args .out .now) (c .before .before .before .before .before .before .before .gijpsando-check .last .1 .0) (c .before .before .before .before .before .before .before .before .before .before .before .before .pre) (c .before .before .before .before .before .before .before .gijpsando-check .ensures .1) (let h = c .before .before .before .before .before .before .before .gijpsando-check .ensures .0 in omega arith) in
-      let m = bytes-most (refusedText (c .before .before .before .before .before .before .before .gijpsando-check .result)) (c .before .before .before .before .before .before .before .gijpsando-check .last .1 .0) l in omega arith),
-)
+returns-3 c =
+    let args = c .before .before .before .before .before .before .before .before .before .before .before .before .args in
+    let pre = c .before .before .before .before .before .before .before .before .before .before .before .before .pre in
+    let gijpsando-check = c .before .before .before .before .before .before .before .gijpsando-check in
+    let refused-text2 = c .before .before .refused-text2 in (
+      print-refusal (args .file .now) (args .out .now) _ _ (gijpsando-check .result) _ pre (gijpsando-check .ensures .0) (gijpsando-check .ensures .1)
+          (omega arith) (refused-text2 .ensures .0) (refused-text2 .ensures .1)
+          ∙ program-short (args .file .now) (omega arith),
+      (let e = refused-text2 .ensures .0 in
+          let l = refused-length (args .file .now) (args .out .now) (gijpsando-check .last .1 .0) pre (gijpsando-check .ensures .1)
+          (let h = gijpsando-check .ensures .0 in omega arith) in
+          let m = bytes-most (refusedText (gijpsando-check .result)) (gijpsando-check .last .1 .0) l in omega arith),
+    )
 
 pub check-program-spec : {M : Type 1} → statement M
 check-program-spec =

@@ -33,9 +33,6 @@ slice-write-marks c =
     let s = c .before .before .before .before .before .before .before in
     omega (arith, c .before .before .before .first-new .ensures .to, c .before .before .if1 .left, s .pre .2, s .pre .3)
 
-same-length : tie.Need-same-length
-same-length c = search needs
-
 returns-3 : tie.Need-returns-3
 returns-3 c =
     let s = c .before .before .before .before .before .before .before in
@@ -53,5 +50,5 @@ finish-spec =
     known-requires
     returns-2
     slice-write-marks
-    same-length
+    (λ c. search needs)
     returns-3)

@@ -21,20 +21,8 @@ loop-holds : tie.Need-loop-holds Inv-loop μ-loop
 loop-holds c = let a = c .before .before .args in looking-start (a .h .now) (map (clear word (a .x)) (a .d .now)) (a .start)
     (c .before .before .pre .1)
 
-mul-clear : tie.Need-mul-clear Inv-loop μ-loop
-mul-clear c = omega arith
-
-shared-slice-read-clear : tie.Need-shared-slice-read-clear Inv-loop μ-loop
-shared-slice-read-clear c = omega arith
-
 clear-requires : tie.Need-clear-requires Inv-loop μ-loop
 clear-requires c κs = tt
-
-mul-if2 : tie.Need-mul-if2 Inv-loop μ-loop
-mul-if2 c = omega arith
-
-shared-slice-read-if2 : tie.Need-shared-slice-read-if2 Inv-loop μ-loop
-shared-slice-read-if2 c = omega arith
 
 returns : tie.Need-returns Inv-loop μ-loop
 returns c =
@@ -43,24 +31,12 @@ returns c =
     looking-found (a .h .now) (map (clear word (a .x)) (a .d .now)) (a .start) (l .j) (l .inv)
     (clear-at (a .x) (a .d .now) (l .j) ∙ sym (c .before .before .before .clear .ensures) ∙ c .before .before .if1 .taken) (c .if2 .taken)
 
-add-j : tie.Need-add-j Inv-loop μ-loop
-add-j c = omega arith
-
-loop-less : tie.Need-loop-less Inv-loop μ-loop
-loop-less c = omega arith
-
 loop-again : tie.Need-loop-again Inv-loop μ-loop
 loop-again c =
     let a = c .before .before .before .before .before .before .before .before .before .args in
     let l = c .before .before .before .before .before .before .loop in
     looking-more (a .h .now) (map (clear word (a .x)) (a .d .now)) (a .start) (l .j) (l .inv)
     (c .before .before .before .before .before .loop-test .taken) (λ z. c .if2 .left)
-
-add-j-2 : tie.Need-add-j-2 Inv-loop μ-loop
-add-j-2 c = omega arith
-
-loop-less-2 : tie.Need-loop-less-2 Inv-loop μ-loop
-loop-less-2 c = omega arith
 
 loop-again-2 : tie.Need-loop-again-2 Inv-loop μ-loop
 loop-again-2 c =
@@ -82,16 +58,16 @@ first-new-spec =
     Inv-loop
     μ-loop
     loop-holds
-    mul-clear
-    shared-slice-read-clear
+    (λ c. omega arith)
+    (λ c. omega arith)
     clear-requires
-    mul-if2
-    shared-slice-read-if2
+    (λ c. omega arith)
+    (λ c. omega arith)
     returns
-    add-j
-    loop-less
+    (λ c. omega arith)
+    (λ c. omega arith)
     loop-again
-    add-j-2
-    loop-less-2
+    (λ c. omega arith)
+    (λ c. omega arith)
     loop-again-2
     returns-2)

@@ -9,15 +9,6 @@ use Rattle.sieve.proofs.heavy_search.light.Tie as tie
 returns : tie.Need-returns
 returns c = let a = c .before .args in light-none (a .k) (a .missing) (a .n)
 
-sub-result : tie.Need-sub-result
-sub-result c = omega arith
-
-sub-result-2 : tie.Need-sub-result-2
-sub-result-2 c = omega arith
-
-shl-result : tie.Need-shl-result
-shl-result c = omega arith
-
 sub-result-3 : tie.Need-sub-result-3
 sub-result-3 c = omega (arith, one-shift (c .before .args .missing) (omega arith), pow-pos (c .before .args .missing))
 
@@ -30,4 +21,4 @@ returns-2 c = let a = c .before .args in light-most (a .k) (a .missing) (a .n) _
 pub light-spec : {M : Type 1} → statement M
 light-spec =
     tie.close
-    (tie.spec returns sub-result sub-result-2 shl-result sub-result-3 div-result returns-2)
+    (tie.spec returns (λ c. omega arith) (λ c. omega arith) (λ c. omega arith) sub-result-3 div-result returns-2)

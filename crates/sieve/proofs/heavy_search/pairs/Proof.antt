@@ -8,12 +8,6 @@ use Rattle.sieve.specs.heavy_search.laws.Pairs.{mapped-child, pairs-at, 
 use Rattle.sieve.proofs.heavy_search.pairs.Statement.{statement}
 use Rattle.sieve.proofs.heavy_search.pairs.Tie as tie
 
-mul-x : tie.Need-mul-x
-mul-x c = omega arith
-
-shared-slice-read-x : tie.Need-shared-slice-read-x
-shared-slice-read-x c = omega arith
-
 needed-requires : tie.Need-needed-requires
 needed-requires c κs = tt
 
@@ -121,8 +115,8 @@ pub pairs-spec : {M : Type 1} → statement M
 pairs-spec =
     tie.close
     (tie.spec
-    mul-x
-    shared-slice-read-x
+    (λ c. omega arith)
+    (λ c. omega arith)
     needed-requires
     join-requires
     same-length

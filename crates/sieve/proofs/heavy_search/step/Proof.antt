@@ -6,12 +6,6 @@ use Rattle.sieve.specs.heavy_search.laws.Step.{step-none}
 use Rattle.sieve.proofs.heavy_search.step.Statement.{statement}
 use Rattle.sieve.proofs.heavy_search.step.Tie as tie
 
-mul-x : tie.Need-mul-x
-mul-x c = omega arith
-
-shared-slice-read-x : tie.Need-shared-slice-read-x
-shared-slice-read-x c = omega arith
-
 take-requires : tie.Need-take-requires
 take-requires c κs = (
   c .before .before .before .before .before .before .pre .0 .held .valid,
@@ -64,8 +58,8 @@ pub step-spec : {M : Type 1} → statement M
 step-spec =
     tie.close
     (tie.spec
-    mul-x
-    shared-slice-read-x
+    (λ c. omega arith)
+    (λ c. omega arith)
     take-requires
     returns
     finish-requires

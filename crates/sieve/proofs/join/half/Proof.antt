@@ -12,9 +12,6 @@ returns c = half-least (c .before .args .left)
 returns-2 : tie.Need-returns-2
 returns-2 c = half-most (c .before .before .args .left) (c .if2 .taken)
 
-add-result : tie.Need-add-result
-add-result c = omega arith
-
 cast-result : tie.Need-cast-result
 cast-result c = omega (arith, mul-div-le (c .before .before .args .left + 1) 2)
 
@@ -22,4 +19,4 @@ returns-3 : tie.Need-returns-3
 returns-3 c = half-of (c .before .before .args .left)
 
 pub half-spec : {M : Type 1} → statement M
-half-spec = tie.close (tie.spec returns returns-2 add-result cast-result returns-3)
+half-spec = tie.close (tie.spec returns returns-2 (λ c. omega arith) cast-result returns-3)

@@ -19,23 +19,8 @@ loop-holds : tie.Need-loop-holds Inv-loop μ-loop
 loop-holds c = let a = c .before .before .before .before .args in halving-start (a .start) (a .n) (a .left) (a .gone .now) (a .w .now)
     (a .picks .now) (c .before .before .before .before .pre .0) (c .before .before .before .before .pre .4)
 
-shared-slice-read-beside : tie.Need-shared-slice-read-beside Inv-loop μ-loop
-shared-slice-read-beside c = omega arith
-
-shared-slice-read-beside-2 : tie.Need-shared-slice-read-beside-2 Inv-loop μ-loop
-shared-slice-read-beside-2 c = omega arith
-
 beside-requires : tie.Need-beside-requires Inv-loop μ-loop
 beside-requires c κs = tt
-
-slice-write-picks : tie.Need-slice-write-picks Inv-loop μ-loop
-slice-write-picks c = omega arith
-
-add-i : tie.Need-add-i Inv-loop μ-loop
-add-i c = omega arith
-
-loop-less : tie.Need-loop-less Inv-loop μ-loop
-loop-less c = omega arith
 
 loop-again : tie.Need-loop-again Inv-loop μ-loop
 loop-again c =
@@ -63,12 +48,12 @@ halves-spec =
     μ-loop
     half-requires
     loop-holds
-    shared-slice-read-beside
-    shared-slice-read-beside-2
+    (λ c. omega arith)
+    (λ c. omega arith)
     beside-requires
-    slice-write-picks
-    add-i
-    loop-less
+    (λ c. omega arith)
+    (λ c. omega arith)
+    (λ c. omega arith)
     loop-again
     same-length
     returns)

@@ -60,7 +60,9 @@ claims t = (
 )
 
 abbrev spread-Inv-loop : spread-lts.InvT-loop
-spread-Inv-loop gens w targets start missing b c limit out₀ n u₀ j₀ out u j = Going gens w targets (rowsOf b) (numbersOf c) missing limit (run limit (stateOf u₀ out₀) (formulaeFrom gens w targets (rowsOf b) (numbersOf c) (length gens - start) start missing)) (length out₀) j u out
+spread-Inv-loop gens w targets start missing b c limit out₀ n u₀ j₀ out u j =
+    Going gens w targets (rowsOf b) (numbersOf c) missing limit
+    (run limit (stateOf u₀ out₀) (formulaeFrom gens w targets (rowsOf b) (numbersOf c) (length gens - start) start missing)) (length out₀) j u out
 
 abbrev spread-μ-loop : spread-lts.MeasureT-loop
 spread-μ-loop gens w targets start missing b c limit out₀ n u₀ j₀ out u j = length gens - j
@@ -91,7 +93,12 @@ spread-same-length : (t : ℕ) → spread-lts.Need-same-length (claims t) (sprea
 spread-same-length t c = c .before .before .keep .kept .1 .1 .1 .1 .0
 
 spread-returns : (t : ℕ) → spread-lts.Need-returns (claims t) (spread-at t) spread.Post spread-Inv-loop spread-μ-loop
-spread-returns t c = going-leaf (c .before .before .before .before .before .before .before .before .before .args .gens .now) (c .before .before .before .before .before .before .before .before .before .args .w .now) (c .before .before .before .before .before .before .before .before .before .args .targets .now) (c .before .before .before .before .before .before .before .before .before .args .start) (c .before .before .before .before .before .before .before .before .before .args .missing) (c .before .before .before .before .before .before .before .before .before .args .b) (c .before .before .before .before .before .before .before .before .before .args .c) (c .before .before .before .before .before .before .before .before .before .args .t) (c .before .before .before .before .before .before .before .before .before .args .limit) (c .before .before .before .before .before .before .before .before .before .args .out .now) (c .before .before .before .before .before .before .before .before .before .pre .1) (c .before .before .before .before .if1 .taken) _ (c .before .before .keep .ensures)
+spread-returns t c =
+    let args = c .before .before .before .before .before .before .before .before .before .args in
+    let pre = c .before .before .before .before .before .before .before .before .before .pre in
+    let if1 = c .before .before .before .before .if1 in
+    going-leaf (args .gens .now) (args .w .now) (args .targets .now) (args .start) (args .missing) (args .b) (args .c) (args .t) (args .limit)
+    (args .out .now) (pre .1) (if1 .taken) _ (c .before .before .keep .ensures)
 
 spread-loop-holds : (t : ℕ) → spread-lts.Need-loop-holds (claims t) (spread-at t) spread.Post spread-Inv-loop spread-μ-loop
 spread-loop-holds t c = record { rest = refl; sane = c .before .before .before .before .before .pre .1 .sane; same = refl }
@@ -100,7 +107,13 @@ spread-same-length-2 : (t : ℕ) → spread-lts.Need-same-length-2 (claims t) (s
 spread-same-length-2 t c = c .before .before .before .loop .inv .same
 
 spread-returns-2 : (t : ℕ) → spread-lts.Need-returns-2 (claims t) (spread-at t) spread.Post spread-Inv-loop spread-μ-loop
-spread-returns-2 t c = going-full (c .before .before .before .before .before .before .before .before .before .args .gens .now) (c .before .before .before .before .before .before .before .before .before .args .w .now) (c .before .before .before .before .before .before .before .before .before .args .targets .now) (c .before .before .before .before .before .before .before .before .before .args .missing) (c .before .before .before .before .before .before .before .before .before .args .b) (c .before .before .before .before .before .before .before .before .before .args .c) (c .before .before .before .before .before .before .before .before .before .args .t) (c .before .before .before .before .before .before .before .before .before .args .limit) (c .before .before .before .before .before .before .before .before .before .args .out .now) (c .before .before .before .before .before .before .before .before .before .pre .1) (c .before .before .before .before .if1 .left) _ _ (c .before .before .before .loop .j) (c .before .before .before .loop .u) (c .before .before .before .loop .out) (c .before .before .before .loop .inv) (c .if2 .taken)
+spread-returns-2 t c =
+    let args = c .before .before .before .before .before .before .before .before .before .args in
+    let pre = c .before .before .before .before .before .before .before .before .before .pre in
+    let if1 = c .before .before .before .before .if1 in
+    let loop = c .before .before .before .loop in
+    going-full (args .gens .now) (args .w .now) (args .targets .now) (args .missing) (args .b) (args .c) (args .t) (args .limit) (args .out .now)
+    (pre .1) (if1 .left) _ _ (loop .j) (loop .u) (loop .out) (loop .inv) (c .if2 .taken)
 
 spread-mul-g : (t : ℕ) → spread-lts.Need-mul-g (claims t) (spread-at t) spread.Post spread-Inv-loop spread-μ-loop
 spread-mul-g t c = eight-fits (c .before .before .loop-test .taken) (c .before .before .before .before .before .before .before .before .before .good .0 .1)
@@ -121,51 +134,146 @@ spread-insert-requires : (t : ℕ) → spread-lts.Need-insert-requires (claims t
 spread-insert-requires t c κs = c .before .before .before .before .before .before .before .before .before .before .before .before .pre .1 .valid
 
 spread-add-requires : (t : ℕ) → spread-lts.Need-add-requires (claims t) (spread-at t) spread.Post spread-Inv-loop spread-μ-loop
-spread-add-requires t c κs = (c .before .before .before .before .before .before .before .before .before .before .before .before .before .pre .1 .chose .whole, room-more (c .before .before .before .before .before .before .before .before .before .before .before .before .before .pre .1) (c .before .before .before .before .before .before .before .before .if1 .left))
+spread-add-requires t c κs =
+    let far = c .before .before .before .before .before .before .before .before .before .before .before .before in
+    let pre = far .before .pre in
+    let if1 = c .before .before .before .before .before .before .before .before .if1 in
+    (pre .1 .chose .whole, room-more (pre .1) (if1 .left))
 
 -- the child's basis is the node's with the generator at the number
 child-basis : (t : ℕ) (c : spread-lts.After-insert (claims t) (spread-at t) spread.Post spread-Inv-loop spread-μ-loop)
-    → Holds (insert word (rowsOf (c .before .before .before .before .before .before .before .before .before .before .before .before .before .args .b)) (getD (c .before .before .before .before .before .before .before .before .before .before .before .before .before .args .gens .now) (c .before .before .before .before .before .before .before .loop .j) 0)) (c .insert .result)
+    → Holds
+    (insert word (rowsOf (c .before .before .before .before .before .before .before .before .before .before .before .before .before .args .b))
+    (getD (c .before .before .before .before .before .before .before .before .before .before .before .before .before .args .gens .now)
+    (c .before .before .before .before .before .before .before .loop .j) 0)) (c .insert .result)
 child-basis t c = c .insert .ensures
 
 spread-spread-requires : (t : ℕ) → spread-lts.Need-spread-requires (claims t) (spread-at t) spread.Post spread-Inv-loop spread-μ-loop
-spread-spread-requires t c κs = let d : c .before .before .before .before .before .before .before .before .before .before .before .before .before .before .before .args .missing ≡ t = c .before .before .before .before .before .before .before .before .before .before .before .before .before .before .before .pre .0 in let e = c .before .before .before .before .before .before .before .before .before .before .if1 .left in (falls-one d e, node-down (c .before .before .before .before .before .before .before .before .before .before .before .before .before .before .before .args .gens .now) (c .before .before .before .before .before .before .before .before .before .before .before .before .before .before .before .args .w .now) (c .before .before .before .before .before .before .before .before .before .before .before .before .before .before .before .args .targets .now) (c .before .before .before .before .before .before .before .before .before .before .before .before .before .before .before .args .missing) (c .before .before .before .before .before .before .before .before .before .before .before .before .before .before .before .args .b) (c .before .before .before .before .before .before .before .before .before .before .before .before .before .before .before .args .c) (c .before .before .before .before .before .before .before .before .before .before .before .before .before .before .before .args .t) (c .before .before .before .before .before .before .before .before .before .before .before .before .before .before .before .args .limit) (c .before .before .before .before .before .before .before .before .before .before .before .before .before .before .before .args .out .now) (c .before .before .before .before .before .before .before .before .before .before .before .before .before .before .before .pre .1) (c .before .before .before .before .before .before .before .before .before .before .if1 .left) _ _ (c .before .before .before .before .before .before .before .before .before .loop .j) (c .before .before .before .before .before .before .before .before .before .loop .u) (c .before .before .before .before .before .before .before .before .before .loop .out) (c .before .before .before .before .before .before .before .before .before .loop .inv) (c .before .before .before .before .before .before .before .before .loop-test .taken) (sym (c .before .before .before .before .is-wanted .ensures) ∙ c .before .before .before .if3 .taken) (c .before .before .insert .result) (child-basis t (c .before .before)) (c .before .add .result) (c .before .add .ensures))
+spread-spread-requires t c κs =
+    let far = c .before .before .before .before .before .before .before .before .before .before .before .before in
+    let args = far .before .before .before .args in
+    let pre = far .before .before .before .pre in
+    let if1 = c .before .before .before .before .before .before .before .before .before .before .if1 in
+    let loop = c .before .before .before .before .before .before .before .before .before .loop in
+    let loop-test = c .before .before .before .before .before .before .before .before .loop-test in
+    let is-wanted = c .before .before .before .before .is-wanted in
+    let if3 = c .before .before .before .if3 in
+    let d : args .missing ≡ t = pre .0 in
+    let e = if1 .left in (
+      falls-one d e,
+      node-down (args .gens .now) (args .w .now) (args .targets .now) (args .missing) (args .b) (args .c) (args .t) (args .limit)
+          (args .out .now) (pre .1) (if1 .left) _ _ (loop .j) (loop .u) (loop .out) (loop .inv) (loop-test .taken)
+          (sym (is-wanted .ensures) ∙ if3 .taken) (c .before .before .insert .result) (child-basis t (c .before .before)) (c .before .add .result)
+          (c .before .add .ensures),
+    )
 
 spread-add-completes : (t : ℕ) → spread-lts.Need-add-completes (claims t) (spread-at t) spread.Post spread-Inv-loop spread-μ-loop
-spread-add-completes t c = omega (arith, c .before .before .before .before .before .before .before .before .before .before .before .loop-test .taken, c .before .before .before .before .before .before .before .before .before .before .before .before .before .before .before .before .before .before .good, c .before .before .before .before .before .before .before .before .before .before .before .before .before .before .before .before .before .before .fits)
+spread-add-completes t c =
+    let far = c .before .before .before .before .before .before .before .before .before .before .before .before in
+    let the-fits = far .before .before .before .before .before .before .fits in
+    let good = far .before .before .before .before .before .before .good in
+    let loop-test = c .before .before .before .before .before .before .before .before .before .before .before .loop-test in
+    omega (arith, loop-test .taken, good, the-fits)
 
 spread-completes-requires : (t : ℕ) → spread-lts.Need-completes-requires (claims t) (spread-at t) spread.Post spread-Inv-loop spread-μ-loop
 spread-completes-requires t c κs = c .before .before .before .before .before .before .before .before .before .before .before .before .before .before .before .before .before .before .pre .1 .valid
 
 spread-same-length-3 : (t : ℕ) → spread-lts.Need-same-length-3 (claims t) (spread-at t) spread.Post spread-Inv-loop spread-μ-loop
-spread-same-length-3 t c = (going-down (c .before .before .before .before .before .before .before .before .before .before .before .before .before .before .before .before .before .before .before .before .args .gens .now) (c .before .before .before .before .before .before .before .before .before .before .before .before .before .before .before .before .before .before .before .before .args .w .now) (c .before .before .before .before .before .before .before .before .before .before .before .before .before .before .before .before .before .before .before .before .args .targets .now) (c .before .before .before .before .before .before .before .before .before .before .before .before .before .before .before .before .before .before .before .before .args .missing) (c .before .before .before .before .before .before .before .before .before .before .before .before .before .before .before .before .before .before .before .before .args .b) (c .before .before .before .before .before .before .before .before .before .before .before .before .before .before .before .before .before .before .before .before .args .c) (c .before .before .before .before .before .before .before .before .before .before .before .before .before .before .before .before .before .before .before .before .args .t) (c .before .before .before .before .before .before .before .before .before .before .before .before .before .before .before .before .before .before .before .before .args .limit) (c .before .before .before .before .before .before .before .before .before .before .before .before .before .before .before .before .before .before .before .before .args .out .now) (c .before .before .before .before .before .before .before .before .before .before .before .before .before .before .before .before .before .before .before .before .pre .1) (c .before .before .before .before .before .before .before .before .before .before .before .before .before .before .before .if1 .left) _ _ (c .before .before .before .before .before .before .before .before .before .before .before .before .before .before .loop .j) (c .before .before .before .before .before .before .before .before .before .before .before .before .before .before .loop .u) (c .before .before .before .before .before .before .before .before .before .before .before .before .before .before .loop .out) (c .before .before .before .before .before .before .before .before .before .before .before .before .before .before .loop .inv) (c .before .before .before .before .before .before .before .before .before .before .before .before .before .loop-test .taken) (sym (c .before .before .before .before .before .before .before .before .before .is-wanted .ensures) ∙ c .before .before .before .before .before .before .before .before .if3 .taken) (c .before .before .before .before .before .before .before .insert .result) (child-basis t (c .before .before .before .before .before .before .before)) (c .before .before .before .before .before .before .add .result) (c .before .before .before .before .before .before .add .ensures) (c .before .before .before .before .spread .result) _ (c .before .before .before .before .spread .ensures)) .same
+spread-same-length-3 t c =
+    let far = c .before .before .before .before .before .before .before .before .before .before .before .before in
+    let args = far .before .before .before .before .before .before .before .before .args in
+    let pre = far .before .before .before .before .before .before .before .before .pre in
+    let if1 = far .before .before .before .if1 in
+    let loop = far .before .before .loop in
+    let loop-test = far .before .loop-test in
+    let is-wanted = c .before .before .before .before .before .before .before .before .before .is-wanted in
+    let if3 = c .before .before .before .before .before .before .before .before .if3 in
+    let the-insert = c .before .before .before .before .before .before .before .insert in
+    let add = c .before .before .before .before .before .before .add in
+    let before = c .before .before .before .before .before .before .before in
+    let the-spread = c .before .before .before .before .spread in
+    (going-down (args .gens .now) (args .w .now) (args .targets .now) (args .missing) (args .b) (args .c) (args .t) (args .limit) (args .out .now)
+    (pre .1) (if1 .left) _ _ (loop .j) (loop .u) (loop .out) (loop .inv) (loop-test .taken) (sym (is-wanted .ensures) ∙ if3 .taken)
+    (the-insert .result) (child-basis t before) (add .result) (add .ensures) (the-spread .result) _ (the-spread .ensures)) .same
 
 spread-returns-3 : (t : ℕ) → spread-lts.Need-returns-3 (claims t) (spread-at t) spread.Post spread-Inv-loop spread-μ-loop
-spread-returns-3 t c = going-stop (c .before .before .before .before .before .before .before .before .before .before .before .before .before .before .before .before .before .before .before .before .args .gens .now) (c .before .before .before .before .before .before .before .before .before .before .before .before .before .before .before .before .before .before .before .before .args .w .now) (c .before .before .before .before .before .before .before .before .before .before .before .before .before .before .before .before .before .before .before .before .args .targets .now) (c .before .before .before .before .before .before .before .before .before .before .before .before .before .before .before .before .before .before .before .before .args .missing) (c .before .before .before .before .before .before .before .before .before .before .before .before .before .before .before .before .before .before .before .before .args .b) (c .before .before .before .before .before .before .before .before .before .before .before .before .before .before .before .before .before .before .before .before .args .c) (c .before .before .before .before .before .before .before .before .before .before .before .before .before .before .before .before .before .before .before .before .args .limit) (c .before .before .before .before .before .before .before .before .before .before .before .before .before .before .before .before .before .before .before .before .pre .1 .space) (c .before .before .before .before .before .before .before .before .before .before .before .before .before .before .before .before .before .before .before .before .pre .1 .valid) _ _ (c .before .before .before .before .before .before .before .before .before .before .before .before .before .before .loop .j) (c .before .before .before .before .spread .result) _ (going-down (c .before .before .before .before .before .before .before .before .before .before .before .before .before .before .before .before .before .before .before .before .args .gens .now) (c .before .before .before .before .before .before .before .before .before .before .before .before .before .before .before .before .before .before .before .before .args .w .now) (c .before .before .before .before .before .before .before .before .before .before .before .before .before .before .before .before .before .before .before .before .args .targets .now) (c .before .before .before .before .before .before .before .before .before .before .before .before .before .before .before .before .before .before .before .before .args .missing) (c .before .before .before .before .before .before .before .before .before .before .before .before .before .before .before .before .before .before .before .before .args .b) (c .before .before .before .before .before .before .before .before .before .before .before .before .before .before .before .before .before .before .before .before .args .c) (c .before .before .before .before .before .before .before .before .before .before .before .before .before .before .before .before .before .before .before .before .args .t) (c .before .before .before .before .before .before .before .before .before .before .before .before .before .before .before .before .before .before .before .before .args .limit) (c .before .before .before .before .before .before .before .before .before .before .before .before .before .before .before .before .before .before .before .before .args .out .now) (c .before .before .before .before .before .before .before .before .before .before .before .before .before .before .before .before .before .before .before .before .pre .1) (c .before .before .before .before .before .before .before .before .before .before .before .before .before .before .before .if1 .left) _ _ (c .before .before .before .before .before .before .before .before .before .before .before .before .before .before .loop .j) (c .before .before .before .before .before .before .before .before .before .before .before .before .before .before .loop .u) (c .before .before .before .before .before .before .before .before .before .before .before .before .before .before .loop .out) (c .before .before .before .before .before .before .before .before .before .before .before .before .before .before .loop .inv) (c .before .before .before .before .before .before .before .before .before .before .before .before .before .loop-test .taken) (sym (c .before .before .before .before .before .before .before .before .before .is-wanted .ensures) ∙ c .before .before .before .before .before .before .before .before .if3 .taken) (c .before .before .before .before .before .before .before .insert .result) (child-basis t (c .before .before .before .before .before .before .before)) (c .before .before .before .before .before .before .add .result) (c .before .before .before .before .before .before .add .ensures) (c .before .before .before .before .spread .result) _ (c .before .before .before .before .spread .ensures)) (c .before .before .before .before .before .before .before .before .before .before .before .before .before .loop-test .taken) (sym (c .before .completes .ensures) ∙ not-true (c .before .completes .result) (c .if4 .taken))
+spread-returns-3 t c =
+    let far = c .before .before .before .before .before .before .before .before .before .before .before .before in
+    let args = far .before .before .before .before .before .before .before .before .args in
+    let pre = far .before .before .before .before .before .before .before .before .pre in
+    let if1 = far .before .before .before .if1 in
+    let loop = far .before .before .loop in
+    let loop-test = far .before .loop-test in
+    let is-wanted = c .before .before .before .before .before .before .before .before .before .is-wanted in
+    let if3 = c .before .before .before .before .before .before .before .before .if3 in
+    let the-insert = c .before .before .before .before .before .before .before .insert in
+    let add = c .before .before .before .before .before .before .add in
+    let before = c .before .before .before .before .before .before .before in
+    let the-spread = c .before .before .before .before .spread in
+    going-stop (args .gens .now) (args .w .now) (args .targets .now) (args .missing) (args .b) (args .c) (args .limit) (pre .1 .space) (pre .1 .valid)
+    _ _ (loop .j) (the-spread .result) _
+    (going-down (args .gens .now) (args .w .now) (args .targets .now) (args .missing) (args .b) (args .c) (args .t) (args .limit) (args .out .now)
+    (pre .1) (if1 .left) _ _ (loop .j) (loop .u) (loop .out) (loop .inv) (loop-test .taken) (sym (is-wanted .ensures) ∙ if3 .taken)
+    (the-insert .result) (child-basis t before) (add .result) (add .ensures) (the-spread .result) _ (the-spread .ensures)) (loop-test .taken)
+    (sym (c .before .completes .ensures) ∙ not-true (c .before .completes .result) (c .if4 .taken))
 
 spread-add-j : (t : ℕ) → spread-lts.Need-add-j (claims t) (spread-at t) spread.Post spread-Inv-loop spread-μ-loop
-spread-add-j t c = one-fits (c .before .before .before .before .before .before .before .before .before .before .before .before .before .loop-test .taken) (c .before .before .before .before .before .before .before .before .before .before .before .before .before .before .before .before .before .before .before .before .good .0 .1)
+spread-add-j t c =
+    let far = c .before .before .before .before .before .before .before .before .before .before .before .before in
+    let good = far .before .before .before .before .before .before .before .before .good in
+    let loop-test = far .before .loop-test in
+    one-fits (loop-test .taken) (good .0 .1)
 
 spread-loop-less : (t : ℕ) → spread-lts.Need-loop-less (claims t) (spread-at t) spread.Post spread-Inv-loop spread-μ-loop
 spread-loop-less t c = fewer (c .before .before .before .before .before .before .before .before .before .before .before .before .before .loop-test .taken)
 
 spread-loop-again : (t : ℕ) → spread-lts.Need-loop-again (claims t) (spread-at t) spread.Post spread-Inv-loop spread-μ-loop
-spread-loop-again t c = going-down (c .before .before .before .before .before .before .before .before .before .before .before .before .before .before .before .before .before .before .before .before .args .gens .now) (c .before .before .before .before .before .before .before .before .before .before .before .before .before .before .before .before .before .before .before .before .args .w .now) (c .before .before .before .before .before .before .before .before .before .before .before .before .before .before .before .before .before .before .before .before .args .targets .now) (c .before .before .before .before .before .before .before .before .before .before .before .before .before .before .before .before .before .before .before .before .args .missing) (c .before .before .before .before .before .before .before .before .before .before .before .before .before .before .before .before .before .before .before .before .args .b) (c .before .before .before .before .before .before .before .before .before .before .before .before .before .before .before .before .before .before .before .before .args .c) (c .before .before .before .before .before .before .before .before .before .before .before .before .before .before .before .before .before .before .before .before .args .t) (c .before .before .before .before .before .before .before .before .before .before .before .before .before .before .before .before .before .before .before .before .args .limit) (c .before .before .before .before .before .before .before .before .before .before .before .before .before .before .before .before .before .before .before .before .args .out .now) (c .before .before .before .before .before .before .before .before .before .before .before .before .before .before .before .before .before .before .before .before .pre .1) (c .before .before .before .before .before .before .before .before .before .before .before .before .before .before .before .if1 .left) _ _ (c .before .before .before .before .before .before .before .before .before .before .before .before .before .before .loop .j) (c .before .before .before .before .before .before .before .before .before .before .before .before .before .before .loop .u) (c .before .before .before .before .before .before .before .before .before .before .before .before .before .before .loop .out) (c .before .before .before .before .before .before .before .before .before .before .before .before .before .before .loop .inv) (c .before .before .before .before .before .before .before .before .before .before .before .before .before .loop-test .taken) (sym (c .before .before .before .before .before .before .before .before .before .is-wanted .ensures) ∙ c .before .before .before .before .before .before .before .before .if3 .taken) (c .before .before .before .before .before .before .before .insert .result) (child-basis t (c .before .before .before .before .before .before .before)) (c .before .before .before .before .before .before .add .result) (c .before .before .before .before .before .before .add .ensures) (c .before .before .before .before .spread .result) _ (c .before .before .before .before .spread .ensures)
+spread-loop-again t c =
+    let far = c .before .before .before .before .before .before .before .before .before .before .before .before in
+    let args = far .before .before .before .before .before .before .before .before .args in
+    let pre = far .before .before .before .before .before .before .before .before .pre in
+    let if1 = far .before .before .before .if1 in
+    let loop = far .before .before .loop in
+    let loop-test = far .before .loop-test in
+    let is-wanted = c .before .before .before .before .before .before .before .before .before .is-wanted in
+    let if3 = c .before .before .before .before .before .before .before .before .if3 in
+    let the-insert = c .before .before .before .before .before .before .before .insert in
+    let add = c .before .before .before .before .before .before .add in
+    let before = c .before .before .before .before .before .before .before in
+    let the-spread = c .before .before .before .before .spread in
+    going-down (args .gens .now) (args .w .now) (args .targets .now) (args .missing) (args .b) (args .c) (args .t) (args .limit) (args .out .now)
+    (pre .1) (if1 .left) _ _ (loop .j) (loop .u) (loop .out) (loop .inv) (loop-test .taken) (sym (is-wanted .ensures) ∙ if3 .taken)
+    (the-insert .result) (child-basis t before) (add .result) (add .ensures) (the-spread .result) _ (the-spread .ensures)
 
 spread-add-j-2 : (t : ℕ) → spread-lts.Need-add-j-2 (claims t) (spread-at t) spread.Post spread-Inv-loop spread-μ-loop
-spread-add-j-2 t c = one-fits (c .before .before .before .before .before .loop-test .taken) (c .before .before .before .before .before .before .before .before .before .before .before .before .good .0 .1)
+spread-add-j-2 t c =
+    let good = c .before .before .before .before .before .before .before .before .before .before .before .before .good in
+    let loop-test = c .before .before .before .before .before .loop-test in
+    one-fits (loop-test .taken) (good .0 .1)
 
 spread-loop-less-2 : (t : ℕ) → spread-lts.Need-loop-less-2 (claims t) (spread-at t) spread.Post spread-Inv-loop spread-μ-loop
 spread-loop-less-2 t c = fewer (c .before .before .before .before .before .loop-test .taken)
 
 spread-loop-again-2 : (t : ℕ) → spread-lts.Need-loop-again-2 (claims t) (spread-at t) spread.Post spread-Inv-loop spread-μ-loop
-spread-loop-again-2 t c = going-skip (c .before .before .before .before .before .before .before .before .before .before .before .before .args .gens .now) (c .before .before .before .before .before .before .before .before .before .before .before .before .args .w .now) (c .before .before .before .before .before .before .before .before .before .before .before .before .args .targets .now) (c .before .before .before .before .before .before .before .before .before .before .before .before .args .missing) (c .before .before .before .before .before .before .before .before .before .before .before .before .args .b) (c .before .before .before .before .before .before .before .before .before .before .before .before .args .c) (c .before .before .before .before .before .before .before .before .before .before .before .before .args .t) (c .before .before .before .before .before .before .before .before .before .before .before .before .args .limit) (c .before .before .before .before .before .before .before .before .before .before .before .before .args .out .now) (c .before .before .before .before .before .before .before .before .before .before .before .before .pre .1) (c .before .before .before .before .before .before .before .if1 .left) _ _ (c .before .before .before .before .before .before .loop .j) (c .before .before .before .before .before .before .loop .u) (c .before .before .before .before .before .before .loop .out) (c .before .before .before .before .before .before .loop .inv) (c .before .before .before .before .before .loop-test .taken) (sym (c .before .is-wanted .ensures) ∙ c .if3 .left)
+spread-loop-again-2 t c =
+    let args = c .before .before .before .before .before .before .before .before .before .before .before .before .args in
+    let pre = c .before .before .before .before .before .before .before .before .before .before .before .before .pre in
+    let if1 = c .before .before .before .before .before .before .before .if1 in
+    let loop = c .before .before .before .before .before .before .loop in
+    let loop-test = c .before .before .before .before .before .loop-test in
+    going-skip (args .gens .now) (args .w .now) (args .targets .now) (args .missing) (args .b) (args .c) (args .t) (args .limit) (args .out .now)
+    (pre .1) (if1 .left) _ _ (loop .j) (loop .u) (loop .out) (loop .inv) (loop-test .taken) (sym (c .before .is-wanted .ensures) ∙ c .if3 .left)
 
 spread-same-length-4 : (t : ℕ) → spread-lts.Need-same-length-4 (claims t) (spread-at t) spread.Post spread-Inv-loop spread-μ-loop
 spread-same-length-4 t c = c .before .loop .inv .same
 
 spread-returns-4 : (t : ℕ) → spread-lts.Need-returns-4 (claims t) (spread-at t) spread.Post spread-Inv-loop spread-μ-loop
-spread-returns-4 t c = going-end (c .before .before .before .before .before .before .before .args .gens .now) (c .before .before .before .before .before .before .before .args .w .now) (c .before .before .before .before .before .before .before .args .targets .now) (c .before .before .before .before .before .before .before .args .missing) (c .before .before .before .before .before .before .before .args .b) (c .before .before .before .before .before .before .before .args .c) (c .before .before .before .before .before .before .before .args .t) (c .before .before .before .before .before .before .before .args .limit) (c .before .before .before .before .before .before .before .args .out .now) (c .before .before .before .before .before .before .before .pre .1) (c .before .before .if1 .left) _ _ (c .before .loop .j) (c .before .loop .u) (c .before .loop .out) (c .before .loop .inv) (c .loop-test .left)
+spread-returns-4 t c =
+    let args = c .before .before .before .before .before .before .before .args in
+    let pre = c .before .before .before .before .before .before .before .pre in
+    going-end (args .gens .now) (args .w .now) (args .targets .now) (args .missing) (args .b) (args .c) (args .t) (args .limit) (args .out .now)
+    (pre .1) (c .before .before .if1 .left) _ _ (c .before .loop .j) (c .before .loop .u) (c .before .loop .out) (c .before .loop .inv)
+    (c .loop-test .left)
 
 pub +spread-spec : {M : Type 1} → statement M
 +spread-spec = close μ-spread λ t. spread-lts.spec (claims t)

@@ -14,43 +14,46 @@ use Rattle.space_formulae.proofs.spaces.list_space.Lts as lts
 use Rattle.bases.proofs.Basis.empty.Reads as empty-reads
 use Rattle.space_formulae.proofs.enumeration.spread.Reads as spread-reads
 
-add-limit : tie.Need-add-limit
-add-limit c = search needs
-
-div-limit : tie.Need-div-limit
-div-limit c = search needs
-
 add-limit-2 : tie.Need-add-limit-2
-add-limit-2 c = omega (arith, div-le-self (length (c .before .before .before .before .args .out .now)) (length (c .before .before .before .before .args .rows .now) + length (c .before .before .before .before .args .targets .now)))
-
-empty-requires : tie.Need-empty-requires
-empty-requires c κs = search needs
+add-limit-2 c =
+    let args = c .before .before .before .before .args in
+    omega (arith, div-le-self (length (args .out .now)) (length (args .rows .now) + length (args .targets .now)))
 
 spread-requires : tie.Need-spread-requires
-spread-requires c κs = first-node (c .before .before .before .before .before .before .args .gens .now) (c .before .before .before .before .before .before .args .targets .now) (c .before .before .before .before .before .before .args .rows .now) (c .before .before .before .before .before .before .args .out .now) (c .before .before .before .before .before .before .pre) (c .before .empty .result) (c .before .empty .ensures) _ (record { numbers = refl; forms = refl; room = omega arith }) refl _
-
-same-length : tie.Need-same-length
-same-length c = search needs
+spread-requires c κs =
+    let args = c .before .before .before .before .before .before .args in
+    let pre = c .before .before .before .before .before .before .pre in
+    first-node (args .gens .now) (args .targets .now) (args .rows .now) (args .out .now) pre (c .before .empty .result) (c .before .empty .ensures) _
+    (record { numbers = refl; forms = refl; room = omega arith }) refl _
 
 returns : tie.Need-returns
-returns c = told-all (c .before .before .before .before .before .before .before .before .before .before .before .args .gens .now) (c .before .before .before .before .before .before .before .before .before .before .before .args .targets .now) (c .before .before .before .before .before .before .before .before .before .before .before .args .rows .now) (c .before .before .before .before .before .before .before .before .before .before .before .args .out .now) (c .before .before .before .before .before .before .before .before .before .before .before .pre) (c .before .before .before .before .before .before .empty .result) (c .before .before .before .before .before .before .empty .ensures) [] refl _ refl (c .before .before .before .before .spread .result) _ (c .before .before .before .before .spread .ensures) (c .if1 .taken)
-
-same-length-2 : tie.Need-same-length-2
-same-length-2 c = search needs
+returns c =
+    let args = c .before .before .before .before .before .before .before .before .before .before .before .args in
+    let pre = c .before .before .before .before .before .before .before .before .before .before .before .pre in
+    let empty = c .before .before .before .before .before .before .empty in
+    let spread = c .before .before .before .before .spread in
+    told-all (args .gens .now) (args .targets .now) (args .rows .now) (args .out .now) pre (empty .result) (empty .ensures) [] refl _ refl
+    (spread .result) _ (spread .ensures) (c .if1 .taken)
 
 returns-2 : tie.Need-returns-2
-returns-2 c = told-more (c .before .before .before .before .before .before .before .before .before .before .before .args .gens .now) (c .before .before .before .before .before .before .before .before .before .before .before .args .targets .now) (c .before .before .before .before .before .before .before .before .before .before .before .args .rows .now) (c .before .before .before .before .before .before .before .before .before .before .before .args .out .now) (c .before .before .before .before .before .before .before .before .before .before .before .pre) (c .before .before .before .before .before .before .empty .result) (c .before .before .before .before .before .before .empty .ensures) [] refl _ refl (c .before .before .before .before .spread .result) _ (c .before .before .before .before .spread .ensures) (c .if1 .left)
+returns-2 c =
+    let args = c .before .before .before .before .before .before .before .before .before .before .before .args in
+    let pre = c .before .before .before .before .before .before .before .before .before .before .before .pre in
+    let empty = c .before .before .before .before .before .before .empty in
+    let spread = c .before .before .before .before .spread in
+    told-more (args .gens .now) (args .targets .now) (args .rows .now) (args .out .now) pre (empty .result) (empty .ensures) [] refl _ refl
+    (spread .result) _ (spread .ensures) (c .if1 .left)
 
 pub list-space-spec : {M : Type 1} → statement M
 list-space-spec =
     tie.close
     (tie.spec
-    add-limit
-    div-limit
+    (λ c. search needs)
+    (λ c. search needs)
     add-limit-2
-    empty-requires
+    (λ c κs. search needs)
     spread-requires
-    same-length
+    (λ c. search needs)
     returns
-    same-length-2
+    (λ c. search needs)
     returns-2)

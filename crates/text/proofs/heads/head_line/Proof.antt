@@ -83,13 +83,22 @@ enum-told-3 c = c .match3 .keys2
 
 returns-3 : tie.Need-returns-3
 returns-3 c =
-    let cut-at = c .before .before .before .before .before .before .before .before .before .before .before .before .cut-at in
-    let e = c .before .before .before .before .before .before .before .before .before .before .e in
-    let cut-at2 = c .before .before .before .before .before .before .before .cut-at2 in
-    let n = c .before .before .before .before .before .n in
-    let args = c .before .before .before .before .before .before .before .before .before .before .before .before .before .before .args in
-    let counts-of = c .before .before .counts-of in
-    (head-counts _ _ _ _ _ (cut-told _ _ _ _ (cut-at .ensures .0) (e .given .1)) (cut-told _ _ _ _ (cut-at2 .ensures .0) (n .given .1)) (ap countFields (sym (part (take (e .given .0 .0) (args .s .now)) (n .given .0 .0 + 1))) ∙ counts-of .ensures ∙ ap seenCounts (c .enum-told3 .given .1)), omega arith)
+    let far = c .before .before .before .before .before .before .before .before .before .before .before .before in
+    let the-args = far .before .before .args in
+    let the-cut-at = c .before .before .before .before .before .before .before .before .before .before .before .before .cut-at in
+    let the-e = c .before .before .before .before .before .before .before .before .before .before .e in
+    let the-cut-at2 = c .before .before .before .before .before .before .before .cut-at2 in
+    let the-n = c .before .before .before .before .before .n in
+    let cut-at = the-cut-at in
+    let e = the-e in
+    let cut-at2 = the-cut-at2 in
+    let n = the-n in
+    let args = the-args in
+    let counts-of = c .before .before .counts-of in (
+      head-counts _ _ _ _ _ (cut-told _ _ _ _ (cut-at .ensures .0) (e .given .1)) (cut-told _ _ _ _ (cut-at2 .ensures .0) (n .given .1))
+          (ap countFields (sym (part (take (e .given .0 .0) (args .s .now)) (n .given .0 .0 + 1))) ∙ counts-of .ensures ∙ ap seenCounts (c .enum-told3 .given .1)),
+      omega arith,
+    )
 
 slice-aggregate-kind-named : tie.Need-slice-aggregate-kind-named
 slice-aggregate-kind-named c =
@@ -111,14 +120,25 @@ add-t14 c =
 
 returns-4 : tie.Need-returns-4
 returns-4 c =
-    let cut-at = c .before .before .before .before .before .before .before .before .before .before .before .before .before .before .before .cut-at in
-    let e = c .before .before .before .before .before .before .before .before .before .before .before .before .before .e in
-    let cut-at2 = c .before .before .before .before .before .before .before .before .before .before .cut-at2 in
-    let n = c .before .before .before .before .before .before .before .before .n in
-    let args = c .before .before .before .before .before .before .before .before .before .before .before .before .before .before .before .before .before .args in
-    let counts-of = c .before .before .before .before .before .counts-of in
-    let p = c .before .before .before .p in
-    (rw (← c .kind-named .ensures) (head-is _ _ _ _ _ _ _ _ _ (cut-told _ _ _ _ (cut-at .ensures .0) (e .given .1)) (cut-told _ _ _ _ (cut-at2 .ensures .0) (n .given .1)) (ap countFields (sym (part (take (e .given .0 .0) (args .s .now)) (n .given .0 .0 + 1))) ∙ counts-of .ensures ∙ ap seenCounts (p .given .1))), cut-fits _ _ _ (cut-at .ensures .1) (e .given .1))
+    let far = c .before .before .before .before .before .before .before .before .before .before .before .before in
+    let the-args = far .before .before .before .before .before .args in
+    let the-cut-at = far .before .before .before .cut-at in
+    let the-e = far .before .e in
+    let the-cut-at2 = c .before .before .before .before .before .before .before .before .before .before .cut-at2 in
+    let the-n = c .before .before .before .before .before .before .before .before .n in
+    let the-counts-of = c .before .before .before .before .before .counts-of in
+    let the-p = c .before .before .before .p in
+    let cut-at = the-cut-at in
+    let e = the-e in
+    let cut-at2 = the-cut-at2 in
+    let n = the-n in
+    let args = the-args in
+    let counts-of = the-counts-of in
+    let p = the-p in (
+      rw (← c .kind-named .ensures)
+          (head-is _ _ _ _ _ _ _ _ _ (cut-told _ _ _ _ (cut-at .ensures .0) (e .given .1)) (cut-told _ _ _ _ (cut-at2 .ensures .0) (n .given .1)) (ap countFields (sym (part (take (e .given .0 .0) (args .s .now)) (n .given .0 .0 + 1))) ∙ counts-of .ensures ∙ ap seenCounts (p .given .1))),
+      cut-fits _ _ _ (cut-at .ensures .1) (e .given .1),
+    )
 
 pub head-line-spec : {M : Type 1} → statement M
 head-line-spec =

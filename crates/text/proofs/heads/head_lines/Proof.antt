@@ -11,9 +11,6 @@ use Rattle.text.specs.heads.laws.Head.{heads-name, heads-is, head-at}
 use Rattle.text.proofs.heads.head_lines.Statement.{statement}
 use Rattle.text.proofs.heads.head_lines.Tie as tie
 
-slice-aggregate-name-line : tie.Need-slice-aggregate-name-line
-slice-aggregate-name-line c = search needs
-
 name-line-requires : tie.Need-name-line-requires
 name-line-requires c κs = tt
 
@@ -71,17 +68,25 @@ add-t15 c =
 
 returns-3 : tie.Need-returns-3
 returns-3 c =
-    let name-line = c .before .before .before .before .before .before .before .before .name-line in
-    let args = c .before .before .before .before .before .before .before .before .before .before .before .args in
-    let u = c .before .before .before .before .before .before .u in
-    let head-line = c .before .before .before .head-line in
-    (heads-is _ _ (name-line .ensures .0 ∙ ap (seenUsed (args .s .now)) (u .given .1)) ∙ head-at (args .s .now) _ _ _ _ _ _ _ _ (head-line .ensures .0) (c .before .kind .given .1), fits-at (args .s .now) _ _ _ bytesHead (head-line .ensures .1) (c .before .kind .given .1) (used-fit _ _ _ (name-line .ensures .1) (u .given .1)))
+    let the-args = c .before .before .before .before .before .before .before .before .before .before .before .args in
+    let the-name-line = c .before .before .before .before .before .before .before .before .name-line in
+    let the-u = c .before .before .before .before .before .before .u in
+    let the-head-line = c .before .before .before .head-line in
+    let name-line = the-name-line in
+    let args = the-args in
+    let u = the-u in
+    let head-line = the-head-line in (
+      heads-is _ _ (name-line .ensures .0 ∙ ap (seenUsed (args .s .now)) (u .given .1)) ∙ head-at (args .s .now) _ _ _ _ _ _ _ _
+          (head-line .ensures .0) (c .before .kind .given .1),
+      fits-at (args .s .now) _ _ _ bytesHead (head-line .ensures .1)
+          (c .before .kind .given .1) (used-fit _ _ _ (name-line .ensures .1) (u .given .1)),
+    )
 
 pub head-lines-spec : {M : Type 1} → statement M
 head-lines-spec =
     tie.close
     (tie.spec
-    slice-aggregate-name-line
+    (λ c. search needs)
     name-line-requires
     enum-known-u
     enum-told

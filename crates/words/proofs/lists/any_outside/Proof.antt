@@ -17,23 +17,17 @@ abbrev μ-loop : tie.MeasureT-loop
 loop-holds : tie.Need-loop-holds Inv-loop μ-loop
 loop-holds c = checking-start (c .args .n) (c .args .sel .now)
 
-mul-if1 : tie.Need-mul-if1 Inv-loop μ-loop
-mul-if1 c = omega arith
-
-shared-slice-read-if1 : tie.Need-shared-slice-read-if1 Inv-loop μ-loop
-shared-slice-read-if1 c = omega arith
-
 returns : tie.Need-returns Inv-loop μ-loop
-returns c = checking-found (c .before .before .before .before .args .n) (c .before .before .before .before .args .sel .now) (c .before .before .before .loop .i) (c .before .before .before .loop .inv) (c .before .before .loop-test .taken) (c .if1 .taken)
-
-add-i : tie.Need-add-i Inv-loop μ-loop
-add-i c = omega arith
-
-loop-less : tie.Need-loop-less Inv-loop μ-loop
-loop-less c = omega arith
+returns c =
+    let args = c .before .before .before .before .args in
+    let loop = c .before .before .before .loop in
+    checking-found (args .n) (args .sel .now) (loop .i) (loop .inv) (c .before .before .loop-test .taken) (c .if1 .taken)
 
 loop-again : tie.Need-loop-again Inv-loop μ-loop
-loop-again c = checking-past (c .before .before .before .before .args .n) (c .before .before .before .before .args .sel .now) (c .before .before .before .loop .i) (c .before .before .before .loop .inv) (c .before .before .loop-test .taken) (let h = c .if1 .left in omega arith)
+loop-again c =
+    let args = c .before .before .before .before .args in
+    let loop = c .before .before .before .loop in
+    checking-past (args .n) (args .sel .now) (loop .i) (loop .inv) (c .before .before .loop-test .taken) (let h = c .if1 .left in omega arith)
 
 returns-2 : tie.Need-returns-2 Inv-loop μ-loop
 returns-2 c = checking-end (c .before .before .args .n) (c .before .before .args .sel .now) (c .before .loop .i) (c .before .loop .inv) (omega arith)
@@ -45,10 +39,10 @@ any-outside-spec =
     Inv-loop
     μ-loop
     loop-holds
-    mul-if1
-    shared-slice-read-if1
+    (λ c. omega arith)
+    (λ c. omega arith)
     returns
-    add-i
-    loop-less
+    (λ c. omega arith)
+    (λ c. omega arith)
     loop-again
     returns-2)

@@ -17,21 +17,26 @@ returns c =
 
 returns-2 : tie.Need-returns-2
 returns-2 c =
-    let a = c .before .before .before .before .before .args in
-    map-as (a .w) (a .gs .now) (a .ts .now) (a .others .now) true false (wide (a .w) (a .others .now)) (eq-eqb (length (a .gs .now)) 0 (c .before .if1 .left)) (ne-eqb (length (a .ts .now)) 0 (c .if2 .taken)) refl
-
-any-wide-requires : tie.Need-any-wide-requires
-any-wide-requires c κs = search needs
+    let args = c .before .before .before .before .before .args in
+    let a = args in
+    map-as (a .w) (a .gs .now) (a .ts .now) (a .others .now) true false (wide (a .w) (a .others .now))
+    (eq-eqb (length (a .gs .now)) 0 (c .before .if1 .left)) (ne-eqb (length (a .ts .now)) 0 (c .if2 .taken)) refl
 
 returns-3 : tie.Need-returns-3
 returns-3 c =
-    let a = c .before .before .before .before .before .before .before .args in
-    map-as (a .w) (a .gs .now) (a .ts .now) (a .others .now) true true true (eq-eqb (length (a .gs .now)) 0 (c .before .before .before .if1 .left)) (eq-eqb (length (a .ts .now)) 0 (c .before .before .if2 .left)) (sym (c .before .any-wide .ensures) ∙ c .if3 .taken)
+    let args = c .before .before .before .before .before .before .before .args in
+    let if1 = c .before .before .before .if1 in
+    let a = args in
+    map-as (a .w) (a .gs .now) (a .ts .now) (a .others .now) true true true (eq-eqb (length (a .gs .now)) 0 (if1 .left))
+    (eq-eqb (length (a .ts .now)) 0 (c .before .before .if2 .left)) (sym (c .before .any-wide .ensures) ∙ c .if3 .taken)
 
 returns-4 : tie.Need-returns-4
 returns-4 c =
-    let a = c .before .before .before .before .before .before .before .args in
-    map-as (a .w) (a .gs .now) (a .ts .now) (a .others .now) true true false (eq-eqb (length (a .gs .now)) 0 (c .before .before .before .if1 .left)) (eq-eqb (length (a .ts .now)) 0 (c .before .before .if2 .left)) (sym (c .before .any-wide .ensures) ∙ c .if3 .left)
+    let args = c .before .before .before .before .before .before .before .args in
+    let if1 = c .before .before .before .if1 in
+    let a = args in
+    map-as (a .w) (a .gs .now) (a .ts .now) (a .others .now) true true false (eq-eqb (length (a .gs .now)) 0 (if1 .left))
+    (eq-eqb (length (a .ts .now)) 0 (c .before .before .if2 .left)) (sym (c .before .any-wide .ensures) ∙ c .if3 .left)
 
 pub map-refusal-spec : {M : Type 1} → statement M
-map-refusal-spec = tie.close (tie.spec returns returns-2 any-wide-requires returns-3 returns-4)
+map-refusal-spec = tie.close (tie.spec returns returns-2 (λ c κs. search needs) returns-3 returns-4)

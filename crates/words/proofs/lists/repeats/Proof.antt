@@ -15,32 +15,17 @@ Inv-loop xs i₀ i = repeats (drop i xs) ≡ repeats xs
 abbrev μ-loop : tie.MeasureT-loop
 μ-loop xs i₀ i = length xs - i
 
-loop-holds : tie.Need-loop-holds Inv-loop μ-loop
-loop-holds c = refl
-
-mul-stands-from : tie.Need-mul-stands-from Inv-loop μ-loop
-mul-stands-from c = omega arith
-
-shared-slice-read-stands-from : tie.Need-shared-slice-read-stands-from Inv-loop μ-loop
-shared-slice-read-stands-from c = omega arith
-
-add-stands-from : tie.Need-add-stands-from Inv-loop μ-loop
-add-stands-from c = omega arith
-
-stands-from-requires : tie.Need-stands-from-requires Inv-loop μ-loop
-stands-from-requires c κs = search needs
-
 returns : tie.Need-returns Inv-loop μ-loop
-returns c = repeats-here (c .before .before .before .before .before .before .args .xs .now) (c .before .before .before .before .loop .i) _ (omega arith) (c .before .before .before .before .loop .inv) (sym (c .before .stands-from .ensures) ∙ c .if1 .taken)
-
-add-i : tie.Need-add-i Inv-loop μ-loop
-add-i c = omega arith
-
-loop-less : tie.Need-loop-less Inv-loop μ-loop
-loop-less c = omega arith
+returns c =
+    let args = c .before .before .before .before .before .before .args in
+    let loop = c .before .before .before .before .loop in
+    repeats-here (args .xs .now) (loop .i) _ (omega arith) (loop .inv) (sym (c .before .stands-from .ensures) ∙ c .if1 .taken)
 
 loop-again : tie.Need-loop-again Inv-loop μ-loop
-loop-again c = repeats-later (c .before .before .before .before .before .before .args .xs .now) (c .before .before .before .before .loop .i) _ (omega arith) (c .before .before .before .before .loop .inv) (sym (c .before .stands-from .ensures) ∙ c .if1 .left)
+loop-again c =
+    let args = c .before .before .before .before .before .before .args in
+    let loop = c .before .before .before .before .loop in
+    repeats-later (args .xs .now) (loop .i) _ (omega arith) (loop .inv) (sym (c .before .stands-from .ensures) ∙ c .if1 .left)
 
 returns-2 : tie.Need-returns-2 Inv-loop μ-loop
 returns-2 c = repeats-end (c .before .before .before .args .xs .now) (c .before .loop .i) _ (omega arith) (c .before .loop .inv)
@@ -51,13 +36,13 @@ repeats-spec =
     (tie.spec
     Inv-loop
     μ-loop
-    loop-holds
-    mul-stands-from
-    shared-slice-read-stands-from
-    add-stands-from
-    stands-from-requires
+    (λ c. refl)
+    (λ c. omega arith)
+    (λ c. omega arith)
+    (λ c. omega arith)
+    (λ c κs. search needs)
     returns
-    add-i
-    loop-less
+    (λ c. omega arith)
+    (λ c. omega arith)
     loop-again
     returns-2)

@@ -15,26 +15,17 @@ Inv-loop x xs from i₀ i = anyOf (eqb x) (drop i xs) ≡ anyOf (eqb x) (drop fr
 abbrev μ-loop : tie.MeasureT-loop
 μ-loop x xs from i₀ i = length xs - i
 
-loop-holds : tie.Need-loop-holds Inv-loop μ-loop
-loop-holds c = refl
-
-mul-if1 : tie.Need-mul-if1 Inv-loop μ-loop
-mul-if1 c = omega arith
-
-shared-slice-read-if1 : tie.Need-shared-slice-read-if1 Inv-loop μ-loop
-shared-slice-read-if1 c = omega arith
-
 returns : tie.Need-returns Inv-loop μ-loop
-returns c = stands-here (c .before .before .before .before .args .x) (c .before .before .before .before .args .xs .now) (c .before .before .before .loop .i) _ (omega arith) (c .before .before .before .loop .inv) (c .if1 .taken)
-
-add-i : tie.Need-add-i Inv-loop μ-loop
-add-i c = omega arith
-
-loop-less : tie.Need-loop-less Inv-loop μ-loop
-loop-less c = omega arith
+returns c =
+    let args = c .before .before .before .before .args in
+    let loop = c .before .before .before .loop in
+    stands-here (args .x) (args .xs .now) (loop .i) _ (omega arith) (loop .inv) (c .if1 .taken)
 
 loop-again : tie.Need-loop-again Inv-loop μ-loop
-loop-again c = stands-later (c .before .before .before .before .args .x) (c .before .before .before .before .args .xs .now) (c .before .before .before .loop .i) _ (omega arith) (c .before .before .before .loop .inv) (c .if1 .left)
+loop-again c =
+    let args = c .before .before .before .before .args in
+    let loop = c .before .before .before .loop in
+    stands-later (args .x) (args .xs .now) (loop .i) _ (omega arith) (loop .inv) (c .if1 .left)
 
 returns-2 : tie.Need-returns-2 Inv-loop μ-loop
 returns-2 c = stands-end (c .before .before .args .x) (c .before .before .args .xs .now) (c .before .loop .i) _ (omega arith) (c .before .loop .inv)
@@ -45,11 +36,11 @@ stands-from-spec =
     (tie.spec
     Inv-loop
     μ-loop
-    loop-holds
-    mul-if1
-    shared-slice-read-if1
+    (λ c. refl)
+    (λ c. omega arith)
+    (λ c. omega arith)
     returns
-    add-i
-    loop-less
+    (λ c. omega arith)
+    (λ c. omega arith)
     loop-again
     returns-2)
