@@ -1,11 +1,7 @@
 #!/bin/sh
-# Writes the expected replies of crates/check_files: for each data file in order its name, then check.py's output.
+# Writes what the programs that run values are run on, and the replies expected of them, by the reference.
 set -eu
-LC_ALL=C
-export LC_ALL
 here=$(cd "$(dirname "$0")" && pwd)
-crate=$(cd "$here/../../crates/check_files" && pwd)
-for file in "$crate"/data/*.txt; do
-    basename "$file"
-    python3 -B "$here/check.py" < "$file"
-done > "$crate/stdout"
+crates=$(cd "$here/../../crates" && pwd)
+python3 -B "$here/make_files.py" "$crates/file_values"
+python3 -B "$here/make_calls.py" "$crates/call_values"

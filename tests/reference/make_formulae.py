@@ -1,5 +1,4 @@
-#!/usr/bin/env python3
-"""Writes the formula files of crates/check_files/data, and their names to its file args.
+"""The formula files of crates/file_values, which make_files.py writes, and Check's reply to each.
 
 Each file is made with the verdict it is meant to bring: 'right', a number t
 as ('wrong', t), or a refusal's number.  check.py must agree with all of them.
@@ -7,15 +6,11 @@ Nothing is random.  A name is three digits, a short name padded with '-', and
 `.txt`: 24 bytes.
 """
 
-import glob
-import os
 import sys
 
 sys.dont_write_bytecode = True
 import check
 
-CRATE = os.path.join(os.path.dirname(os.path.abspath(__file__)), "..", "..", "crates", "check_files")
-DATA = os.path.join(CRATE, "data")
 HEAD = b"kind,p,q,r,k\n"
 
 files = []
@@ -502,27 +497,12 @@ def wanted(want, reply):
     return reply == "refused %d\n" % want
 
 
-def main():
+def made():
+    """Name, bytes and reply of each file."""
     for part in (right, wrong, refused_1, refused_2, refused_3, refused_5,
                  refused_6, refused_7, refused_8):
         part()
-    bad = [(name, want, check.check(data)) for _, name, data, want in files
-           if not wanted(want, check.check(data))]
-    for name, want, reply in bad:
-        sys.stderr.write("%s: meant %r, got %r\n" % (name, want, reply))
-    if bad:
-        sys.exit(1)
-    os.makedirs(DATA, exist_ok=True)
-    for old in glob.glob(os.path.join(DATA, "[0-9][0-9][0-9]-*.txt")):
-        os.remove(old)
-    for _, name, data, _ in files:
-        assert len(name) == 24
-        with open(os.path.join(DATA, name), "wb") as file:
-            file.write(data)
-    with open(os.path.join(CRATE, "args"), "w") as file:
-        file.write("".join(name + "\n" for _, name, _, _ in files))
-    print("%d files, %d bytes" % (len(files), sum(len(data) for _, _, data, _ in files)))
-
-
-if __name__ == "__main__":
-    main()
+    replies = [check.check(data) for _, _, data, _ in files]
+    for (_, name, _, want), reply in zip(files, replies):
+        assert len(name) == 24 and wanted(want, reply), (name, want, reply)
+    return [(name, data, reply) for (_, name, data, _), reply in zip(files, replies)]

@@ -1,5 +1,4 @@
-#!/usr/bin/env python3
-"""Writes the problem files of crates/problem_answers/data, their names to its file args, and the replies expected of it to its file stdout.
+"""The problem files of crates/file_values, which make_files.py writes, and the replies to each.
 
 Each file is asked by all three programs, Catalogue, Rank and Formulae; the
 replies come from catalogue.py and formulae.py, which share nothing with the
@@ -9,8 +8,6 @@ The random lists come from a fixed seed.  A name is three digits, a short name
 padded with '-', and `.txt`: 24 bytes.
 """
 
-import glob
-import os
 import random
 import sys
 
@@ -18,8 +15,6 @@ sys.dont_write_bytecode = True
 from catalogue import catalogue_program, random_list, rank_program
 from formulae import formulae_program
 
-CRATE = os.path.join(os.path.dirname(os.path.abspath(__file__)), "..", "..", "crates", "problem_answers")
-DATA = os.path.join(CRATE, "data")
 HEAD = b"kind,p,q,r,k\n"
 PROGRAMS = (catalogue_program, rank_program, formulae_program)
 
@@ -110,21 +105,14 @@ def damaged():
     add("8-list-9999", listed(2, 9999, [1, 2, 3], [3]), 8)
 
 
-def main():
+def made():
+    """Name, bytes and replies of each file."""
     answered()
     damaged()
-    os.makedirs(DATA, exist_ok=True)
-    for path in glob.glob(os.path.join(DATA, "*.txt")):
-        os.remove(path)
-    with open(os.path.join(CRATE, "args"), "w") as args, open(os.path.join(CRATE, "stdout"), "w") as out:
-        for name, data, refusal in files:
-            replies = [program(data) for program in PROGRAMS]
-            assert refusal is None or set(replies) == {"refused %d\n" % refusal}, (name, replies)
-            assert refusal is not None or not all(reply.startswith("refused") for reply in replies), (name, replies)
-            with open(os.path.join(DATA, name), "wb") as file:
-                file.write(data)
-            args.write(name + "\n")
-            out.write(name + "\n" + "".join(replies))
-
-
-main()
+    every = []
+    for name, data, refusal in files:
+        replies = [program(data) for program in PROGRAMS]
+        assert refusal is None or set(replies) == {"refused %d\n" % refusal}, (name, replies)
+        assert refusal is not None or not all(reply.startswith("refused") for reply in replies), (name, replies)
+        every.append((name, data, "".join(replies)))
+    return every

@@ -1,29 +1,9 @@
-#!/usr/bin/env python3
-"""Writes the calls of a program that runs Catalogue, its look-up and Rank on numbers, and the replies expected of it.
-
-    make_problems.py crates/search_values
-
-writes stdin, the calls, and stdout, the replies, in that directory.  A call is
-one line of decimal numbers:
-
-    call number p q r k w c u  g_0 .. g_(c-1)  t_0 .. t_(u-1)
-
-with call 0 for Catalogue and 1 for Rank, the kind by its number, and a buffer
-of w words, at most 64, of which word i holds 1000000 + i before the call.  The
-reply is one line as well; the buffer after the call stands behind ` :`, and in
-a Catalogue then the look-ups of the entries 0 to SHOWN, each behind ` :`:
-
-    entries ELL FOUND SHOWN :.. :..    rank R :..    above :..    beyond :..    refused E :..
-
-Call 2 is the look-up alone, of an entry in such a buffer, and replies its words:
-
-    2 ell k shown number 0 w 0 0       :..
+"""The calls of Catalogue, its look-up and Rank that make_calls.py writes, and the reply to each.
 
 Where a call is made for a reply, the reply is written beside it and must
 agree with catalogue.py.  The random lists come from a fixed seed.
 """
 
-import os
 import random
 import sys
 
@@ -68,7 +48,7 @@ def add(call, number, p, q, r, k, w, gs=(), ts=(), want=None):
     gs, ts = list(gs), list(ts)
     said, answer = reply(call, number, p, q, r, k, w, gs, ts)
     assert want is None or said == want or said.startswith(want + " "), (call, number, p, q, r, k, gs, ts, said, want)
-    write([call, number, p, q, r, k, w, len(gs), len(ts)] + gs + ts, answer)
+    write([call, number, p, q, r, k, w, len(gs), len(ts), 0] + gs + ts, answer)
 
 
 def listed(call, p, gs, ts, k, w, want=None):
@@ -161,7 +141,7 @@ def published():
     """Numbers of spaces in document 000 that the reference would take too long for: Table 1, rows 5,4 and 5,5, 6,4, 7,3; Table 4, row 4 of both rings. No record is asked for."""
     for number, p, q, k, found in ((POLY, 5, 4, 12, 4113), (POLY, 5, 5, 13, 27), (POLY, 6, 4, 13, 9), (POLY, 7, 3, 13, 87), (SHORT, 4, 4, 8, 1440), (CIRC, 4, 4, 8, 1440)):
         ell = len(reduced(catalogue.map_targets(KINDS[number], p, q, 0, p, q, p + q - 1 if number == POLY else p)))
-        write([CATALOGUE, number, p, q, 0, k, 0, 0, 0], line("entries %d %d 0" % (ell, found), [], []))
+        write([CATALOGUE, number, p, q, 0, k, 0, 0, 0, 0], line("entries %d %d 0" % (ell, found), [], []))
 
 
 def lists():
@@ -204,7 +184,7 @@ def lookups():
     """Look-ups at and behind the end of the buffer, and with numbers whose products or sums leave 64 bits."""
     def look(ell, k, shown, number, w):
         buffer = [1000000 + i for i in range(w)]
-        write([ENTRY, ell, k, shown, number, 0, w, 0, 0], line("", catalogue.entry(buffer, ell, k, shown, number)))
+        write([ENTRY, ell, k, shown, number, 0, w, 0, 0, 0], line("", catalogue.entry(buffer, ell, k, shown, number)))
 
     for ell, k in ((4, 5), (3, 3), (0, 1), (0, 0), (5, 4), (1, 0)):
         for shown in (0, 3, HUGE):
@@ -218,14 +198,8 @@ def lookups():
         look(4, 5, HUGE, number, 64)
 
 
-def main():
+def made():
+    """The lines of the calls and of the replies."""
     for make in (worked, limits, refusals, tables, published, lists, ranks, lookups):
         make()
-    assert len("".join(calls)) <= 65536
-    for name, lines in (("stdin", calls), ("stdout", replies)):
-        with open(os.path.join(sys.argv[1], name), "w") as out:
-            out.writelines(lines)
-
-
-if __name__ == "__main__":
-    main()
+    return calls, replies

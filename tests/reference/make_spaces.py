@@ -1,27 +1,9 @@
-#!/usr/bin/env python3
-"""Writes the calls of a program that runs the formulae of spaces and the questions on selections, and the replies expected of it.
-
-    make_spaces.py crates/space_values
-
-writes stdin, the calls, and stdout, the replies, in that directory.  A call is
-one line of decimal numbers:
-
-    call number p q r w c u v x  g_0 .. g_(c-1)  t_0 .. t_(u-1)  o_0 .. o_(v-1)
-
-with the kind by its number.  Call 0 asks for the formulae of the space with the
-rows o, in a buffer of w words, at most 4096, each of which holds 1000000 before
-the call; call 1 whether the form x is a sum of the selection o; call 2
-whether the product with the number x is redundant in it.  The reply is one line
-as well; behind it, in a call 0, ` :` and the buffer after the call, or its
-digest alone where it has more than 64 words:
-
-    all N :..    more N :..    refused E :..    all N DIGEST    yes    no    refused E
+"""The calls on the formulae of spaces and on selections that make_calls.py writes, and the reply to each.
 
 Where a call is made for a reply, the reply is written beside it and must agree
 with formulae.py.  The random lists come from a fixed seed.
 """
 
-import os
 import random
 import sys
 
@@ -30,7 +12,7 @@ import catalogue
 import formulae
 from catalogue import KINDS, Refused, inside, random_list, reduced
 
-FORMULAE, SUM, REDUNDANT = 0, 1, 2
+FORMULAE, SUM, REDUNDANT = 3, 4, 5
 POLY, SHORT, CIRC, MAT, LIST = range(5)
 HUGE = 2 ** 64 - 1
 MOST = 4096                 # words of a buffer
@@ -68,7 +50,7 @@ def add(call, number, p, q, r, w, x, gs, ts, others, want=None):
     assert w <= MOST
     said, behind = reply(call, number, p, q, r, w, x, gs, ts, others)
     assert want in (None, said), (call, number, p, q, r, w, x, gs, ts, others, said, want)
-    calls.append(" ".join(map(str, [call, number, p, q, r, w, len(gs), len(ts), len(others), x] + gs + ts + others)) + "\n")
+    calls.append(" ".join(map(str, [call, number, p, q, r, x, w, len(gs), len(ts), len(others)] + gs + ts + others)) + "\n")
     replies.append(said + behind + "\n")
     return said
 
@@ -244,15 +226,8 @@ def lists():
             chosen(REDUNDANT, p, gs, ts, selection, chance.choice(selection or [0]))
 
 
-def main():
+def made():
+    """The lines of the calls and of the replies."""
     for make in (worked, tables, large, damaged, refusals, selections, lists):
         make()
-        print(make.__name__, len(calls), len("".join(calls)))
-    assert len("".join(calls)) <= 131072 and sum(len(call.split()) for call in calls) <= 65536
-    for name, lines in (("stdin", calls), ("stdout", replies)):
-        with open(os.path.join(sys.argv[1], name), "w") as out:
-            out.writelines(lines)
-
-
-if __name__ == "__main__":
-    main()
+    return calls, replies

@@ -13,10 +13,10 @@ use native.Mathlib.Omega.{arith}
 use lib.ListN.{length, getD, take, drop, replicate, drop-of-length-le}
 use lib.Seq.{drop-cons, drop-drop}
 use Rattle.linear.specs.Basis.{reduce, place, insert, inserts, basisOf, Reduced}
-use Rattle.linear.specs.Word.{word}
+use Rattle.linear.specs.Word.{word, Below}
 use Rattle.linear.specs.laws.Insert.{insert-old, insert-reduced, insert-length-new}
 use Rattle.bases.specs.Basis.{rowsOf, Valid, Holds, rows-length}
-use Rattle.linear.specs.laws.Word.{Below, at-most, insert-below, insert-place}
+use Rattle.linear.specs.laws.Word.{at-most, insert-below, insert-place}
 use Rattle.bases.specs.declared.Basis.{Basis}
 use Rattle.bases.specs.insertion.Placing.{Placed}
 use Rattle.bases.specs.insertion.laws.Sifting.{sift-place}

@@ -1,4 +1,5 @@
 -- rowsOf b == the rows in use of the record b
+-- mostRows == the most rows of a basis
 -- Valid b == b holds a reduced basis: 64 words, at most 64 rows in use, 0 in every word after them, rows below 2 ^ 64, and reduced
 -- Holds B b == b is valid and its rows are B
 -- held B == the record with the rows B
@@ -19,18 +20,22 @@ use lib.Seq.{drop-append-seam, length-take-le, take-append-seam}
 use Rattle.linear.specs.Basis.{Reduced, basisOf, dim}
 use Rattle.linear.specs.Entry.{inside}
 use Rattle.linear.specs.Span.{Span}
-use Rattle.linear.specs.Word.{word}
+use Rattle.linear.specs.Word.{word, Below}
 use Rattle.linear.specs.laws.Entry.{inside-yes, yes-inside}
-use Rattle.linear.specs.laws.Word.{Below, at-most}
+use Rattle.linear.specs.laws.Word.{at-most}
 use Rattle.bases.specs.declared.Basis.{Basis}
+
+-- document 01: "That basis is a record of at most 64 rows and their number"
+abbrev pub mostRows : ℕ
+mostRows = 64
 
 abbrev pub rowsOf : Basis → List ℕ
 rowsOf b = take (b .len) (b .rows)
 
 pub record Valid (b : Basis) : Type 0 where
-  pub whole : length (b .rows) ≡ 64
-  pub room : b .len ≤ 64
-  pub rest : drop (b .len) (b .rows) ≡ replicate (64 - b .len) 0
+  pub whole : length (b .rows) ≡ mostRows
+  pub room : b .len ≤ mostRows
+  pub rest : drop (b .len) (b .rows) ≡ replicate (mostRows - b .len) 0
   pub words : (Below 64) (rowsOf b)
   pub reduced : Reduced word (rowsOf b)
 
@@ -39,7 +44,7 @@ pub record Holds (B : List ℕ) (b : Basis) : Type 0 where
   pub is : rowsOf b ≡ B
 
 unfoldable pub held : List ℕ → Basis
-held B = record { rows = B ++ replicate (64 - length B) 0; len = length B }
+held B = record { rows = B ++ replicate (mostRows - length B) 0; len = length B }
 
 pub rows-length : (b : Basis) → Valid b → length (rowsOf b) ≡ b .len
 rows-length b G = length-take-le (b .len) (b .rows) (omega (arith, G .whole, G .room))
@@ -54,15 +59,15 @@ pub holds-held : (B : List ℕ) (b : Basis) → Holds B b → b ≡ held B
 unfolding held
 holds-held B b H =
     let n : b .len ≡ length B = sym (rows-length b (H .valid)) ∙ ap length (H .is) in
-    let e : b .rows ≡ B ++ replicate (64 - length B) 0 =
-    sym (take-append-drop (b .len) (b .rows)) ∙ ap₂ _++_ (H .is) (H .valid .rest ∙ ap (λ (k : ℕ). replicate (64 - k) 0) n) in
+    let e : b .rows ≡ B ++ replicate (mostRows - length B) 0 =
+    sym (take-append-drop (b .len) (b .rows)) ∙ ap₂ _++_ (H .is) (H .valid .rest ∙ ap (λ (k : ℕ). replicate (mostRows - k) 0) n) in
     ap₂ (λ (rs : List ℕ) (k : ℕ). record { rows = rs; len = k }) e n
 
 pub held-holds : (B : List ℕ) → Reduced word B → (Below 64) B → Holds B (held B)
 unfolding held
 held-holds B ρ h =
     let n : length B ≤ 64 = at-most 64 B ρ h in
-    let zs : List ℕ = replicate (64 - length B) 0 in
+    let zs : List ℕ = replicate (mostRows - length B) 0 in
     let e : take (length B) (B ++ zs) ≡ B = take-append-seam B zs in
     record {
       valid =

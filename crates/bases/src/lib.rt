@@ -1,4 +1,8 @@
-// Reduced bases of forms of 64 coordinates.
+// Reduced bases of forms: the struct `Basis`, by value, with reduction, membership, insertion of a row, and the basis of some forms.
+// insertion   a new row among the rows of a reduced basis
+// spans       tests on spans: is a target missed, is a generator wanted, does a generator complete a space, are there rows enough
+// rows        which products sum to a form: the rows of a formula
+// The theory (one reduced basis for each space) is in `linear`.
 ghost use mathlib.Core.Path.{_≡_};
 ghost use mathlib.Core.List.{[]};
 ghost use Rattle.linear.specs.Basis.{reduce, insert, basisOf};
@@ -10,9 +14,12 @@ pub mod insertion;
 pub mod rows;
 pub mod spans;
 
+// The most rows of a basis (`mostRows`).
+pub const ROWS: usize = 64;
+
 // A reduced basis: its rows, leads falling, and their number. The words after the rows are 0.
 pub struct Basis {
-    pub rows: [u64; 64],
+    pub rows: [u64; ROWS],
     pub len: usize,
 }
 
@@ -22,7 +29,7 @@ impl Basis {
         ensures { λ r. ⌜ Holds [] r ⌝ }
     {
         Basis {
-            rows: [0u64; 64],
+            rows: [0u64; ROWS],
             len: 0,
         }
     }

@@ -6,6 +6,7 @@ ghost use Rattle.linear.specs.Basis.{basisOf};
 ghost use Rattle.linear.specs.Entry.{inside};
 ghost use Rattle.linear.specs.Word.{word};
 ghost use Rattle.bases.specs.rows.Rows.{rowOf};
+ghost use Rattle.bases.specs.Basis.{mostRows};
 
 // Whether `v` is a sum of some of `xs`.
 pub fn spanned(xs: &[u64], v: u64) -> bool
@@ -16,7 +17,7 @@ pub fn spanned(xs: &[u64], v: u64) -> bool
 
 // The mask of the products that sum to `v`, bit 0 for the first. A product is needed exactly if the later ones don't sum to what is left.
 pub fn row_of(products: &[u64], v: u64) -> u64
-    requires { ⌜ length (now products) ≤ 64 ⌝ }
+    requires { ⌜ length (now products) ≤ mostRows ⌝ }
     ensures { λ r. ⌜ r ≡ rowOf (now (products .entry)) v ⌝ }
 {
     let n = products.len();

@@ -26,37 +26,29 @@ use Rattle.residues.specs.children.laws.Known.{known-ne}
 use Rattle.residues.specs.children.laws.Child.{residue-at, residues-length, child-residues}
 use Rattle.records.specs.declared.Chain.{Chain}
 use Rattle.records.specs.declared.Tally.{Tally}
-use Rattle.records.specs.Records.{State, run, Sane}
+use Rattle.records.specs.Records.{State, run}
 use Rattle.records.specs.Keep.{chainOf, stateOf, Tidy, Pushed}
 use Rattle.catalogue.specs.walk.Walk.{search, Node}
-use Rattle.records.specs.laws.Records.{run-append, run-full, run-sane}
+use Rattle.records.specs.laws.Ahead.{Ahead, ahead-as, ahead-past, ahead-full, ahead-none}
 use Rattle.catalogue.specs.walk.laws.Search.{turn-end, turn-skip, turn-down, turn-drop}
+use Rattle.residues.specs.Room.{searchRoom}
 
 pub record Going (gens : List ℕ) (k : ℕ) (C p : List ℕ) (missing limit : ℕ) (final : State) (size j : ℕ) (t : Tally) (out mine : List ℕ) : Type 0 where
   pub within : j ≤ length gens
-  pub rest : run limit (stateOf t out) (search gens k C p (length gens - j) j missing) ≡ final
-  pub sane : Sane limit (stateOf t out)
-  pub same : length out ≡ size
-  pub whole : length mine ≡ 4096
+  pub ahead : Ahead limit final size (search gens k C p (length gens - j) j missing) (stateOf t out)
+  pub whole : length mine ≡ searchRoom
 
 module _ (gens : List ℕ) (k : ℕ) (b : Basis) (c : Chain) (missing limit : ℕ) (final : State) (size : ℕ) (h : List ℕ) (l : h ≡ residues gens (rowsOf b)) (G : Valid b) (T : Tidy c missing) (ne : missing ≢ 0)
     (j : ℕ) (t : Tally) (out mine : List ℕ) (I : Going gens k (rowsOf b) (chainOf c) missing limit final size j t out mine) where
   pub going-skip : j < length gens → true ≡ known h j → Going gens k (rowsOf b) (chainOf c) missing limit final size (j + 1) t out mine
   going-skip g e =
-      record {
-        within = omega arith;
-        rest = ap (run limit (stateOf t out)) (sym (turn-skip gens k (rowsOf b) (chainOf c) h j missing l ne g e)) ∙ I .rest;
-        sane = I .sane;
-        same = I .same;
-        whole = I .whole;
-      }
+      record { within = omega arith; ahead = ahead-as (I .ahead) (turn-skip gens k (rowsOf b) (chainOf c) h j missing l ne g e); whole = I .whole }
 
   pub going-full : t .found ≡ limit → stateOf t out ≡ final
-  going-full e = sym (run-full limit (stateOf t out) (search gens k (rowsOf b) (chainOf c) (length gens - j) j missing) e) ∙ I .rest
+  going-full e = ahead-full (I .ahead) e
 
   pub going-end : length gens ≤ j → stateOf t out ≡ final
-  unfolding run
-  going-end g = ap (run limit (stateOf t out)) (sym (turn-end gens k (rowsOf b) (chainOf c) h j missing l ne g)) ∙ I .rest
+  going-end g = ahead-none (I .ahead) (turn-end gens k (rowsOf b) (chainOf c) h j missing l ne g)
 
   module _ (g : j < length gens) (e : false ≡ known h j) where
     at-j : getD h j 0 ≡ reduce word (rowsOf b) (generator word gens j)
@@ -68,7 +60,7 @@ module _ (gens : List ℕ) (k : ℕ) (b : Basis) (c : Chain) (missing limit : �
     rows-down : (b′ : Basis) → Holds (insert word (rowsOf b) (getD h j 0)) b′ → rowsOf b′ ≡ insert word (rowsOf b) (generator word gens j)
     rows-down b′ W = W .is ∙ ap (insert word (rowsOf b)) at-j ∙ insert-residue word (rowsOf b) (G .reduced) (generator word gens j)
 
-    pub node-down : length gens ≤ 4096 → (b′ : Basis) → Holds (insert word (rowsOf b) (getD h j 0)) b′ → (c′ : Chain) → Pushed c j c′ → (mine′ : List ℕ) → Mapped (clear word (getD h j 0)) h mine′
+    pub node-down : length gens ≤ searchRoom → (b′ : Basis) → Holds (insert word (rowsOf b) (getD h j 0)) b′ → (c′ : Chain) → Pushed c j c′ → (mine′ : List ℕ) → Mapped (clear word (getD h j 0)) h mine′
         → Node gens (take (length gens) mine′) (j + 1) (missing - 1) b′ c′ t limit out
     node-down s b′ W c′ P mine′ K =
         record {
@@ -81,38 +73,30 @@ module _ (gens : List ℕ) (k : ℕ) (b : Basis) (c : Chain) (missing limit : �
           begin = omega arith;
           valid = W .valid;
           tidy = record { whole = P .whole; room = omega (arith, P .more, T .room) };
-          sane = I .sane;
+          sane = I .ahead .sane;
         }
 
-    pub going-down : (b′ : Basis) → Holds (insert word (rowsOf b) (getD h j 0)) b′ → (c′ : Chain) → Pushed c j c′ → (r : Tally) (out′ mine′ : List ℕ) → length mine′ ≡ 4096
+    pub going-down : (b′ : Basis) → Holds (insert word (rowsOf b) (getD h j 0)) b′ → (c′ : Chain) → Pushed c j c′ → (r : Tally) (out′ mine′ : List ℕ) → length mine′ ≡ searchRoom
         → stateOf r out′ ≡ run limit (stateOf t out) (search gens k (rowsOf b′) (chainOf c′) (length gens - (j + 1)) (j + 1) (missing - 1))
         → Going gens k (rowsOf b) (chainOf c) missing limit final size (j + 1) r out′ mine′
     going-down b′ W c′ P r out′ mine′ w q =
         let here : List (List ℕ) = search gens k (rowsOf b′) (chainOf c′) (length gens - (j + 1)) (j + 1) (missing - 1) in
         let there : List (List ℕ) = search gens k (rowsOf b) (chainOf c) (length gens - (j + 1)) (j + 1) missing in
-        let v = run-sane limit (stateOf t out) here (I .sane) in
-        record {
-          within = omega arith;
-          rest =
-              ap (λ (x : State). run limit x there) q ∙ sym (run-append limit (stateOf t out) here there)
-              ∙ ap (λ (x : List (List ℕ)). run limit (stateOf t out) (x ++ there))
-              (ap₂ (λ (x y : List ℕ). search gens k x y (length gens - (j + 1)) (j + 1) (missing - 1)) (rows-down b′ W) (P .is))
-              ∙ ap (run limit (stateOf t out)) (sym (turn-down gens k (rowsOf b) (chainOf c) h j missing l ne g e)) ∙ I .rest;
-          sane = subst (Sane limit) (sym q) (v .0);
-          same = ap (λ (x : State). length (x .buf)) q ∙ v .1 ∙ I .same;
-          whole = w;
-        }
+        let e′ : search gens k (rowsOf b) (chainOf c) (length gens - j) j missing ≡ here ++ there =
+        turn-down gens k (rowsOf b) (chainOf c) h j missing l ne g e
+        ∙ ap₂ (λ (x y : List ℕ). search gens k x y (length gens - (j + 1)) (j + 1) (missing - 1) ++ there) (sym (rows-down b′ W)) (sym (P .is)) in
+        record { within = omega arith; ahead = ahead-past (I .ahead) here there e′ q; whole = w }
 
     -- a child with nothing above it may be left out
     pub going-drop : Barren gens h j k missing → Going gens k (rowsOf b) (chainOf c) missing limit final size (j + 1) t out mine
     going-drop B =
+        let there : List (List ℕ) = search gens k (rowsOf b) (chainOf c) (length gens - (j + 1)) (j + 1) missing in
         record {
           within = omega arith;
-          rest =
-              ap (λ (x : List (List ℕ)). run limit (stateOf t out) (x ++ search gens k (rowsOf b) (chainOf c) (length gens - (j + 1)) (j + 1) missing)) (sym (turn-drop gens k (rowsOf b) (chainOf c) h j missing l ne (G .reduced) g e B))
-              ∙ ap (run limit (stateOf t out)) (sym (turn-down gens k (rowsOf b) (chainOf c) h j missing l ne g e)) ∙ I .rest;
-          sane = I .sane;
-          same = I .same;
+          ahead =
+              ahead-as (I .ahead)
+              (turn-down gens k (rowsOf b) (chainOf c) h j missing l ne g e
+              ∙ ap (λ (x : List (List ℕ)). x ++ there) (turn-drop gens k (rowsOf b) (chainOf c) h j missing l ne (G .reduced) g e B));
           whole = I .whole;
         }
 

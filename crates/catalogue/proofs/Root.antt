@@ -15,11 +15,11 @@ use Rattle.residues.specs.Mapped.{Mapped}
 use Rattle.records.specs.declared.Tally.{Tally}
 use Rattle.records.specs.Records.{run}
 use Rattle.catalogue.specs.walk.Walk.{search, Node}
-use Rattle.catalogue.specs.listing.Listing.{Asked, Listed}
+use Rattle.catalogue.specs.listing.Listing.{SearchAsked, Listed}
 use Rattle.catalogue.specs.listing.Walked.{start, Rooted, Tallied}
 use Rattle.catalogue.specs.listing.laws.Listing.{listed-run}
 
-pub rooted : (gens targets : List ℕ) (k : ℕ) (b : Basis) → Asked gens targets k → Holds (basisOf word targets) b → b .len ≤ k → Rooted gens b k
+pub rooted : (gens targets : List ℕ) (k : ℕ) (b : Basis) → SearchAsked gens targets k → Holds (basisOf word targets) b → b .len ≤ k → Rooted gens b k
 rooted gens targets k b A B l = record { small = A .small; valid = B .valid; least = l; near = omega (arith, A .near, based-dim targets b B) }
 
 pub root-node : (gens : List ℕ) (k limit : ℕ) (buffer : List ℕ) (b : Basis) (h : List ℕ) → Rooted gens b k → Mapped (reduce word (rowsOf b)) gens h

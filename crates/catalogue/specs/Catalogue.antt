@@ -1,10 +1,10 @@
 -- Catalogue on numbers.
 --   Catalogued            == ℓ, found, shown, and the buffer's content
---   listing x k old       == what is said of the problem x for k, in a buffer that holds old
+--   entryListing x k old  == what is said of the problem x for k, in a buffer that holds old
 --   catalogue ..          == refused by a number of document 01's list (2 to 8), or that
 --   seenCatalogue r after == what the code's answer r says, the buffer holding `after`; `catalogueNumbers r`, the refusal's number, ℓ, found and shown
 --   lentCatalogue a old   == the buffer's content at exit
--- What it means is in `Theorems`. Assumes nothing.
+-- What it means: theorems, catalogue_and_rank. Assumes nothing.
 use mathlib.Core.List.{List, [], _++_}
 use Prim.Native.Nat.{ℕ, _+_, _*_}
 use lib.ListN.{length, take, drop}
@@ -26,8 +26,8 @@ pub record Catalogued : Type 0 where
 
 -- Document 01: "With room for w words, the Catalogue replies with found, the number of all entries for k, and with shown. Shown is the smaller of
 -- found and w divided by the record's length .. The first shown records fill the buffer from its start and every later word keeps its value."
-unfoldable pub listing : Problem → ℕ → List ℕ → Catalogued
-listing x k old =
+unfoldable pub entryListing : Problem → ℕ → List ℕ → Catalogued
+entryListing x k old =
     let found = length (entries word (x .generators) (x .targets) k) in
     let size = recordLength (x .targets) k in
     let shown = fitting size found (length old) in
@@ -43,7 +43,7 @@ unfoldable pub catalogue : (number p q r k : ℕ) (gs ts old : List ℕ) → Ans
 catalogue number p q r k gs ts old =
     follow (posed number p q r gs ts []) λ x.
     refuse 8 (ltb (dim word (x .targets) + 6) k)
-    (accepted (listing x k old))
+    (accepted (entryListing x k old))
 
 -- the answer of the code
 abbrev pub seenCatalogue : Reply → List ℕ → Answer Catalogued

@@ -1,9 +1,13 @@
-// Catalogue on numbers.
+// Catalogue on numbers: refusals 2 to 8, the entries counted, and the records that fit.
+// walk       the recursion that finds every entry, once and in order
+// listing    the entries for k, counted up to a limit, and their records
+// Which children the walk visits: `sieve`. The reply as text: `catalogue_text`.
 ghost use mathlib.Core.Path.{_≡_};
 ghost use Prim.Native.Nat.{_≤_};
 ghost use lib.ListN.{length};
 ghost use Rattle.catalogue.specs.Catalogue.{catalogue, seenCatalogue, lentCatalogue};
-ghost use Rattle.catalogue.specs.laws.Replies.{Given};
+ghost use Rattle.catalogue.specs.Replies.{CatalogueGiven};
+ghost use Rattle.kinds.specs.Limits.{mostGenerators};
 use problems::Posed;
 
 pub mod listing;
@@ -17,14 +21,14 @@ pub enum Catalogued {
 
 // The entries for `k` of a problem whose generators and targets are made; refusal 8.
 fn list_problem(gens: &[u64], targets: &[u64], k: u64, out: &mut [u64]) -> Catalogued
-    requires { ⌜ length (now gens) ≤ 4095 ⌝ }
-    ensures { λ r. ⌜ Given (now (gens .entry)) (now (targets .entry)) k (now (out .entry)) r (now (out .exit)) ⌝ }
+    requires { ⌜ length (now gens) ≤ mostGenerators ⌝ }
+    ensures { λ r. ⌜ CatalogueGiven (now (gens .entry)) (now (targets .entry)) k (now (out .entry)) r (now (out .exit)) ⌝ }
 {
     let ell = bases::basis_of(targets).len;
     if k > ell as u64 + 6 {
         return Catalogued::Refused(8);
     }
-    let l = listing::list_entries(gens, targets, k as usize, 18446744073709551615, out);
+    let l = listing::list_entries(gens, targets, k as usize, words::LARGEST, out);
     Catalogued::Entries(l.ell, l.found, l.shown)
 }
 
@@ -42,8 +46,8 @@ pub fn catalogue(
 ) -> Catalogued
     ensures { λ x. ⌜ (catalogue number p q r k (now (gs .entry)) (now (ts .entry)) (now (out .entry)) ≡ seenCatalogue x (now (out .exit))) × (now (out .exit) ≡ lentCatalogue (catalogue number p q r k (now (gs .entry)) (now (ts .entry)) (now (out .entry))) (now (out .entry))) ⌝ }
 {
-    let mut g = [0u64; 4095];
-    let mut t = [0u64; 64];
+    let mut g = [0u64; kinds::GENERATORS];
+    let mut t = [0u64; kinds::TARGETS];
     match problems::pose(number, p, q, r, gs, ts, &gs[..0], &mut g, &mut t) {
         Posed::Refused(e) => Catalogued::Refused(e),
         Posed::Are(n, u) => list_problem(&g[..n], &t[..u], k, out),

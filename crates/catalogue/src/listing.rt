@@ -2,7 +2,7 @@
 use bases::Basis;
 use records::Chain;
 use records::Tally;
-ghost use Rattle.catalogue.specs.listing.Listing.{Asked, Listed};
+ghost use Rattle.catalogue.specs.listing.Listing.{SearchAsked, Listed};
 ghost use Rattle.catalogue.specs.listing.Walked.{Rooted, Tallied};
 
 // The dimension that the targets span, and how many entries were found and how many of them shown.
@@ -17,7 +17,7 @@ fn tally(gens: &[u64], b: Basis, k: usize, limit: u64, out: &mut [u64]) -> Tally
     requires { ⌜ Rooted (now gens) b k ⌝ }
     ensures { λ r. ⌜ Tallied (now (gens .entry)) b k limit (now (out .entry)) (now (out .exit)) r ⌝ }
 {
-    let mut h = [0u64; 4096];
+    let mut h = [0u64; residues::SEARCH_ROOM];
     residues::residues(gens, b, &mut h);
     let n = gens.len();
     let missing = k - b.len;
@@ -30,13 +30,13 @@ fn tally(gens: &[u64], b: Basis, k: usize, limit: u64, out: &mut [u64]) -> Tally
         shown: 0,
         at: 0,
     };
-    let mut rows = [0u64; 32768];
+    let mut rows = [0u64; weights::ROW_ROOM];
     super::walk::walk(gens, &h[..n], 0, missing, k, b, c, t, limit, &mut rows, out)
 }
 
 // The first entries for `k`, at most `limit`: counted, and the records that fit written from the start of `out`.
 pub fn list_entries(gens: &[u64], targets: &[u64], k: usize, limit: u64, out: &mut [u64]) -> Listing
-    requires { ⌜ Asked (now gens) (now targets) k ⌝ }
+    requires { ⌜ SearchAsked (now gens) (now targets) k ⌝ }
     ensures { λ r. ⌜ Listed (now (gens .entry)) (now (targets .entry)) k limit (now (out .entry)) (now (out .exit)) r ⌝ }
 {
     let b = bases::basis_of(targets);
@@ -48,10 +48,10 @@ pub fn list_entries(gens: &[u64], targets: &[u64], k: usize, limit: u64, out: &m
             shown: 0,
         };
     }
-    let u = tally(gens, b, k, limit, out);
+    let counts = tally(gens, b, k, limit, out);
     Listing {
         ell: ell,
-        found: u.found,
-        shown: u.shown,
+        found: counts.found,
+        shown: counts.shown,
     }
 }

@@ -9,9 +9,10 @@ ghost use Rattle.bases.specs.Basis.{rowsOf};
 ghost use Rattle.records.specs.Records.{run};
 ghost use Rattle.records.specs.Keep.{chainOf, stateOf};
 ghost use Rattle.catalogue.specs.walk.Walk.{search, Node};
+ghost use Rattle.weights.specs.rank_rows.Stretch.{rowRoom};
 
 // Goes on from the space of `b`, reached with the numbers of `c`, by `missing` numbers from `start` on. `h` holds the residues of the generators. What the lent
-// `stretches` hold plays no part.
+// `rows` hold plays no part.
 pub fn walk(
     gens: &[u64],
     h: &[u64],
@@ -22,10 +23,10 @@ pub fn walk(
     c: Chain,
     t: Tally,
     limit: u64,
-    stretches: &mut [u64],
+    rows: &mut [u64],
     out: &mut [u64],
 ) -> Tally
-    requires { ⌜ Node (now gens) (now h) start missing b c t limit (now out) × (length (now stretches) ≡ 32768) ⌝ }
+    requires { ⌜ Node (now gens) (now h) start missing b c t limit (now out) × (length (now rows) ≡ rowRoom) ⌝ }
     ensures { λ r. ⌜ stateOf r (now (out .exit)) ≡ run limit (stateOf t (now (out .entry))) (search (now (gens .entry)) k (rowsOf b) (chainOf c) (length (now (gens .entry)) - start) start missing) ⌝ }
 {
     if missing == 0 {
@@ -35,21 +36,21 @@ pub fn walk(
         return t;
     }
     let n = gens.len();
-    let mut marks = [0u8; 4096];
-    sieve::sieve(gens, h, start, k, missing, stretches, &mut marks);
+    let mut marks = [0u8; residues::SEARCH_ROOM];
+    sieve::sieve(gens, h, start, k, missing, rows, &mut marks);
     let mut j = sieve::marked_numbers::next_marked(&marks, start, n);
     if j == n {
         return t;
     }
-    let mut mine = [0u64; 4096];
-    let mut u = t;
+    let mut mine = [0u64; residues::SEARCH_ROOM];
+    let mut counts = t;
     while j < n {
-        if u.found == limit {
-            return u;
+        if counts.found == limit {
+            return counts;
         }
         let x = h[j];
         residues::child(h, x, &mut mine);
-        u = walk(
+        counts = walk(
             gens,
             &mine[..n],
             j + 1,
@@ -57,12 +58,12 @@ pub fn walk(
             k,
             b.insert(x),
             records::push(c, j),
-            u,
+            counts,
             limit,
-            stretches,
+            rows,
             out,
         );
         j = sieve::marked_numbers::next_marked(&marks, j + 1, n);
     }
-    u
+    counts
 }

@@ -1,7 +1,7 @@
 -- What is printed of a problem's Catalogue.
 --   catalogueAnswer .. a   == the text of Catalogue's answer a
 --   catalogueReply ..      == the text of a problem's Catalogue
--- The text is in crate catalogue_reports. Assumes nothing.
+-- The text is in `report`. Assumes nothing.
 use Prim.Native.Nat.{ℕ}
 use mathlib.Core.List.{List}
 use Rattle.kinds.specs.declared.Kind.{Kind}

@@ -1,8 +1,11 @@
-// A problem's Catalogue as text, on a page.
+// A problem's Catalogue as text on a page.
+// report     its lines, from the numbers
+// The program: `programs`.
 ghost use mathlib.Core.Path.{_≡_};
 ghost use Prim.Native.Nat.{_≤_};
 ghost use lib.ListN.{length, take};
 ghost use Rattle.catalogue_text.specs.CatalogueAnswers.{catalogueReply};
+ghost use Rattle.printing.specs.refusals.Pages.{replyPage};
 use catalogue::Catalogued;
 use kinds::Kind;
 
@@ -19,10 +22,10 @@ pub fn catalogue_reply(
     ts: &[u64],
     page: &mut [u8],
 ) -> usize
-    requires { ⌜ length (now page) ≡ 196608 ⌝ }
-    ensures { λ e. ⌜ (take e (now (page .exit)) ≡ catalogueReply kind p q r k (now (gs .entry)) (now (ts .entry))) × (e ≤ 196608) ⌝ }
+    requires { ⌜ length (now page) ≡ replyPage ⌝ }
+    ensures { λ e. ⌜ (take e (now (page .exit)) ≡ catalogueReply kind p q r k (now (gs .entry)) (now (ts .entry))) × (e ≤ replyPage) ⌝ }
 {
-    let mut listing = [0u64; 4096];
+    let mut listing = [0u64; text::PROGRAM_WORDS];
     let said = catalogue::catalogue(kinds::number_of(kind), p, q, r, k, gs, ts, &mut listing);
     match said {
         Catalogued::Refused(e) => printing::refusals::refused_page(e, page),

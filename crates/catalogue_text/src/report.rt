@@ -1,9 +1,8 @@
 // What the Catalogue prints, in a lent buffer.
 ghost use Prim.Native.Nat.{_+_, _-_, _*_};
-ghost use mathlib.Core.List.{_++_};
 ghost use Rattle.printing.specs.fields.Piece.{Piece};
 ghost use Rattle.printing.specs.record_lines.RecordLines.{Records};
-ghost use Rattle.catalogue_text.specs.report.CatalogueReports.{entriesText, countsText, catalogueText, entryNames};
+ghost use Rattle.catalogue_text.specs.report.CatalogueReports.{entriesText, countsText, catalogueText};
 use kinds::Kind;
 
 // The lines of the entries of a listing, whose records have d numbers and k rows, from place `at` on, as far as there is room; the place after them.
@@ -56,22 +55,6 @@ pub fn put_counts(
     printing::put_bytes(b"\n", out, e)
 }
 
-// The lines of a Catalogue under the first two: the names, and a line for every entry shown.
-fn put_listing(
-    listing: &[u64],
-    d: usize,
-    k: usize,
-    shown: usize,
-    out: &mut [u8],
-    at: usize,
-) -> usize
-    requires { ⌜ Records (now listing) d k shown (at + 22) ⌝ }
-    ensures { λ e. ⌜ Piece (now (out .entry)) at (entryNames ++ entriesText d k 0 shown (now (listing .entry))) (22 + (21 * (shown * (d + k)) + 25 * shown)) (now (out .exit)) e ⌝ }
-{
-    let a = printing::put_bytes(b"entry,extension,basis\n", out, at);
-    put_entries(listing, d, k, shown, out, a)
-}
-
 // What the Catalogue prints, from the start of a buffer, as far as there is room; its length.
 pub fn catalogue_text(
     kind: Kind,
@@ -90,5 +73,6 @@ pub fn catalogue_text(
 {
     let a = put_counts(kind, p, q, r, k, ell, found, shown as u64, out);
     let d = if k < ell { 0 } else { k - ell };
-    put_listing(listing, d as usize, k as usize, shown, out, a)
+    let b = printing::put_bytes(b"entry,extension,basis\n", out, a);
+    put_entries(listing, d as usize, k as usize, shown, out, b)
 }

@@ -1,5 +1,5 @@
 -- The reply of Check as text.
 pub mod CheckAnswers
-pub mod Ready
+pub mod Buffers
 pub mod laws
 pub mod replies

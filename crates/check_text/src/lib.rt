@@ -1,11 +1,13 @@
-// The Check of a formula that was read, as text.
+// The Check of a formula that was read, as text in a lent buffer.
+// replies    the line of a reply
+// For C and for the Check program: `service`.
 ghost use mathlib.Core.Path.{_≡_};
 ghost use lib.ListN.{take};
 ghost use Rattle.formula_check.specs.Formula.{check};
 ghost use Rattle.formula_check.specs.Replies.{seenReply};
 ghost use Rattle.kinds.specs.Kinds.{numberOf};
 ghost use Rattle.check_text.specs.CheckAnswers.{replyText, replyOf, bytesOf};
-ghost use Rattle.check_text.specs.Ready.{outputsOf, Ready};
+ghost use Rattle.check_text.specs.Buffers.{outputsOf, FormulaBuffers};
 use formula_check::Reply;
 use kinds::Kind;
 use kinds::Sized;
@@ -23,7 +25,7 @@ fn check_read(
     b: &[u64],
     rows: &[u64],
 ) -> Reply
-    requires { ⌜ Ready kind p q r k (now a) (now b) (now rows) ⌝ }
+    requires { ⌜ FormulaBuffers kind p q r k (now a) (now b) (now rows) ⌝ }
     ensures { λ x. ⌜ check (numberOf kind) p q r k (take k (now (a .entry))) (take k (now (b .entry))) (take (outputsOf kind p q r) (now (rows .entry))) ≡ seenReply x ⌝ }
 {
     let Sized::Are(_, _, outputs) = kinds::sizes_of(kind, p, q, r) else {
@@ -55,7 +57,7 @@ pub fn check_reply(
     rows: &[u64],
     out: &mut [u8],
 ) -> usize
-    requires { ⌜ Ready kind p q r k (now a) (now b) (now rows) ⌝ }
+    requires { ⌜ FormulaBuffers kind p q r k (now a) (now b) (now rows) ⌝ }
     ensures { λ x. ⌜ (x ≡ replyOf (replyText kind p q r k (check (numberOf kind) p q r k (take k (now (a .entry))) (take k (now (b .entry))) (take (outputsOf kind p q r) (now (rows .entry))))) (now (out .entry)))
         × (now (out .exit) ≡ bytesOf (replyText kind p q r k (check (numberOf kind) p q r k (take k (now (a .entry))) (take k (now (b .entry))) (take (outputsOf kind p q r) (now (rows .entry))))) (now (out .entry))) ⌝ }
 {

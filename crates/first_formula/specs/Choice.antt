@@ -1,20 +1,21 @@
 -- Chosen generators in the code, and the record of a formula.
---   numbersOf c, formsOf c == the numbers and the forms in use of the record c
---   Chose gens es c        == c holds the generators with the numbers es
---   recordOf c targets     == the record of the formula whose products c holds
+--   numbersOf c, formsOf c        == the numbers and the forms in use of the record c
+--   Chose gens es c               == c holds the generators with the numbers es
+--   recordOf c targets            == the record of the formula whose products c holds
 --   formulaRecord gens targets es == the record of a formula: the numbers of its products, then a row for every target
---        [ product 0 | .. | product k − 1 | row of target 0 | .. | row of the last target ]
+--                                    [ product 0 | .. | product k − 1 | row of target 0 | .. | row of the last target ]
 -- Document 01: "Each is recorded as its k menu numbers, then its rows: for every target, the mask of those products that sum to it".
 --   chose-record   a choice of the generators numbered es has the record of es
 -- Assumes nothing.
 use mathlib.Core.Path.{_≡_, ap₂}
-use mathlib.Core.List.{List, _++_, map}
+use mathlib.Core.List.{List, [], _++_, map, _∷_}
 use Prim.Native.Nat.{ℕ, _≤_}
 use lib.ListN.{length, take}
-use Rattle.linear.specs.Entry.{chosen}
+use Rattle.linear.specs.Entry.{chosen, generator}
 use Rattle.linear.specs.Word.{word}
 use Rattle.bases.specs.rows.Rows.{rowOf}
 use Rattle.first_formula.specs.declared.Choice.{Choice}
+use Rattle.kinds.specs.Limits.{mostProducts}
 
 abbrev pub numbersOf : Choice → List ℕ
 numbersOf c = take (c .len) (c .numbers)
@@ -24,9 +25,9 @@ formsOf c = take (c .len) (c .forms)
 
 -- room for 64 of each
 pub record Whole (c : Choice) : Type 0 where
-  pub numbers : length (c .numbers) ≡ 64
-  pub forms : length (c .forms) ≡ 64
-  pub room : c .len ≤ 64
+  pub numbers : length (c .numbers) ≡ mostProducts
+  pub forms : length (c .forms) ≡ mostProducts
+  pub room : c .len ≤ mostProducts
 
 pub record Chose (gens es : List ℕ) (c : Choice) : Type 0 where
   pub whole : Whole c
@@ -42,3 +43,9 @@ recordOf c targets = numbersOf c ++ map (rowOf (formsOf c)) targets
 pub chose-record : (gens es targets : List ℕ) (c : Choice) → Chose gens es c → recordOf c targets ≡ formulaRecord gens targets es
 unfolding formulaRecord
 chose-record gens es targets c C = ap₂ (λ (ns fs : List ℕ). ns ++ map (rowOf fs) targets) (C .numbers) (C .forms)
+
+-- one generator more, number j with the form g
+pub record Added (c : Choice) (j g : ℕ) (r : Choice) : Type 0 where
+  pub whole : Whole r
+  pub numbers : numbersOf r ≡ numbersOf c ++ j ∷ []
+  pub forms : formsOf r ≡ formsOf c ++ g ∷ []

@@ -15,12 +15,13 @@ use native.Mathlib.Omega.{arith}
 use lib.Arith.{digits-div, digits-mod}
 use lib.Bits.{bitAnd, bitXor, and-mask, xor-zero-r}
 use lib.Pow.{pow-mono, pow-pos}
-use Rattle.linear.specs.Bit.{bit}
+use Rattle.linear.specs.Bit.{bit, xorB}
 use Rattle.linear.specs.Word.{word, two, scaleW}
-use Rattle.linear.specs.laws.Bit.{xorB, bit-ext, bit-xor}
+use Rattle.linear.specs.laws.Bit.{bit-ext, bit-xor}
 use Rattle.linear.specs.laws.Bit.{bit-below}
 use Rattle.linear.specs.laws.Shift.{bit-mod, bit-shift, bit-shift-low, bit-set, bit-unset}
-use Rattle.forms.specs.products.Product.{formOf, term, bit-formOf, formOf-above}
+use Rattle.forms.specs.products.Product.{formOf, term}
+use Rattle.forms.specs.products.laws.Product.{bit-formOf, formOf-above}
 
 pub record Making (m a b end form i at : ℕ) : Type 0 where
   pub place : at ≡ i * m

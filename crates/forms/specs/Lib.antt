@@ -1,5 +1,5 @@
 -- Forms as words: their weight, clearing, and the sums that rows name.
 pub mod Weight
-pub mod Clear
 pub mod Row
 pub mod products
+pub mod laws

@@ -1,2 +1,3 @@
 -- Products as forms.
 pub mod Product
+pub mod laws

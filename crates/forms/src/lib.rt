@@ -1,4 +1,6 @@
-// Forms over the field of two, as words of 64 coordinates.
+// Forms over two elements as words of 64 coordinates: a coordinate, the number of ones, the lead, clearing a row, reduction by rows.
+// products   the form of a product of two sums of variables, by their masks
+// Bases of forms: `bases`. Which forms are a map's: `maps`.
 ghost use mathlib.Core.Path.{_≡_};
 ghost use Rattle.linear.specs.Basis.{clear, reduce};
 ghost use Rattle.linear.specs.Bit.{bit, top};

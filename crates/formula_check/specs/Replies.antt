@@ -15,6 +15,7 @@ use Rattle.kinds.specs.declared.Kind.{Kind}
 use Rattle.formula_check.specs.verdicts.Verdicts.{seenVerdict}
 use Rattle.formula_check.specs.declared.Reply.{Reply}
 use Rattle.formula_check.specs.declared.Reply.the-variants as reply
+use Rattle.kinds.specs.Limits.{mostProducts}
 
 abbrev pub seenReply : Reply → Answer (Option ℕ × ℕ)
 seenReply (reply.Refused e) = refused e
@@ -22,7 +23,7 @@ seenReply (reply.Judged v w) = accepted (seenVerdict v, w)
 
 pub record Judging (kd : Kind) (p q r n m : ℕ) (fs rows : List ℕ) : Type 0 where
   pub sized : sizes kd p q r ≡ some (n, m, length rows)
-  pub few : length fs ≤ 64
+  pub few : length fs ≤ mostProducts
 
 pub record Matching (kd : Kind) (p q r n m : ℕ) (xs ys rows : List ℕ) : Type 0 where
   pub sized : sizes kd p q r ≡ some (n, m, length rows)
@@ -30,4 +31,4 @@ pub record Matching (kd : Kind) (p q r n m : ℕ) (xs ys rows : List ℕ) : Type
 
 pub record Fitting (kd : Kind) (p q r n m : ℕ) (xs ys rows : List ℕ) : Type 0 where
   pub matching : Matching kd p q r n m xs ys rows
-  pub few : length xs ≤ 64
+  pub few : length xs ≤ mostProducts

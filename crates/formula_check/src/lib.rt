@@ -1,8 +1,12 @@
-// Check: is a formula right for every input, and how many adders does it need?
+// Check on numbers: refusals 2, 3 and 5 to 8 of a formula, then its verdict and its adders.
+// sums       the parts of a formula: the forms of its products, the sum that a row names, adders
+// verdicts   what Check finds: right, or the first wrong output
+// meaning    (specs) what the reply means, for every choice of input bits
+// Reading a formula's file: `formula_files`. The reply as text: `check_text`.
 ghost use mathlib.Core.Path.{_≡_};
 ghost use lib.ListN.{length};
 ghost use Rattle.kinds.specs.Kinds.{kindNumbered, seenKind};
-ghost use Rattle.formula_check.specs.Formula.{known, firstWrong, judged, check};
+ghost use Rattle.formula_check.specs.Formula.{knownMap, firstWrong, judged, check};
 ghost use Rattle.formula_check.specs.sums.Sums.{productForms};
 ghost use Rattle.formula_check.specs.Replies.{seenReply, Judging, Fitting, Matching};
 ghost use Rattle.formula_check.specs.verdicts.Verdicts.{seenVerdict};
@@ -16,7 +20,7 @@ pub mod verdicts;
 
 // The kind with that number, if it has formulae: list has none.
 fn map_kind(number: u64) -> Known
-    ensures { λ r. ⌜ known (kindNumbered number) ≡ seenKind r ⌝ }
+    ensures { λ r. ⌜ knownMap (kindNumbered number) ≡ seenKind r ⌝ }
 {
     let Known::Is(kind) = kinds::kind_numbered(number) else {
         return Known::No;
@@ -69,7 +73,7 @@ fn verdict_on(
     requires { ⌜ Fitting kind p q r n m (now a) (now b) (now rows) ⌝ }
     ensures { λ x. ⌜ firstWrong kind p q r n m (productForms n m (now (a .entry)) (now (b .entry))) (now (rows .entry)) 0 ≡ seenVerdict x ⌝ }
 {
-    let mut products = [0u64; 64];
+    let mut products = [0u64; kinds::PRODUCTS];
     sums::product_forms(n as usize, m as usize, a, b, &mut products);
     let k = a.len();
     first_wrong(kind, p, q, r, n, m, &products[..k], rows)
@@ -112,7 +116,7 @@ fn judge(
     if words::any_zero(b) {
         return Reply::Refused(7);
     }
-    if 64 < k {
+    if kinds::PRODUCTS < k {
         return Reply::Refused(8);
     }
     let adders = sums::adders_of(a) + sums::adders_of(b) + sums::adders_of(rows);

@@ -13,16 +13,18 @@ use Rattle.kinds.specs.declared.Kind.{Kind}
 use Rattle.words.specs.Masks.{wide, zeroIn}
 use Rattle.formula_files.specs.lines.laws.Told.{body-lengths}
 use Rattle.formula_files.specs.Outcome.{Outcome, refused, formula, outcome}
-use Rattle.formula_files.specs.Sound.{Sound, Room}
+use Rattle.formula_files.specs.Sound.{Sound, BufferRoom}
 use Rattle.formula_files.specs.laws.Outcome.{room}
-use Rattle.formula_files.specs.laws.Accepted.{Went, outcome-only, neither}
+use Rattle.kinds.specs.laws.Refusal.{neither}
+use Rattle.formula_files.specs.laws.Accepted.{FormulaWent, outcome-only}
+use Rattle.kinds.specs.Limits.{mostProducts}
 
 module _ (s : List ℕ) (la lb lr : ℕ) (kind : Kind) (p q r k : ℕ) (xs ys zs : List ℕ) (accepted : outcome s la lb lr ≡ formula kind p q r k xs ys zs) where
-  pub accepted-sound : Sound kind p q r k xs ys zs × Room k (length zs) la lb lr
+  pub accepted-sound : Sound kind p q r k xs ys zs × BufferRoom k (length zs) la lb lr
   accepted-sound =
       let G = outcome-only s la lb lr kind p q r k xs ys zs accepted in
       let h = G .head in
-      let W : Went h (G .text) la lb lr = G .went in
+      let W : FormulaWent h (G .text) la lb lr = G .went in
       let l = body-lengths (h .k) (W .t) (G .text) (W .xs) (W .ys) (W .zs) (W .lines) in
       let a = neither (wide (W .n) (W .xs) || wide (W .m) (W .ys)) (wide (h .k) (W .zs)) (W .passed .narrow) in
       let b = neither (wide (W .n) (W .xs)) (wide (W .m) (W .ys)) (a .0) in
@@ -36,16 +38,16 @@ module _ (s : List ℕ) (la lb lr : ℕ) (kind : Kind) (p q r k : ℕ) (xs ys zs
         fits = W .fits ∙ ap (λ (t : ℕ). some (W .n, W .m, t)) (sym (l .2));
         firsts = l .0;
         seconds = l .1;
-        few = ltb-false 64 (h .k) (W .passed .few);
+        few = ltb-false mostProducts (h .k) (W .passed .few);
         narrow-firsts = b .0;
         narrow-seconds = b .1;
         narrow-rows = a .1;
         nonzero-firsts = c .0;
         nonzero-seconds = c .1;
       } in
-      let R : Room (h .k) (length (W .zs)) la lb lr = record { for-firsts = f .0; for-seconds = f .1; for-rows = omega (arith, l .2, f .2) } in
+      let R : BufferRoom (h .k) (length (W .zs)) la lb lr = record { for-firsts = f .0; for-seconds = f .1; for-rows = omega (arith, l .2, f .2) } in
       subst SoundOf (G .same) (S, R)
     where
       SoundOf : Outcome → Type 0
       SoundOf (refused e) = Unit {0}
-      SoundOf (formula kind p q r k xs ys zs) = Sound kind p q r k xs ys zs × Room k (length zs) la lb lr
+      SoundOf (formula kind p q r k xs ys zs) = Sound kind p q r k xs ys zs × BufferRoom k (length zs) la lb lr

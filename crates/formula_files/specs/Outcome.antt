@@ -21,6 +21,7 @@ use Rattle.kinds.specs.Sizes.{sizes}
 use Rattle.words.specs.Masks.{wide, zeroIn}
 use Rattle.text.specs.heads.Head.{Head, headLines}
 use Rattle.formula_files.specs.lines.Formula.{body}
+use Rattle.kinds.specs.Limits.{mostProducts}
 
 pub data Outcome : Type 0 where
   refused : ℕ → Outcome
@@ -44,13 +45,17 @@ isList kind.Mat = false
 isList kind.List = true
 
 -- 6 to 9, of a formula that is read: kind and counts, n, m and the number of outputs, the buffers' lengths, factors and rows
-unfoldable pub judged : (kind : Kind) (p q r k n m t la lb lr : ℕ) (xs ys zs : List ℕ) → Outcome
-judged kind p q r k n m t la lb lr xs ys zs =
+unfoldable pub readJudged : (kind : Kind) (p q r k n m t la lb lr : ℕ) (xs ys zs : List ℕ) → Outcome
+readJudged kind p q r k n m t la lb lr xs ys zs =
     refuse 6 ((wide n xs || wide m ys) || wide k zs)
     (refuse 7 (zeroIn xs || zeroIn ys)
-    (refuse 8 (ltb 64 k)
+    (refuse 8 (ltb mostProducts k)
     (refuse 9 (ltb la k || (ltb lb k || ltb lr t))
     (formula kind p q r k xs ys zs))))
+
+-- 5 to 9, of the lines under the first two
+abbrev pub under : (kind : Kind) (p q r k n m t la lb lr : ℕ) → List ℕ → Outcome
+under kind p q r k n m t la lb lr s = need 5 (body k t s) λ d. readJudged kind p q r k n m t la lb lr (d .0) (d .1) (d .2)
 
 -- 2 to 9, of the first two lines and the text after them
 unfoldable pub rest : Head → List ℕ → ℕ → ℕ → ℕ → Outcome
@@ -59,7 +64,7 @@ rest h s la lb lr =
     refuse 2 (isList kind)
     (need 3 (sizes kind (h .p) (h .q) (h .r)) λ z.
     need 5 (body (h .k) (z .2) s) λ d.
-    judged kind (h .p) (h .q) (h .r) (h .k) (z .0) (z .1) (z .2) la lb lr (d .0) (d .1) (d .2))
+    readJudged kind (h .p) (h .q) (h .r) (h .k) (z .0) (z .1) (z .2) la lb lr (d .0) (d .1) (d .2))
 
 unfoldable pub outcome : List ℕ → ℕ → ℕ → ℕ → Outcome
 outcome s la lb lr = need 1 (headLines s) λ h. rest (h .0) (h .1) la lb lr

@@ -5,8 +5,7 @@ ghost use mathlib.Core.Bool.{_||_, false};
 ghost use lib.ListN.{length};
 ghost use Rattle.formula_files.specs.lines.Formula.{productLine};
 ghost use Rattle.formula_files.specs.lines.Views.{seenProduct, bytesProduct, seenProducts, bytesProducts, seenRows, bytesRows, seenLast, seenBody};
-ghost use Rattle.formula_files.specs.lines.laws.Loops.{productsFrom, rowsFrom};
-ghost use Rattle.formula_files.specs.lines.laws.Body.{productsPart, rowsPart, bodyRun};
+ghost use Rattle.formula_files.specs.lines.Buffered.{productsFrom, rowsFrom, productsPart, rowsPart, bodyRun};
 use text::FieldRead;
 use text::Used;
 
@@ -20,13 +19,13 @@ pub enum Product {
 fn product_line(s: &[u8]) -> Product
     ensures { λ r. ⌜ (productLine (now (s .entry)) ≡ seenProduct (now (s .entry)) r) × (bytesProduct r ≤ length (now (s .entry))) ⌝ }
 {
-    let FieldRead::Is(x, u) = text::field_at(s, 44, 16, 16) else {
+    let FieldRead::Is(x, used) = text::field_at(s, 44, 16, 16) else {
         return Product::No;
     };
-    let FieldRead::Is(y, v) = text::field_at(&s[u..], 10, 16, 16) else {
+    let FieldRead::Is(y, v) = text::field_at(&s[used..], 10, 16, 16) else {
         return Product::No;
     };
-    Product::Is(x, y, u + v)
+    Product::Is(x, y, used + v)
 }
 
 // Bytes used, whether a factor is too wide, whether one is zero.
@@ -44,14 +43,14 @@ fn read_products(s: &[u8], k: usize, n: usize, m: usize, a: &mut [u64], b: &mut 
     let mut wide = false;
     let mut zero = false;
     while i < k {
-        let Product::Is(x, y, u) = product_line(&s[at..]) else {
+        let Product::Is(x, y, used) = product_line(&s[at..]) else {
             return Products::No;
         };
         words::put_word(a, i, x);
         words::put_word(b, i, y);
         wide = words::wider(words::wider(wide, x, n), y, m);
         zero = words::nil(words::nil(zero, x), y);
-        at += u;
+        at += used;
         i += 1;
     }
     Products::Are(at, wide, zero)
@@ -61,13 +60,13 @@ fn read_products(s: &[u8], k: usize, n: usize, m: usize, a: &mut [u64], b: &mut 
 fn products_part(s: &[u8], k: usize, n: usize, m: usize, a: &mut [u64], b: &mut [u64]) -> Products
     ensures { λ r. ⌜ (productsPart n m k (now (s .entry)) (now (a .entry)) (now (b .entry)) ≡ seenProducts (now (s .entry)) (now (a .exit)) (now (b .exit)) r) × (bytesProducts r ≤ length (now (s .entry))) ⌝ }
 {
-    let Used::Is(u) = text::name_line(s, b"a,b") else {
+    let Used::Is(used) = text::name_line(s, b"a,b") else {
         return Products::No;
     };
-    let Products::Are(v, wide, zero) = read_products(&s[u..], k, n, m, a, b) else {
+    let Products::Are(v, wide, zero) = read_products(&s[used..], k, n, m, a, b) else {
         return Products::No;
     };
-    Products::Are(u + v, wide, zero)
+    Products::Are(used + v, wide, zero)
 }
 
 // Bytes used, whether a row is too wide.
@@ -84,12 +83,12 @@ fn read_rows(s: &[u8], t: usize, k: usize, d: &mut [u64]) -> Rows
     let mut at: usize = 0;
     let mut wide = false;
     while i < t {
-        let FieldRead::Is(x, u) = text::field_at(&s[at..], 10, 16, 16) else {
+        let FieldRead::Is(x, used) = text::field_at(&s[at..], 10, 16, 16) else {
             return Rows::No;
         };
         words::put_word(d, i, x);
         wide = words::wider(wide, x, k);
-        at += u;
+        at += used;
         i += 1;
     }
     Rows::Are(at, wide)
@@ -105,13 +104,13 @@ pub enum LastRows {
 fn rows_part(s: &[u8], t: usize, k: usize, d: &mut [u64]) -> LastRows
     ensures { λ r. ⌜ rowsPart k t (now (s .entry)) (now (d .entry)) ≡ seenLast (now (d .exit)) r ⌝ }
 {
-    let Used::Is(u) = text::name_line(s, b"row") else {
+    let Used::Is(used) = text::name_line(s, b"row") else {
         return LastRows::No;
     };
-    let Rows::Are(v, wide) = read_rows(&s[u..], t, k, d) else {
+    let Rows::Are(v, wide) = read_rows(&s[used..], t, k, d) else {
         return LastRows::No;
     };
-    let e = u + v;
+    let e = used + v;
     if e < s.len() {
         return LastRows::No;
     }
@@ -146,10 +145,10 @@ pub fn read_body(
 ) -> BodyRead
     ensures { λ r. ⌜ bodyRun n m k t (now (s .entry)) (now (a .entry)) (now (b .entry)) (now (d .entry)) ≡ seenBody (now (a .exit)) (now (b .exit)) (now (d .exit)) r ⌝ }
 {
-    let Products::Are(u, w, zero) = products_part(s, k, n, m, a, b) else {
+    let Products::Are(used, w, zero) = products_part(s, k, n, m, a, b) else {
         return BodyRead::No;
     };
-    let LastRows::Are(o) = rows_part(&s[u..], t, k, d) else {
+    let LastRows::Are(o) = rows_part(&s[used..], t, k, d) else {
         return BodyRead::No;
     };
     BodyRead::Are(either(w, o), zero)

@@ -3,6 +3,7 @@ ghost use mathlib.Core.Path.{_≡_};
 ghost use mathlib.Core.Bool.{_||_};
 ghost use lib.Dec.{ltb};
 ghost use Rattle.formula_files.specs.refusals.Number.{number};
+ghost use Rattle.kinds.specs.Limits.{mostProducts};
 
 // Whether a buffer of la, lb or lr words is too short for k products and t rows.
 fn too_short(k: usize, t: usize, la: usize, lb: usize, lr: usize) -> bool
@@ -20,7 +21,7 @@ fn too_short(k: usize, t: usize, la: usize, lb: usize, lr: usize) -> bool
 // The refusal of a formula that is read, 6 to 9, or 0: whether a mask is too wide, whether a factor is zero, its k products and t rows, and
 // the buffers' lengths.
 pub fn refusal(wide: bool, zero: bool, k: usize, t: usize, la: usize, lb: usize, lr: usize) -> u64
-    ensures { λ e. ⌜ e ≡ number wide zero (ltb 64 k) (ltb la k || (ltb lb k || ltb lr t)) ⌝ }
+    ensures { λ e. ⌜ e ≡ number wide zero (ltb mostProducts k) (ltb la k || (ltb lb k || ltb lr t)) ⌝ }
 {
     if wide {
         return 6;
@@ -28,7 +29,7 @@ pub fn refusal(wide: bool, zero: bool, k: usize, t: usize, la: usize, lb: usize,
     if zero {
         return 7;
     }
-    if 64 < k {
+    if kinds::PRODUCTS < k {
         return 8;
     }
     if too_short(k, t, la, lb, lr) { 9 } else { 0 }

@@ -2,32 +2,32 @@
 --   rowsAt L i        == the rows of entry i in the listing
 --   entryPart L i     == what is printed of entry i
 --   entriesPart L i n == of n entries from i on
---   formulaeProgram s == all that is printed: the first lines (`firstPart`, formulae_start), then the entries
--- What Formulae prints is decided (docs/DECISIONS.md). The program writes it in parts (formulae_start, entry_pages); that these are all: `Theorems`. Assumes nothing.
+--   formulaeProgram s == all that is printed: the first lines (`firstPart`, first_part), then the entries
+-- What Formulae prints is decided (docs/DECISIONS.md). The program writes it in parts (first_part, entry_parts); that these are all: `Theorems`. Assumes nothing.
 use Prim.Native.Nat.{ℕ, zero, suc, _+_, _-_, _*_}
 use mathlib.Core.List.{List, [], _++_}
 use lib.ListN.{take, drop}
 use Rattle.kinds.specs.Kinds.{numberOf}
 use Rattle.kinds.specs.Refusal.{accepted, follow}
-use Rattle.printing.specs.refusals.Pages.{printed}
+use Rattle.printing.specs.refusals.Pages.{answerText}
 use Rattle.formulae_text.specs.FormulaAnswers.{entryFormulae}
-use Rattle.formulae_program.specs.first_part.Listed.{Listed, listedInput, firstPart}
+use Rattle.formulae_program.specs.first_part.Listed.{PlanListed, listedInput, firstPart}
 
 -- the record of an entry: k − ℓ numbers, then k rows
-abbrev pub rowsAt : Listed → ℕ → List ℕ
+abbrev pub rowsAt : PlanListed → ℕ → List ℕ
 rowsAt L i =
     let k = L .problem .k in
     let d = k - L .said .ell in
     take k (drop (i * (d + k) + d) (L .said .buffer))
 
-abbrev pub entryPart : Listed → ℕ → List ℕ
+abbrev pub entryPart : PlanListed → ℕ → List ℕ
 entryPart L i =
     let P = L .problem in
     entryFormulae i (numberOf (P .kind)) (P .p) (P .q) (P .r) (P .generators) (P .targets) (rowsAt L i)
 
-unfoldable pub entriesPart : Listed → (i n : ℕ) → List ℕ
+unfoldable pub entriesPart : PlanListed → (i n : ℕ) → List ℕ
 entriesPart L i zero = []
 entriesPart L i (suc n) = entryPart L i ++ entriesPart L (suc i) n
 
 unfoldable pub formulaeProgram : List ℕ → List ℕ
-formulaeProgram s = printed (follow (listedInput s) λ L. accepted (firstPart L ++ entriesPart L 0 (L .said .shown)))
+formulaeProgram s = answerText (follow (listedInput s) λ L. accepted (firstPart L ++ entriesPart L 0 (L .said .shown)))

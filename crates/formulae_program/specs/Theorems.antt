@@ -11,7 +11,7 @@ use lib.ListN.{length, take}
 use lib.Dec.{ltb}
 use Rattle.kinds.specs.Kinds.{numberOf}
 use Rattle.kinds.specs.Refusal.{Answer, refused, accepted, follow}
-use Rattle.kinds.specs.RefusalLaws.{accepted-inj, refuse-inv, follow-inv}
+use Rattle.kinds.specs.laws.Refusal.{accepted-inj, refuse-inv, follow-inv}
 use Rattle.problems.specs.Problem.{Problem, posed}
 use Rattle.problem_files.specs.judging.Judged.{ProblemFile}
 use Rattle.problem_files.specs.ProblemFile.{problemFile}
@@ -23,25 +23,26 @@ use Rattle.formulae_text.specs.lines.FormulaLines.{formulaeText}
 use Rattle.formulae_text.specs.FormulaAnswers.{formulaeAnswer, entryFormulae}
 use Rattle.problem_files.specs.inputs.Inputs.{inputOf}
 use Rattle.programs.specs.meaning.laws.Answered.{file-posed, catalogue-accepted}
-use Rattle.printing.specs.refusals.Pages.{listingRoom, printed}
+use Rattle.printing.specs.refusals.Pages.{listingRoom, answerText}
 use Rattle.formulae_program.specs.declared.plan.Plan.{Plan}
 use Rattle.formulae_program.specs.entry_parts.EntryPages.{planText, planTexts}
-use Rattle.formulae_program.specs.first_part.Listed.{Listed, listed, listedInput, firstPart}
+use Rattle.formulae_program.specs.first_part.Listed.{PlanListed, listedEntries, listedInput, firstPart}
 use Rattle.formulae_program.specs.first_part.Starts.{Follows, Printing, Starts}
 use Rattle.formulae_program.specs.FormulaeProgram.{rowsAt, entryPart, entriesPart, formulaeProgram}
 use Rattle.formulae_program.specs.laws.Shown.{entry-accepted}
+use Rattle.text.specs.Limits.{programWords, mostBytes}
 
 module _ (x : Plan) (g t listing : List ℕ) where
-  part-is : (L : Listed) → Follows L x g t listing → (i : ℕ) → planText x g t listing i ≡ entryPart L i
+  part-is : (L : PlanListed) → Follows L x g t listing → (i : ℕ) → planText x g t listing i ≡ entryPart L i
   part-is L F i = rw (F .number, F .p, F .q, F .r, F .generators, F .targets, F .numbers, F .rows, F .buffer)
 
-  parts-are : (L : Listed) → Follows L x g t listing → (i n : ℕ) → planTexts x g t listing i n ≡ entriesPart L i n
+  parts-are : (L : PlanListed) → Follows L x g t listing → (i n : ℕ) → planTexts x g t listing i n ≡ entriesPart L i n
   unfolding planTexts entriesPart
   parts-are L F i zero = refl
   parts-are L F i (suc n) = ap₂ _++_ (part-is L F i) (parts-are L F (suc i) n)
 
-  said-all : (o : Answer Listed) (page : List ℕ) → Printing o x g t listing page
-      → printed (follow o λ L. accepted (firstPart L ++ entriesPart L 0 (L .said .shown))) ≡ take (x .head) page ++ planTexts x g t listing 0 (x .shown)
+  said-all : (o : Answer PlanListed) (page : List ℕ) → Printing o x g t listing page
+      → answerText (follow o λ L. accepted (firstPart L ++ entriesPart L 0 (L .said .shown))) ≡ take (x .head) page ++ planTexts x g t listing 0 (x .shown)
   unfolding planTexts
   said-all (refused e) page P =
       sym (P .0) ∙ sym (append-nil (take (x .head) page)) ∙ ap (λ (n : ℕ). take (x .head) page ++ planTexts x g t listing 0 n) (sym (P .1))
@@ -57,16 +58,16 @@ module _ (x : Plan) (g t listing : List ℕ) where
 pub input-answered : (s : List ℕ) (P : ProblemFile) → inputOf purpose.Catalogue s ≡ accepted P → (c : Catalogued) × (listedInput s ≡ accepted (record { problem = P; said = c }))
 unfolding inputOf listedInput
 input-answered s P e =
-    let f = refuse-inv 1 (ltb 65536 (length s)) (problemFile purpose.Catalogue s 4096 4096) P e .1 in
-    let g = file-posed purpose.Catalogue s 4096 4096 P f in
+    let f = refuse-inv 1 (ltb mostBytes (length s)) (problemFile purpose.Catalogue s programWords programWords) P e .1 in
+    let g = file-posed purpose.Catalogue s programWords programWords P f in
     let c = catalogue-accepted (numberOf (P .kind)) (P .p) (P .q) (P .r) (P .k) (P .generators) (P .targets) listingRoom (g .0) (g .1) (g .2) in (
       c .0,
-      ap (λ (o : Answer ProblemFile). follow o listed) e
+      ap (λ (o : Answer ProblemFile). follow o listedEntries) e
           ∙ ap (λ (o : Answer Catalogued). follow o λ d. accepted (record { problem = P; said = d })) (c .1),
     )
 
 -- ---- an entry's part
-module _ (L : Listed) where
+module _ (L : PlanListed) where
   abbrev P : ProblemFile
   P = L .problem
 
@@ -80,12 +81,13 @@ module _ (L : Listed) where
   pub entry-has-lines : (s : List ℕ) → listedInput s ≡ accepted L → (i : ℕ) → i < L .said .shown → HasLines i
   unfolding listedInput entryFormulae
   entry-has-lines s e i h =
-      let a = follow-inv (inputOf purpose.Catalogue s) listed L e in
+      let a = follow-inv (inputOf purpose.Catalogue s) listedEntries L e in
       let Q : ProblemFile = a .0 in
       let b = follow-inv (catalogue (numberOf (Q .kind)) (Q .p) (Q .q) (Q .r) (Q .k) (Q .generators) (Q .targets) listingRoom) (λ c. accepted (record { problem = Q; said = c })) L (a .2) in
       let l : record { problem = Q; said = b .0 } ≡ L = accepted-inj (record { problem = Q; said = b .0 }) L (b .2) in
       let said : catalogue (numberOf (P .kind)) (P .p) (P .q) (P .r) (P .k) (P .generators) (P .targets) listingRoom ≡ accepted (L .said) =
-      subst (λ (K : Listed). catalogue (numberOf (K .problem .kind)) (K .problem .p) (K .problem .q) (K .problem .r) (K .problem .k) (K .problem .generators) (K .problem .targets) listingRoom ≡ accepted (K .said)) l (b .1) in
+      subst (λ (K : PlanListed). catalogue (numberOf (K .problem .kind)) (K .problem .p) (K .problem .q) (K .problem .r) (K .problem .k)
+      (K .problem .generators) (K .problem .targets) listingRoom ≡ accepted (K .said)) l (b .1) in
       let f = entry-accepted (numberOf (P .kind)) (P .p) (P .q) (P .r) (P .k) (P .generators) (P .targets) listingRoom listingRoom (L .said) said i h in
       let m = formulae-means (numberOf (P .kind)) (P .p) (P .q) (P .r) (P .generators) (P .targets) (rowsAt L i) listingRoom (f .0) (f .1) in
       record {
@@ -94,7 +96,7 @@ module _ (L : Listed) where
         said = f .0;
         accepted-as = f .1;
         lines =
-            ap (λ (o : Answer Problem). printed (follow o λ y. accepted (formulaeAnswer i (length (rowsAt L i)) (length (y .targets))
+            ap (λ (o : Answer Problem). answerText (follow o λ y. accepted (formulaeAnswer i (length (rowsAt L i)) (length (y .targets))
             (formulaeOf (numberOf (P .kind)) (P .p) (P .q) (P .r) (P .generators) (P .targets) (rowsAt L i) listingRoom)))) (m .1)
             ∙ ap (formulaeAnswer i (length (rowsAt L i)) (length (m .0 .targets))) (f .1);
       }

@@ -17,34 +17,40 @@ use Rattle.problems.specs.Problem.{listed, posed}
 use Rattle.catalogue.specs.listing.Listing.{records, flat, fitting}
 use Rattle.bases.specs.rows.Rows.{rowOf}
 use Rattle.first_formula.specs.Choice.{formulaRecord}
-use Rattle.catalogue.specs.Catalogue.{listing, catalogue}
+use Rattle.catalogue.specs.Catalogue.{entryListing, catalogue}
 use Rattle.text.specs.Line.{cut, field, nameLine}
 use Rattle.text.specs.Numeral.{digits, numeral}
 use Rattle.text.specs.heads.Head.{countFields, headLine, headLines}
 use Rattle.formula_files.specs.lines.Formula.{ended}
-use Rattle.printing.specs.Print.{printed}
+use Rattle.printing.specs.Print.{numeralText}
 use Rattle.printing.specs.fields.Fields.{sizesText}
 use Rattle.printing.specs.field_lists.Inner.{spacedText, innerText}
 use Rattle.printing.specs.record_lines.RecordLines.{listsText, entryText, recordLines}
 use Rattle.catalogue_text.specs.report.CatalogueReports.{countsText}
 use Rattle.problem_files.specs.handed_forms.ProblemLines.{listLines}
-use Rattle.problem_files.specs.judging.Judged.{settled, judged}
-use Rattle.problem_files.specs.ProblemFile.{formsOf, problemFile}
+use Rattle.problem_files.specs.judging.Judged.{settled, problemJudged}
+use Rattle.problem_files.specs.ProblemFile.{formsRead, problemFile}
 use Rattle.space_formulae.specs.spaces.Spaces as spaces
 use Rattle.space_formulae.specs.spaces.Spaces.{isEntry, formulaeOf}
 use Rattle.problem_files.specs.list_lines.Roles.{roleLine, roleLines, listBody}
 use Rattle.problem_files.specs.inputs.Inputs.{inputOf}
 use Rattle.formulae_text.specs.lines.FormulaLines.{formulaText, formulaeText}
 use Rattle.formulae_text.specs.FormulaAnswers.{entryFormulae}
-use Rattle.formulae_program.specs.first_part.Listed.{listedInput, headText}
+use Rattle.formulae_program.specs.first_part.Listed.{listedInput, formulaeHead}
 use Rattle.formulae_program.specs.FormulaeProgram.{entriesPart, formulaeProgram}
 
-pub worked-formulae : formulaeProgram ((107 ∷ 105 ∷ 110 ∷ 100 ∷ 44 ∷ 112 ∷ 44 ∷ 113 ∷ 44 ∷ 114 ∷ 44 ∷ 107 ∷ 10 ∷ []) ++ (108 ∷ 105 ∷ 115 ∷ 116 ∷ 44 ∷ 50 ∷ 44 ∷ 51 ∷ 44 ∷ 49 ∷ 44 ∷ 50 ∷ 10 ∷ []) ++ (114 ∷ 111 ∷ 108 ∷ 101 ∷ 44 ∷ 102 ∷ 111 ∷ 114 ∷ 109 ∷ 10 ∷ []) ++ (103 ∷ 44 ∷ 49 ∷ 10 ∷ []) ++ (103 ∷ 44 ∷ 50 ∷ 10 ∷ []) ++ (103 ∷ 44 ∷ 51 ∷ 10 ∷ []) ++ (116 ∷ 44 ∷ 51 ∷ 10 ∷ []))
+pub worked-formulae : formulaeProgram ((107 ∷ 105 ∷ 110 ∷ 100 ∷ 44 ∷ 112 ∷ 44 ∷ 113 ∷ 44 ∷ 114 ∷ 44 ∷ 107 ∷ 10 ∷ [])
+    ++ (108 ∷ 105 ∷ 115 ∷ 116 ∷ 44 ∷ 50 ∷ 44 ∷ 51 ∷ 44 ∷ 49 ∷ 44 ∷ 50 ∷ 10 ∷ []) ++ (114 ∷ 111 ∷ 108 ∷ 101 ∷ 44 ∷ 102 ∷ 111 ∷ 114 ∷ 109 ∷ 10 ∷ [])
+    ++ (103 ∷ 44 ∷ 49 ∷ 10 ∷ []) ++ (103 ∷ 44 ∷ 50 ∷ 10 ∷ []) ++ (103 ∷ 44 ∷ 51 ∷ 10 ∷ []) ++ (116 ∷ 44 ∷ 51 ∷ 10 ∷ []))
     ≡ (107 ∷ 105 ∷ 110 ∷ 100 ∷ 44 ∷ 112 ∷ 44 ∷ 113 ∷ 44 ∷ 114 ∷ 44 ∷ 107 ∷ 44 ∷ 101 ∷ 108 ∷ 108 ∷ 44 ∷ 102 ∷ 111 ∷ 117 ∷ 110 ∷ 100 ∷ 44 ∷ 115 ∷ 104 ∷ 111 ∷ 119 ∷ 110 ∷ 10 ∷ [])
     ++ (108 ∷ 105 ∷ 115 ∷ 116 ∷ 44 ∷ 50 ∷ 44 ∷ 51 ∷ 44 ∷ 49 ∷ 44 ∷ 50 ∷ 44 ∷ 49 ∷ 44 ∷ 49 ∷ 44 ∷ 49 ∷ 10 ∷ [])
     ++ (101 ∷ 110 ∷ 116 ∷ 114 ∷ 121 ∷ 44 ∷ 102 ∷ 111 ∷ 114 ∷ 109 ∷ 117 ∷ 108 ∷ 97 ∷ 44 ∷ 112 ∷ 114 ∷ 111 ∷ 100 ∷ 117 ∷ 99 ∷ 116 ∷ 115 ∷ 44 ∷ 114 ∷ 111 ∷ 119 ∷ 115 ∷ 10 ∷ [])
     ++ (48 ∷ 44 ∷ 48 ∷ 44 ∷ 48 ∷ 32 ∷ 49 ∷ 44 ∷ 51 ∷ 10 ∷ [])
     ++ (48 ∷ 44 ∷ 49 ∷ 44 ∷ 48 ∷ 32 ∷ 50 ∷ 44 ∷ 50 ∷ 10 ∷ [])
     ++ (48 ∷ 44 ∷ 50 ∷ 44 ∷ 49 ∷ 32 ∷ 50 ∷ 44 ∷ 50 ∷ 10 ∷ [])
-unfolding bit digitsOf top clear reduce norm place insert inserts basisOf dim risingLists anyOf only firstOfEach sameVec sameBasis inside generator chosen generatorsIn fits space entries formulae rowOf formulaRecord kindNumbered within listSizes wide zeroIn repeats listed posed records flat fitting listing catalogue printed sizesText spacedText innerText listsText entryText recordLines countsText formulaText cut field nameLine digits numeral countFields headLine headLines ended roleLine roleLines listBody listLines settled judged formsOf problemFile isEntry spaces.listing formulaeOf formulaeText entryFormulae inputOf listedInput headText entriesPart formulaeProgram
+unfolding bit digitsOf top clear reduce norm place insert inserts basisOf dim risingLists anyOf only firstOfEach sameVec sameBasis inside generator
+    chosen generatorsIn fits space entries formulae rowOf formulaRecord kindNumbered within listSizes wide zeroIn repeats listed posed records flat
+    fitting entryListing catalogue numeralText sizesText spacedText innerText listsText entryText recordLines countsText formulaText cut field nameLine digits
+    numeral countFields headLine headLines ended roleLine roleLines listBody listLines settled problemJudged formsRead problemFile isEntry spaces.formulaeListing
+    formulaeOf formulaeText entryFormulae inputOf listedInput formulaeHead entriesPart formulaeProgram
 worked-formulae = refl

@@ -2,8 +2,9 @@
 ghost use mathlib.Core.Path.{_≡_};
 ghost use Prim.Native.Nat.{_<_, _≤_};
 ghost use lib.ListN.{length, take};
-ghost use Rattle.formulae_program.specs.plan.Plans.{Ready};
+ghost use Rattle.formulae_program.specs.plan.Plans.{PlanReady};
 ghost use Rattle.formulae_program.specs.entry_parts.EntryPages.{planText};
+ghost use Rattle.printing.specs.refusals.Pages.{partPage};
 use super::plan::Plan;
 
 // What is printed of entry i, from the start of a page; its length.
@@ -15,8 +16,8 @@ pub fn entry_page(
     listing: &[u64],
     page: &mut [u8],
 ) -> usize
-    requires { ⌜ Ready plan (now gs) (now ts) (now listing) × (i < plan .shown) × (length (now page) ≡ 278528) ⌝ }
-    ensures { λ e. ⌜ (take e (now (page .exit)) ≡ planText plan (now (gs .entry)) (now (ts .entry)) (now (listing .entry)) i) × (e ≤ 278528) ⌝ }
+    requires { ⌜ PlanReady plan (now gs) (now ts) (now listing) × (i < plan .shown) × (length (now page) ≡ partPage) ⌝ }
+    ensures { λ e. ⌜ (take e (now (page .exit)) ≡ planText plan (now (gs .entry)) (now (ts .entry)) (now (listing .entry)) i) × (e ≤ partPage) ⌝ }
 {
     let n = plan.generators;
     let u = plan.targets;

@@ -2,11 +2,11 @@
 ghost use mathlib.Core.Path.{_≡_};
 ghost use Prim.Native.Nat.{_-_, _≤_};
 ghost use lib.ListN.{length, take};
-ghost use Rattle.printing.specs.refusals.Pages.{listingRoom};
+ghost use Rattle.printing.specs.refusals.Pages.{listingRoom, partPage};
 ghost use Rattle.problem_files.specs.judging.Judged.{problemOf};
-ghost use Rattle.formulae_program.specs.first_part.Listed.{headText, listed, listedInput};
-ghost use Rattle.formulae_program.specs.first_part.Starts.{Starts};
-ghost use Rattle.formulae_program.specs.first_part.laws.Start.{Empty};
+ghost use Rattle.formulae_program.specs.first_part.Listed.{formulaeHead, listedEntries, listedInput};
+ghost use Rattle.formulae_program.specs.first_part.Starts.{Starts, Empty};
+ghost use Rattle.text.specs.Limits.{programWords};
 use super::plan::Plan;
 use catalogue::Catalogued;
 use kinds::Kind;
@@ -15,7 +15,7 @@ use problem_files::judging::Purpose;
 
 // The line of a refusal from the start of a page, and no entry.
 fn plan_refused(n: u64, page: &mut [u8]) -> Plan
-    requires { ⌜ length (now page) ≡ 278528 ⌝ }
+    requires { ⌜ length (now page) ≡ partPage ⌝ }
     ensures { λ x. ⌜ Empty n x (now (page .exit)) ⌝ }
 {
     let e = printing::refusals::refused_page(n, page);
@@ -45,8 +45,8 @@ fn put_head(
     shown: u64,
     page: &mut [u8],
 ) -> usize
-    requires { ⌜ length (now page) ≡ 278528 ⌝ }
-    ensures { λ e. ⌜ (take e (now (page .exit)) ≡ headText kind p q r k ell found shown) × (e ≤ 278528) ⌝ }
+    requires { ⌜ length (now page) ≡ partPage ⌝ }
+    ensures { λ e. ⌜ (take e (now (page .exit)) ≡ formulaeHead kind p q r k ell found shown) × (e ≤ partPage) ⌝ }
 {
     let a = catalogue_text::report::put_counts(kind, p, q, r, k, ell, found, shown, page);
     printing::put_bytes(b"entry,formula,products,rows\n", page, a)
@@ -74,8 +74,8 @@ fn plan_problem(
     listing: &mut [u64],
     page: &mut [u8],
 ) -> Plan
-    requires { ⌜ (now listing ≡ listingRoom) × (length (now page) ≡ 278528) ⌝ }
-    ensures { λ x. ⌜ Starts (listed (problemOf kind p q r k (now (gs .entry)) (now (ts .entry)))) x (now (gs .entry)) (now (ts .entry)) (now (listing .exit)) (now (page .exit)) ⌝ }
+    requires { ⌜ (now listing ≡ listingRoom) × (length (now page) ≡ partPage) ⌝ }
+    ensures { λ x. ⌜ Starts (listedEntries (problemOf kind p q r k (now (gs .entry)) (now (ts .entry)))) x (now (gs .entry)) (now (ts .entry)) (now (listing .exit)) (now (page .exit)) ⌝ }
 {
     let number = kinds::number_of(kind);
     match catalogue::catalogue(number, p, q, r, k, gs, ts, listing) {
@@ -107,7 +107,7 @@ pub fn start(
     listing: &mut [u64],
     page: &mut [u8],
 ) -> Plan
-    requires { ⌜ (length (now gs) ≡ 4096) × (length (now ts) ≡ 4096) × (now listing ≡ listingRoom) × (length (now page) ≡ 278528) ⌝ }
+    requires { ⌜ (length (now gs) ≡ programWords) × (length (now ts) ≡ programWords) × (now listing ≡ listingRoom) × (length (now page) ≡ partPage) ⌝ }
     ensures { λ x. ⌜ Starts (listedInput (now (file .entry))) x (now (gs .exit)) (now (ts .exit)) (now (listing .exit)) (now (page .exit)) ⌝ }
 {
     match problem_files::inputs::read_input(file, Purpose::Catalogue, gs, ts) {

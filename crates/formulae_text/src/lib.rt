@@ -1,10 +1,12 @@
-// The formulae of an entry as text, on a page.
+// The formulae of an entry as text on a page.
+// lines      their lines, from the numbers
+// The program: `formulae_program`.
 ghost use mathlib.Core.Path.{_≡_};
 ghost use Prim.Native.Nat.{_≤_};
 ghost use lib.ListN.{length, take};
 ghost use Rattle.problems.specs.Problem.{posed};
-ghost use Rattle.formulae_text.specs.FormulaAnswers.{entryFormulae};
-ghost use Rattle.formulae_text.specs.laws.Formulae.{Counts};
+ghost use Rattle.formulae_text.specs.FormulaAnswers.{entryFormulae, Counts};
+ghost use Rattle.printing.specs.refusals.Pages.{partPage};
 use problems::targets::Targets;
 use space_formulae::spaces::Listed;
 
@@ -23,10 +25,10 @@ fn put_entry(
     rows: &[u64],
     page: &mut [u8],
 ) -> usize
-    requires { ⌜ (length (now page) ≡ 278528) × Counts (posed number p q r (now gs) (now ts) (now rows)) t ⌝ }
-    ensures { λ e. ⌜ (take e (now (page .exit)) ≡ entryFormulae entry number p q r (now (gs .entry)) (now (ts .entry)) (now (rows .entry))) × (e ≤ 278528) ⌝ }
+    requires { ⌜ (length (now page) ≡ partPage) × Counts (posed number p q r (now gs) (now ts) (now rows)) t ⌝ }
+    ensures { λ e. ⌜ (take e (now (page .exit)) ≡ entryFormulae entry number p q r (now (gs .entry)) (now (ts .entry)) (now (rows .entry))) × (e ≤ partPage) ⌝ }
 {
-    let mut listing = [0u64; 4096];
+    let mut listing = [0u64; text::PROGRAM_WORDS];
     let said = space_formulae::formulae(number, p, q, r, gs, ts, rows, &mut listing);
     let k = rows.len();
     match said {
@@ -48,8 +50,8 @@ pub fn entry_formulae(
     rows: &[u64],
     page: &mut [u8],
 ) -> usize
-    requires { ⌜ length (now page) ≡ 278528 ⌝ }
-    ensures { λ e. ⌜ (take e (now (page .exit)) ≡ entryFormulae entry number p q r (now (gs .entry)) (now (ts .entry)) (now (rows .entry))) × (e ≤ 278528) ⌝ }
+    requires { ⌜ length (now page) ≡ partPage ⌝ }
+    ensures { λ e. ⌜ (take e (now (page .exit)) ≡ entryFormulae entry number p q r (now (gs .entry)) (now (ts .entry)) (now (rows .entry))) × (e ≤ partPage) ⌝ }
 {
     match problems::targets::targets_of(number, p, q, r, gs, ts, rows) {
         Targets::Refused(e) => printing::refusals::refused_page(e, page),

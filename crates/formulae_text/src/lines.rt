@@ -11,9 +11,8 @@ fn put_formula(entry: u64, i: u64, xs: &[u64], ys: &[u64], out: &mut [u8], at: u
     requires { ⌜ Short (now xs) (now ys) at 2000000000 ⌝ }
     ensures { λ e. ⌜ Piece (now (out .entry)) at (formulaText entry i (now (xs .entry)) (now (ys .entry))) (21 * length (now (xs .entry)) + 21 * length (now (ys .entry)) + 46) (now (out .exit)) e ⌝ }
 {
-    let a = printing::put_number(entry, 10, 20, out, at);
-    printing::put_byte(out, a, 44);
-    printing::record_lines::put_entry(i, xs, ys, out, a + 1)
+    let a = printing::record_lines::put_lead(entry, out, at);
+    printing::record_lines::put_entry(i, xs, ys, out, a)
 }
 
 // The lines of n formulae of an entry, whose records have k numbers and t rows, likewise.

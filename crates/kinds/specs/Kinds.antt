@@ -1,9 +1,9 @@
 -- The kinds of bilinear map, each with its number and its name.
---   known           == the one table: kind, number, name
---   numberOf k      == the number by which a caller names the kind
---   nameOf k        == the bytes that name it in a file
---   kindNumbered x  == the kind with the number x; each kind is the one with its number (kind-numbered)
---   kindNamed s     == the kind that the bytes s name
+--   kindEntry      == the one table: kind, number, name
+--   numberOf k     == the number by which a caller names the kind
+--   nameOf k       == the bytes that name it in a file
+--   kindNumbered x == the kind with the number x; each kind is the one with its number (kind-numbered)
+--   kindNamed s    == the kind that the bytes s name
 -- Document 01: poly, short, circ, mat, list. Assumes nothing.
 use mathlib.Core.Path.{_≡_, refl}
 use mathlib.Core.Bool.{Bool, true, false, _&&_, cond}
@@ -21,18 +21,18 @@ pub record Entry : Type 0 where
   pub name : List ℕ
 
 -- a byte string is a list of numbers below 256: `p` is 112, and so on
-abbrev pub known : Kind → Entry
-known kind.Poly = record { number = 0; name = 112 ∷ 111 ∷ 108 ∷ 121 ∷ [] }
-known kind.Short = record { number = 1; name = 115 ∷ 104 ∷ 111 ∷ 114 ∷ 116 ∷ [] }
-known kind.Circ = record { number = 2; name = 99 ∷ 105 ∷ 114 ∷ 99 ∷ [] }
-known kind.Mat = record { number = 3; name = 109 ∷ 97 ∷ 116 ∷ [] }
-known kind.List = record { number = 4; name = 108 ∷ 105 ∷ 115 ∷ 116 ∷ [] }
+abbrev pub kindEntry : Kind → Entry
+kindEntry kind.Poly = record { number = 0; name = 112 ∷ 111 ∷ 108 ∷ 121 ∷ [] }
+kindEntry kind.Short = record { number = 1; name = 115 ∷ 104 ∷ 111 ∷ 114 ∷ 116 ∷ [] }
+kindEntry kind.Circ = record { number = 2; name = 99 ∷ 105 ∷ 114 ∷ 99 ∷ [] }
+kindEntry kind.Mat = record { number = 3; name = 109 ∷ 97 ∷ 116 ∷ [] }
+kindEntry kind.List = record { number = 4; name = 108 ∷ 105 ∷ 115 ∷ 116 ∷ [] }
 
 abbrev pub numberOf : Kind → ℕ
-numberOf k = known k .number
+numberOf k = kindEntry k .number
 
 abbrev pub nameOf : Kind → List ℕ
-nameOf k = known k .name
+nameOf k = kindEntry k .name
 
 abbrev pub kinds : List Kind
 kinds = kind.Poly ∷ kind.Short ∷ kind.Circ ∷ kind.Mat ∷ kind.List ∷ []

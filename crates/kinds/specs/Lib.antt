@@ -1,6 +1,6 @@
 -- The kinds of bilinear map, their sizes, and the list of refusals.
 pub mod Kinds
+pub mod Limits
 pub mod Sizes
-pub mod SizeLaws
 pub mod Refusal
-pub mod RefusalLaws
+pub mod laws

@@ -6,6 +6,7 @@ use mathlib.Core.Bool.{Bool, true, false, _&&_}
 use mathlib.Core.Option.{Option, none, some}
 use Prim.Native.Nat.{ℕ, _+_, _-_, _*_}
 use lib.Dec.{leb, eqb}
+use Rattle.kinds.specs.Limits.{mostCoordinates}
 use Rattle.kinds.specs.declared.Kind.{Kind}
 use Rattle.kinds.specs.declared.Kind.the-variants as kind
 use Rattle.kinds.specs.declared.Sized.{Sized}
@@ -18,7 +19,7 @@ given false x = none
 
 -- x and y at least 1, and x × y at most 64
 unfoldable pub within : ℕ → ℕ → Bool
-within x y = leb 1 x && (leb 1 y && leb (x * y) 64)
+within x y = leb 1 x && (leb 1 y && leb (x * y) mostCoordinates)
 
 -- "n = p, m = q, r = 0", "t below n + m − 1"
 unfoldable pub polySizes : ℕ → ℕ → ℕ → Option (ℕ × ℕ × ℕ)

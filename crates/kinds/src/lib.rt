@@ -1,7 +1,18 @@
-// The kinds of bilinear map, and their sizes: refusals 2 and 3.
+// What a kind of map is: its number, the kind of a number (refusal 2), its sizes (refusal 3), and the limits on what is handed in.
+// specs/ also has the list of refusals.
+// Names of kinds in files: `text::heads` reads them, `printing` prints them. The map itself: `maps`.
 ghost use mathlib.Core.Path.{_≡_};
 ghost use Rattle.kinds.specs.Kinds.{numberOf, kindNumbered, seenKind};
 ghost use Rattle.kinds.specs.Sizes.{within, polySizes, squareSizes, matSizes, listSizes, sizes, seenSizes};
+
+// The most coordinates of a form, targets of a map or list, products of a formula, and generators of a menu (specs/Limits.antt).
+pub const COORDINATES: u64 = 64;
+
+pub const TARGETS: usize = 64;
+
+pub const PRODUCTS: usize = 64;
+
+pub const GENERATORS: usize = 4095;
 
 // Document 01's kinds.
 pub enum Kind {
@@ -60,7 +71,7 @@ fn fits(x: u64, y: u64) -> bool
     if y == 0 {
         return false;
     }
-    y <= 64 / x
+    y <= COORDINATES / x
 }
 
 fn poly_sizes(p: u64, q: u64, r: u64) -> Sized

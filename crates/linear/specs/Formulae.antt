@@ -3,15 +3,20 @@
 --   leastFrom n k          == the first entry of the least number of dimensions that has one, out of k, k + 1, .., k + n - 1
 --   Fewest                 == what Rank says: the products of a formula, above, or beyond
 --   fewest gens targets    == what Rank says of the targets
+--   Formula W es           == es are the numbers of a formula of the space W: as many as its dimensions, rising, independent, spanning it
+--   RankFormula fs         == what is true of the formula that Rank says
 -- The theorems are in `Theorems`. Assumes nothing.
+use mathlib.Core.Path.{_≡_}
 use mathlib.Core.Bool.{Bool, not, cond}
 use mathlib.Core.List.{List, [], _∷_}
 use mathlib.Core.Option.{Option, none, some}
-use Prim.Native.Nat.{ℕ, zero, suc}
+use Prim.Native.Nat.{ℕ, zero, suc, _+_, _≤_}
 use lib.ListN.{length}
 use Rattle.linear.specs.Space.{Space}
+use Rattle.linear.specs.Span.{Independent, SameSpan}
 use Rattle.linear.specs.Basis.{basisOf, dim}
-use Rattle.linear.specs.Order.{risingLists}
+use Rattle.linear.specs.Order.{Rising, risingLists}
+use Rattle.linear.specs.Rank.{Computes, Rank}
 use Rattle.linear.specs.Select.{anyOf, only}
 use Rattle.linear.specs.Entry.{sameBasis, inside, chosen, space, entries}
 
@@ -59,3 +64,25 @@ module _ (S : Space) (gens : List (S .Vec)) where
     -- from ℓ to ℓ + 6 has an entry, and Beyond exactly if the menu doesn't span T."
     unfoldable pub fewest : Fewest
     fewest = cond missed beyond (ofEntry (leastFrom 7 (dim S targets)))
+
+-- what it is to be a formula of a space, and what it is to be the one that Rank says
+module _ (S : Space) (gens : List (S .Vec)) where
+  open Space S using (Vec)
+
+  pub record Formula (W : List Vec) (es : List ℕ) : Type 0 where
+    pub number : length es ≡ length W
+    pub rising : Rising 0 (length gens) es
+    pub independent : Independent S (chosen S gens es)
+    pub spanning : SameSpan S (chosen S gens es) W
+
+module _ (S : Space) (gens targets : List (S .Vec)) where
+  -- a formula that Rank says
+  pub record RankFormula (fs : List ℕ) : Type 0 where
+    pub entry : List ℕ
+    pub first-entry : first (entries S gens targets (length fs)) ≡ some entry
+    pub first-formula-of : first (formulae S gens (space S gens targets entry)) ≡ some fs
+    pub rising : Rising 0 (length gens) fs
+    pub independent : Independent S (chosen S gens fs)
+    pub computes : Computes S targets (chosen S gens fs)
+    pub near : length fs ≤ dim S targets + 6
+    pub rank : Rank S gens targets (length fs)

@@ -5,6 +5,7 @@ pub mod Basis
 pub mod Order
 pub mod Select
 pub mod Entry
+pub mod Extension
 pub mod Walk
 pub mod Share
 pub mod Heavy

@@ -1,7 +1,7 @@
 -- The field of three elements, and its vectors as two planes of bits: the definitions that `Trit` makes a space of.
---   Three == 0, 1 and 2; plus3, times3, neg3 modulo 3
---   digit nonzero two == the element for a bit of each plane: 0 where the first is not set, else 2 or 1
---   Planes == two numbers, the second's bits among the first's; coord3 v i == coordinate i
+--   Three               == 0, 1 and 2; plus3, times3, neg3 modulo 3
+--   trit nonzero two    == the element for a bit of each plane: 0 where the first is not set, else 2 or 1
+--   Planes              == two numbers, the second's bits among the first's; coord3 v i == coordinate i
 --   sumNonzero, sumTwos == the planes of a sum, from those of its terms
 -- Assumes nothing.
 use mathlib.Core.Path.{_≡_, refl}
@@ -32,16 +32,16 @@ times3 n0 b = n0
 times3 n1 b = b
 times3 n2 b = neg3 b
 
-abbrev pub digit : Bool → Bool → Three
-digit false t = n0
-digit true false = n1
-digit true true = n2
+abbrev pub trit : Bool → Bool → Three
+trit false t = n0
+trit true false = n1
+trit true true = n2
 
 abbrev pub Planes : Type 0
 Planes = (p : ℕ × ℕ) × (bitAnd (p .0) (p .1) ≡ p .1)
 
 abbrev pub coord3 : Planes → ℕ → Three
-coord3 v i = digit (bit (v .0 .0) i) (bit (v .0 .1) i)
+coord3 v i = trit (bit (v .0 .0) i) (bit (v .0 .1) i)
 
 abbrev pub nul3 : Planes
 nul3 = ((0, 0), refl)

@@ -1,10 +1,10 @@
 -- The formulae of a space, found as a program goes: one generator after the other, each inside the space and not yet spanned.
---   later W i              == the generators inside W with numbers from i on
---   completes W C i        == C and those span as many dimensions as W
---   passed W C i           == generator i is outside W, or in the span of C: no formula of W goes on from C with it
+--   later W i               == the generators inside W with numbers from i on
+--   completes W C i         == C and those span as many dimensions as W
+--   passed W C i            == generator i is outside W, or in the span of C: no formula of W goes on from C with it
 --   spread W emit C p n i m == what is emitted from the basis C of the generators numbered p, for m more numbers out of i, .., i + n - 1, none of them passed, that
---                             lead to W
---   Inner W C m            == C is a reduced basis inside W, of m dimensions less
+--                              lead to W
+--   Inner W C m             == C is a reduced basis inside W, of m dimensions less
 -- From the empty basis these are the formulae of W: `spread-is`. Where C is not completed nothing follows, `spread-none`; where it is, a formula does,
 -- `spread-some` (laws/Spread). Assumes nothing.
 use mathlib.Core.Path.{_≡_}

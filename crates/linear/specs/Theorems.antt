@@ -19,7 +19,7 @@ use Rattle.linear.specs.Order.{Before, Rising, risingLists, Ordered, fac
 use Rattle.linear.specs.Select.{Once}
 use Rattle.linear.specs.Entry.{Solution, space, entries}
 use Rattle.linear.specs.Rank.{Chosen, Computes, Rank}
-use Rattle.linear.specs.Formulae.{formula, above, beyond, formulae, fewest}
+use Rattle.linear.specs.Formulae.{formula, above, beyond, formulae, fewest, Formula, RankFormula}
 use Rattle.linear.specs.laws.Reduce.{member}
 use Rattle.linear.specs.laws.Insert.{insert-old, insert-reduced, insert-span, insert-length-new, basisOf-reduced, basisOf-span}
 use Rattle.linear.specs.laws.Dimension as dimensions
@@ -27,9 +27,10 @@ use Rattle.linear.specs.laws.Independent as independence
 use Rattle.linear.specs.laws.Order.{rising-sound, rising-complete, rising-ordered}
 use Rattle.linear.specs.laws.Count.{rising-count, entries-count}
 use Rattle.linear.specs.laws.Entry.{entries-sound, entries-once, entries-ordered}
-use Rattle.linear.specs.laws.Extension.{extension, entries-complete, entries-first, entries-greedy}
+use Rattle.linear.specs.Extension.{extension}
+use Rattle.linear.specs.laws.Extension.{entries-complete, entries-first, entries-greedy}
 use Rattle.linear.specs.laws.Rank.{solution-from, chosen-from, no-entry, rank-is}
-use Rattle.linear.specs.laws.Formulae.{Formula, formulae-are}
+use Rattle.linear.specs.laws.Formulae.{formulae-are}
 use Rattle.linear.specs.laws.Fewest as rank
 
 -- ---- bases
@@ -136,7 +137,7 @@ module _ (S : Space) (gens targets : List (S .Vec)) where
 
   -- Where Rank says a formula, its products are independent generators that compute the targets, it is the first formula of the first entry for
   -- their number r, and r is the rank: every choice of generators that computes the targets has at least r.
-  pub rank-formula : (fs : List ℕ) → fewest S gens targets ≡ formula fs → rank.RankFormula S gens targets fs
+  pub rank-formula : (fs : List ℕ) → fewest S gens targets ≡ formula fs → RankFormula S gens targets fs
   rank-formula = rank.fewest-formula S gens targets
 
   -- It says one exactly if some ℓ + 6 or fewer generators compute the targets,

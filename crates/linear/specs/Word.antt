@@ -1,18 +1,19 @@
 -- Forms with coefficients 0 and 1: the field of two elements, and words as vectors over it.
---   xorB  == the sum of two bits
---   two   == the field of two elements
---   word  == the numbers, by their binary digits, with exclusive or as sum. A form of w bits is a number below 2 ^ w.
+--   two       == the field of two elements
+--   Below w C == every member of C is below 2 ^ w
+--   word      == the numbers, by their binary digits, with exclusive or as sum. A form of w bits is a number below 2 ^ w.
 -- Document 01: "with coefficients 0 and 1 (sum is exclusive or)". Laws: laws/Word. Assumes nothing.
 use mathlib.Core.Path.{_≡_, refl}
 use mathlib.Core.Logic.{_≢_}
 use mathlib.Core.Bool.{Bool, true, false, _&&_, true≢false, false≢true}
-use Prim.Native.Nat.{ℕ, zero, suc}
+use mathlib.Core.List.{List, List·Memᴰ}
+use Prim.Native.Nat.{ℕ, zero, suc, _^_, _<_}
 use native.Mathlib.Nat.{suc-ne-zero}
 use lib.Bits.{bitXor}
 use Rattle.linear.specs.Space.{Field, Space}
-use Rattle.linear.specs.Bit.{bit, top}
+use Rattle.linear.specs.Bit.{bit, top, xorB}
 use Rattle.linear.specs.laws.Finite.{bit-law}
-use Rattle.linear.specs.laws.Bit.{xorB, bit-zero, bit-xor, bit-ext, top-above, top-one}
+use Rattle.linear.specs.laws.Bit.{bit-zero, bit-xor, bit-ext, top-above, top-one}
 
 abbrev pub two : Field
 two =
@@ -81,3 +82,7 @@ word =
     zero-no : (v : ℕ) → isZero v ≡ false → v ≢ 0
     zero-no zero e q = true≢false e
     zero-no (suc v) e q = suc-ne-zero v q
+
+-- every member is below 2 ^ w
+abbrev pub Below : ℕ → List ℕ → Type 0
+Below w C = (x : ℕ) → List·Memᴰ x C → x < 2 ^ w

@@ -15,19 +15,20 @@ use native.Mathlib.Omega.{arith}
 use lib.Dec.{leb}
 use lib.Pow.{pow-mono, pow-pos}
 use borrow.Author.Tests.{leb-true}
-use Rattle.kinds.specs.SizeLaws.{given-yes, given-no}
+use Rattle.kinds.specs.laws.Sizes.{given-yes, given-no}
 use borrow.Author.Tests.{le-leb}
 use Rattle.linear.specs.laws.Shift.{one-shift}
 use Rattle.maps.specs.Generators.{generatorCount, countOf, Numbered}
+use Rattle.kinds.specs.Limits.{mostGenerators}
 
 module _ (n m : ℕ) where
-  pub count-is : (c : ℕ) → c ≡ generatorCount n m → c ≤ 4095 → countOf n m ≡ some c
+  pub count-is : (c : ℕ) → c ≡ generatorCount n m → c ≤ mostGenerators → countOf n m ≡ some c
   unfolding countOf
-  count-is c e h = given-yes (leb (generatorCount n m) 4095) (generatorCount n m) (le-leb (generatorCount n m) 4095 (omega arith)) ∙ ap some (sym e)
+  count-is c e h = given-yes (leb (generatorCount n m) mostGenerators) (generatorCount n m) (le-leb (generatorCount n m) mostGenerators (omega arith)) ∙ ap some (sym e)
 
-  pub count-many : 4095 < generatorCount n m → countOf n m ≡ none
+  pub count-many : mostGenerators < generatorCount n m → countOf n m ≡ none
   unfolding countOf
-  count-many h = given-no (leb (generatorCount n m) 4095) (generatorCount n m) (λ e. let l = leb-true (generatorCount n m) 4095 e in omega arith)
+  count-many h = given-no (leb (generatorCount n m) mostGenerators) (generatorCount n m) (λ e. let l = leb-true (generatorCount n m) mostGenerators e in omega arith)
 
   pub count-none-left : n ≡ 0 → 0 ≡ generatorCount n m
   unfolding generatorCount
@@ -46,11 +47,11 @@ narrow n h = let p : 2 ^ n ≤ 2 ^ 12 = pow-mono h in omega arith
 any : (n : ℕ) → 0 < n → 1 ≤ 2 ^ n - 1
 any n h = let p : 2 ^ 1 ≤ 2 ^ n = pow-mono h in omega arith
 
-pub many-left : (n m : ℕ) → 12 < n → 0 < m → 4095 < generatorCount n m
+pub many-left : (n m : ℕ) → 12 < n → 0 < m → mostGenerators < generatorCount n m
 unfolding generatorCount
 many-left n m h k = let p : 8191 * 1 ≤ (2 ^ n - 1) * (2 ^ m - 1) = mul-le-mul (wide n h) (any m k) in omega arith
 
-pub many-right : (n m : ℕ) → 0 < n → 12 < m → 4095 < generatorCount n m
+pub many-right : (n m : ℕ) → 0 < n → 12 < m → mostGenerators < generatorCount n m
 unfolding generatorCount
 many-right n m h k = let p : 1 * 8191 ≤ (2 ^ n - 1) * (2 ^ m - 1) = mul-le-mul (any n h) (wide m k) in omega arith
 
@@ -59,7 +60,7 @@ pub record Low (m : ℕ) : Type 0 where
   pub shift : m < 64
   pub some : 1 ≤ 1 * 2 ^ m % 2 ^ 64
   pub same : 1 * 2 ^ m % 2 ^ 64 - 1 ≡ 2 ^ m - 1
-  pub small : 1 * 2 ^ m % 2 ^ 64 - 1 ≤ 4095
+  pub small : 1 * 2 ^ m % 2 ^ 64 - 1 ≤ mostGenerators
 
 pub low : (m : ℕ) → m ≤ 12 → Low m
 low m h =
@@ -70,7 +71,7 @@ pub counted : (n m : ℕ) → n ≤ 12 → m ≤ 12 → (1 * 2 ^ n % 2 ^ 64 - 1)
 unfolding generatorCount
 counted n m h k = ap₂ _*_ (low n h .same) (low m k .same)
 
-pub product-fits : (a b : ℕ) → a ≤ 4095 → b ≤ 4095 → a * b ≤ 16769025
+pub product-fits : (a b : ℕ) → a ≤ mostGenerators → b ≤ mostGenerators → a * b ≤ 16769025
 product-fits a b h k = mul-le-mul h k
 
 -- ---- a menu that is not refused

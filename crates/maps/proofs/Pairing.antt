@@ -14,7 +14,8 @@ use borrow.Author.Tests.{eq-eqb, ne-eqb}
 use Rattle.kinds.specs.declared.Kind.{Kind}
 use Rattle.kinds.specs.declared.Kind.the-variants as kind
 use Rattle.linear.specs.laws.Shift.{one-shift}
-use Rattle.forms.specs.products.Product.{formOf, formOf-below}
+use Rattle.forms.specs.products.Product.{formOf}
+use Rattle.forms.specs.products.laws.Product.{formOf-below}
 use Rattle.maps.specs.Target.{pair}
 
 and-off : (u v : Bool) → v ≡ false → u && v ≡ false

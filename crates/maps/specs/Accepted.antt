@@ -17,7 +17,7 @@ use borrow.Author.Tests.{eqb-true}
 use Rattle.kinds.specs.declared.Kind.{Kind}
 use Rattle.kinds.specs.declared.Kind.the-variants as kind
 use Rattle.kinds.specs.Sizes.{sizes, within, polySizes, squareSizes, matSizes}
-use Rattle.kinds.specs.SizeLaws.{both, given-some, Within, within-yes, MatWithin, mat-within, sizes-bounds}
+use Rattle.kinds.specs.laws.Sizes.{both, given-some, Within, within-yes, MatWithin, mat-within, sizes-bounds}
 use Rattle.maps.specs.Target.{targetForm}
 use Rattle.maps.specs.Squares.{InTable}
 

@@ -1,11 +1,11 @@
 -- The generators: the products of a nonzero sum of a's and a nonzero sum of b's, numbered from 0.
---   generatorCount n m    == how many there are, in n and m variables
+--   generatorCount n m            == how many there are, in n and m variables
 --   firstMask m j, secondMask m j == the masks A and B of the generator number j
---   numbered m A B        == the number of the generator with the masks A and B
---   generatorForm n m j   == the form of the generator number j
---   listOf f i c          == f i, f (i + 1), .., c of them
---   generatorForms n m    == the forms of all of them, in order
---   countOf n m           == their number, if it is at most 4095
+--   numbered m A B                == the number of the generator with the masks A and B
+--   generatorForm n m j           == the form of the generator number j
+--   listOf f i c                  == f i, f (i + 1), .., c of them
+--   generatorForms n m            == the forms of all of them, in order
+--   countOf n m                   == their number, if it is at most 4095
 -- Document 01: "Except for list, the menu is every product of a nonzero sum of a's and a nonzero sum of b's. With those sums as bit masks A
 -- and B, its number is (A − 1) × (2^m − 1) + (B − 1)."
 --   number-of-masks   the number of the masks of j is j
@@ -26,9 +26,11 @@ use lib.Arith.{digits-lt, digits-div, digits-mod}
 use lib.Dec.{leb}
 use lib.ListN.{length, getD}
 use Rattle.kinds.specs.Sizes.{given}
-use Rattle.forms.specs.products.Product.{productForm, product-below}
+use Rattle.forms.specs.products.Product.{productForm}
+use Rattle.forms.specs.products.laws.Product.{product-below}
 use Rattle.maps.specs.declared.Count.{Count}
 use Rattle.maps.specs.declared.Count.the-variants as count
+use Rattle.kinds.specs.Limits.{mostGenerators}
 
 unfoldable pub generatorCount : ℕ → ℕ → ℕ
 generatorCount n m = (2 ^ n - 1) * (2 ^ m - 1)
@@ -55,7 +57,7 @@ generatorForms n m = listOf (generatorForm n m) 0 (generatorCount n m)
 
 -- refusal 4: "has more than 4,095 forms"
 unfoldable pub countOf : ℕ → ℕ → Option ℕ
-countOf n m = given (leb (generatorCount n m) 4095) (generatorCount n m)
+countOf n m = given (leb (generatorCount n m) mostGenerators) (generatorCount n m)
 
 -- the answer of the code
 abbrev pub seenCount : Count → Option ℕ
@@ -72,7 +74,7 @@ pub record Masks (n m A B : ℕ) : Type 0 where
 -- the number of a generator of a menu that is not refused
 pub record Numbered (n m j : ℕ) : Type 0 where
   pub below : j < generatorCount n m
-  pub few : generatorCount n m ≤ 4095
+  pub few : generatorCount n m ≤ mostGenerators
 
 -- masks of such a menu: each side has at most 12 variables
 pub record SmallMasks (m A B : ℕ) : Type 0 where

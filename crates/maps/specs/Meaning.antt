@@ -14,8 +14,7 @@ use mathlib.Core.Option.{some}
 use Prim.Native.Nat.{ℕ, _*_, _^_, _<_, _≤_}
 use lib.Bits.{bitXor}
 use lib.ListN.{getD}
-use Rattle.linear.specs.Bit.{bit}
-use Rattle.linear.specs.laws.Bit.{xorB}
+use Rattle.linear.specs.Bit.{bit, xorB}
 use Rattle.kinds.specs.declared.Kind.{Kind}
 use Rattle.kinds.specs.declared.Kind.the-variants as kind
 use Rattle.kinds.specs.Sizes.{sizes}

@@ -1,6 +1,6 @@
 -- The forms to be computed, and the value of a form.
---   value n m f a b         == the form f in n and m variables, at the bits a and b
---   pair k p q r t i j      == a_i b_j is a term of output t
+--   value n m f a b          == the form f in n and m variables, at the bits a and b
+--   pair k p q r t i j       == a_i b_j is a term of output t
 --   targetForm k p q r n m t == the form of output t, in n and m variables
 -- Document 01: "The targets are the forms to be computed." Theorems: target-value (Meaning). Assumes nothing.
 use mathlib.Core.Bool.{Bool, false, _&&_}

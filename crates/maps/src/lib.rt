@@ -1,4 +1,7 @@
-// Bilinear maps: their target forms and generators.
+// The bilinear maps: which a_i b_j are terms of an output, the target forms, the number of generators (refusal 4), and the form of a generator's number.
+// squares      the coefficient forms of square poly sizes, a table
+// form_lists   a list's forms, a map's generators and its targets, written to a lent buffer
+// What the maps are on bits stands in specs/Textbook.antt. Sizes: `kinds`. Which problem is accepted: `problems`.
 ghost use mathlib.Core.Path.{_≡_};
 ghost use Rattle.maps.specs.Target.{pair, targetForm};
 ghost use Rattle.maps.specs.Accepted.{Accepted, Terms};
@@ -83,7 +86,11 @@ pub fn generator_count(n: u64, m: u64) -> Count
         return Count::Many;
     }
     let c = ((1u64 << n) - 1) * ((1u64 << m) - 1);
-    if c <= 4095 { Count::Is(c) } else { Count::Many }
+    if c <= kinds::GENERATORS as u64 {
+        Count::Is(c)
+    } else {
+        Count::Many
+    }
 }
 
 // The form of the generator number j: its masks are the digits of j to the base 2^m - 1, each counted from 1.
@@ -93,13 +100,4 @@ pub fn generator_form(n: u64, m: u64, j: u64) -> u64
 {
     let base = (1u64 << m) - 1;
     forms::products::product(n as usize, m as usize, j / base + 1, j % base + 1)
-}
-
-// The number of the generator with the masks a and b: each a comes with 2^m - 1 masks b.
-pub fn number_of_masks(m: u64, a: u64, b: u64) -> u64
-    requires { ⌜ SmallMasks m a b ⌝ }
-    ensures { λ x. ⌜ x ≡ numbered m a b ⌝ }
-{
-    let seconds = (1u64 << m) - 1;
-    (a - 1) * seconds + (b - 1)
 }

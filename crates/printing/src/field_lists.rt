@@ -3,12 +3,11 @@ ghost use mathlib.Core.Path.{_≡_};
 ghost use Prim.Native.Nat.{_+_, _*_, _≤_};
 ghost use lib.ListN.{length};
 ghost use Rattle.printing.specs.fields.Piece.{Piece};
-ghost use Rattle.printing.specs.field_lists.Inner.{spacedText, innerText};
-ghost use Rattle.printing.specs.field_lists.laws.Inner.{Asked};
+ghost use Rattle.printing.specs.field_lists.Inner.{spacedText, innerText, InnerAsked};
 
 // Each number with a space before it, from place `at` on, as far as there is room; the place after them.
 fn put_spaced(xs: &[u64], base: u64, most: usize, out: &mut [u8], at: usize) -> usize
-    requires { ⌜ Asked (now xs) base most at ⌝ }
+    requires { ⌜ InnerAsked (now xs) base most at ⌝ }
     ensures { λ e. ⌜ Piece (now (out .entry)) at (spacedText base most (now (xs .entry))) (21 * length (now (xs .entry))) (now (out .exit)) e ⌝ }
 {
     let mut e = at;
@@ -23,7 +22,7 @@ fn put_spaced(xs: &[u64], base: u64, most: usize, out: &mut [u8], at: usize) -> 
 
 // The numbers separated by spaces, or `-` where there are none, likewise.
 pub fn put_inner(xs: &[u64], base: u64, most: usize, out: &mut [u8], at: usize) -> usize
-    requires { ⌜ Asked (now xs) base most (at + 20) ⌝ }
+    requires { ⌜ InnerAsked (now xs) base most (at + 20) ⌝ }
     ensures { λ e. ⌜ Piece (now (out .entry)) at (innerText base most (now (xs .entry))) (21 * length (now (xs .entry)) + 1) (now (out .exit)) e ⌝ }
 {
     if xs.len() == 0 {

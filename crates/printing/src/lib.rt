@@ -1,16 +1,26 @@
-// Printing from a place of a lent buffer on.
+// Bytes printed from a place of a lent buffer on: bytes, numbers in a base, names of kinds.
+// fields         fields of a line, sizes, the line of a refusal; a text handed over whole
+// field_lists    lists of numbers inside a field
+// refusals       the line of a refusal on a page
+// record_lines   the fields that Catalogue, Rank and Formulae print alike
+// Which text a reply has: `check_text`, `catalogue_text`, `rank_text`, `formulae_text`.
 ghost use mathlib.Core.Path.{_≡_};
 ghost use Prim.Native.Nat.{_+_, _^_, _≤_, _<_};
 ghost use lib.ListN.{length, set};
 ghost use lib.Seq.{sets};
 ghost use Rattle.kinds.specs.Kinds.{nameOf};
-ghost use Rattle.printing.specs.Print.{digitByte, printed};
+ghost use Rattle.printing.specs.Print.{digitByte, numeralText};
 use kinds::Kind;
 
 pub mod field_lists;
 pub mod fields;
 pub mod record_lines;
 pub mod refusals;
+
+// The bytes of a page for a whole reply, and for a part of what the Formulae program prints (`replyPage`, `partPage`).
+pub const REPLY_PAGE: usize = 196608;
+
+pub const PART_PAGE: usize = 278528;
 
 // The byte of a digit.
 fn digit_byte(d: u64) -> u8
@@ -48,7 +58,7 @@ pub fn put_bytes(s: &[u8], out: &mut [u8], at: usize) -> usize
 // The digits of n to the base, at most f of them, from place `at` on as far as there is room; the place after them.
 pub fn put_number(n: u64, base: u64, f: usize, out: &mut [u8], at: usize) -> usize
     requires { ⌜ (0 < base) × (base ≤ 16) × (at + f < 2 ^ 64) ⌝ }
-    ensures { λ r. ⌜ (r ≡ at + length (printed base f n)) × (now (out .exit) ≡ sets (now (out .entry)) at (printed base f n)) ⌝ }
+    ensures { λ r. ⌜ (r ≡ at + length (numeralText base f n)) × (now (out .exit) ≡ sets (now (out .entry)) at (numeralText base f n)) ⌝ }
 {
     if f == 0 {
         return at;

@@ -1,6 +1,6 @@
 -- The reply to a problem's file, and what the two lent buffers hold at exit.
---   seenRead g t x          == what the code's answer x says of a file, the forms handed in standing at the start of g and t
---   reply a                 == the code's answer
+--   seenRead g t x              == what the code's answer x says of a file, the forms handed in standing at the start of g and t
+--   problemReply a              == the code's answer
 --   generatorsOf, targetsOf a d == the buffer d after it: all 0 where the reading is refused, else the forms handed in from the start and the
 --     rest as it was; a kind other than list hands in none, and d is as it was
 -- Assumes nothing.
@@ -18,9 +18,9 @@ abbrev pub seenRead : List ℕ → List ℕ → ProblemRead → Answer ProblemFi
 seenRead g t (read.Refused e) = refused e
 seenRead g t (read.Problem kd p q r k) = accepted (problemOf kd p q r k (take (handed kd q) g) (take (handed kd r) t))
 
-abbrev pub reply : Answer ProblemFile → ProblemRead
-reply (refused e) = read.Refused e
-reply (accepted P) = read.Problem (P .kind) (P .p) (P .q) (P .r) (P .k)
+abbrev pub problemReply : Answer ProblemFile → ProblemRead
+problemReply (refused e) = read.Refused e
+problemReply (accepted P) = read.Problem (P .kind) (P .p) (P .q) (P .r) (P .k)
 
 abbrev pub generatorsOf : Answer ProblemFile → List ℕ → List ℕ
 generatorsOf (refused e) d = zeros d

@@ -3,37 +3,25 @@ ghost use mathlib.Core.Path.{_≡_};
 ghost use mathlib.Core.List.{[]};
 ghost use Prim.Native.Nat.{_≤_};
 ghost use lib.ListN.{length, take};
-ghost use Rattle.formula_files.specs.Outcome.{isList};
 ghost use Rattle.problems.specs.Replies.{refusedBy};
-ghost use Rattle.problem_files.specs.handed_forms.ProblemLines.{handed, listLines, mapLines, bodyOf, Ready};
+ghost use Rattle.problem_files.specs.handed_forms.ProblemLines.{handed, listLines, mapLines, bodyOf, FormRoom};
+ghost use Rattle.kinds.specs.Limits.{mostGenerators};
 use kinds::Kind;
 use maps::Count;
-
-fn is_list(kind: Kind) -> bool
-    ensures { λ r. ⌜ r ≡ isList kind ⌝ }
-{
-    match kind {
-        Kind::Poly => false,
-        Kind::Short => false,
-        Kind::Circ => false,
-        Kind::Mat => false,
-        Kind::List => true,
-    }
-}
 
 // How many forms are handed in, where a list hands in c.
 pub fn handed(kind: Kind, c: u64) -> u64
     ensures { λ r. ⌜ r ≡ handed kind c ⌝ }
 {
-    if is_list(kind) { c } else { 0 }
+    if formula_files::is_list(kind) { c } else { 0 }
 }
 
 // The lines of a list: refusal 4 or 5, or 0 and the forms from the start of g and t.
 fn list_lines(q: u64, r: u64, s: &[u8], g: &mut [u64], t: &mut [u64]) -> u64
-    requires { ⌜ (4095 ≤ length (now g)) × (r ≤ length (now t)) ⌝ }
+    requires { ⌜ (mostGenerators ≤ length (now g)) × (r ≤ length (now t)) ⌝ }
     ensures { λ e. ⌜ listLines q r (now (s .entry)) ≡ refusedBy e (take q (now (g .exit)), take r (now (t .exit))) ⌝ }
 {
-    if q > 4095 {
+    if q > kinds::GENERATORS as u64 {
         return 4;
     }
     if super::list_lines::read_list(s, q as usize, r as usize, g, t) {
@@ -66,10 +54,10 @@ pub fn read_lines(
     g: &mut [u64],
     t: &mut [u64],
 ) -> u64
-    requires { ⌜ Ready kind r (now g) (now t) ⌝ }
+    requires { ⌜ FormRoom kind r (now g) (now t) ⌝ }
     ensures { λ e. ⌜ bodyOf kind q r n m (now (s .entry)) ≡ refusedBy e (take (handed kind q) (now (g .exit)), take (handed kind r) (now (t .exit))) ⌝ }
 {
-    if is_list(kind) {
+    if formula_files::is_list(kind) {
         return list_lines(q, r, s, g, t);
     }
     map_lines(n, m, s)

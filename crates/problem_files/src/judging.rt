@@ -1,6 +1,6 @@
 // The forms that a problem's file hands in, judged: refusals 6 to 9.
 ghost use mathlib.Core.Path.{_≡_};
-ghost use Rattle.problem_files.specs.judging.Judged.{beyond, judged, seenProblem, Settled};
+ghost use Rattle.problem_files.specs.judging.Judged.{beyond, problemJudged, seenProblem, Settled};
 use kinds::Kind;
 use problems::Posed;
 
@@ -26,7 +26,7 @@ pub enum ProblemRead {
     Problem(Kind, u64, u64, u64, u64),
 }
 
-// A problem with those targets: refusal 8, or 9 where buffers of u and v words are too short, or the problem.
+// A problem with those targets: refusal 8, or 9 where buffers of `first` and `second` words are too short, or the problem.
 fn settle(
     purpose: Purpose,
     kind: Kind,
@@ -34,19 +34,19 @@ fn settle(
     q: u64,
     r: u64,
     k: u64,
-    u: usize,
-    v: usize,
+    first: usize,
+    second: usize,
     targets: &[u64],
 ) -> ProblemRead
-    ensures { λ x. ⌜ Settled purpose kind p q r k u v (now (targets .entry)) x ⌝ }
+    ensures { λ x. ⌜ Settled purpose kind p q r k first second (now (targets .entry)) x ⌝ }
 {
     if beyond(purpose, k, targets) {
         return ProblemRead::Refused(8);
     }
-    if (u as u64) < super::handed_forms::handed(kind, q) {
+    if (first as u64) < super::handed_forms::handed(kind, q) {
         return ProblemRead::Refused(9);
     }
-    if (v as u64) < super::handed_forms::handed(kind, r) {
+    if (second as u64) < super::handed_forms::handed(kind, r) {
         return ProblemRead::Refused(9);
     }
     ProblemRead::Problem(kind, p, q, r, k)
@@ -60,15 +60,15 @@ pub fn judge(
     q: u64,
     r: u64,
     k: u64,
-    u: usize,
-    v: usize,
+    first: usize,
+    second: usize,
     gs: &[u64],
     ts: &[u64],
 ) -> ProblemRead
-    ensures { λ x. ⌜ judged purpose kind p q r k u v (now (gs .entry)) (now (ts .entry)) ≡ seenProblem (now (gs .entry)) (now (ts .entry)) x ⌝ }
+    ensures { λ x. ⌜ problemJudged purpose kind p q r k first second (now (gs .entry)) (now (ts .entry)) ≡ seenProblem (now (gs .entry)) (now (ts .entry)) x ⌝ }
 {
-    let mut g = [0u64; 4095];
-    let mut t = [0u64; 64];
+    let mut g = [0u64; kinds::GENERATORS];
+    let mut t = [0u64; kinds::TARGETS];
     match problems::pose(
         kinds::number_of(kind),
         p,
@@ -81,6 +81,6 @@ pub fn judge(
         &mut t,
     ) {
         Posed::Refused(e) => ProblemRead::Refused(e),
-        Posed::Are(n, o) => settle(purpose, kind, p, q, r, k, u, v, &t[..o]),
+        Posed::Are(n, o) => settle(purpose, kind, p, q, r, k, first, second, &t[..o]),
     }
 }

@@ -22,10 +22,10 @@ fn role_line(s: &[u8], role: u8) -> FieldRead
     if s[1] != 44 {
         return FieldRead::No;
     }
-    let FieldRead::Is(x, u) = text::field_at(&s[2..], 10, 16, 16) else {
+    let FieldRead::Is(x, used) = text::field_at(&s[2..], 10, 16, 16) else {
         return FieldRead::No;
     };
-    FieldRead::Is(x, 2 + u)
+    FieldRead::Is(x, 2 + used)
 }
 
 // n lines of that role at the front of s, their forms from the start of d.
@@ -36,11 +36,11 @@ fn read_roles(s: &[u8], role: u8, n: usize, d: &mut [u64]) -> Used
     let mut i: usize = 0;
     let mut at: usize = 0;
     while i < n {
-        let FieldRead::Is(x, u) = role_line(&s[at..], role) else {
+        let FieldRead::Is(x, used) = role_line(&s[at..], role) else {
             return Used::No;
         };
         d[i] = x;
-        at += u;
+        at += used;
         i += 1;
     }
     Used::Is(at)
@@ -52,13 +52,13 @@ pub fn read_list(s: &[u8], q: usize, r: usize, g: &mut [u64], t: &mut [u64]) -> 
     requires { ⌜ (q ≤ length (now g)) × (r ≤ length (now t)) ⌝ }
     ensures { λ x. ⌜ listBody q r (now (s .entry)) ≡ given x (take q (now (g .exit)), take r (now (t .exit))) ⌝ }
 {
-    let Used::Is(u) = text::name_line(s, b"role,form") else {
+    let Used::Is(used) = text::name_line(s, b"role,form") else {
         return false;
     };
-    let Used::Is(v) = read_roles(&s[u..], 103, q, g) else {
+    let Used::Is(v) = read_roles(&s[used..], 103, q, g) else {
         return false;
     };
-    let e = u + v;
+    let e = used + v;
     let Used::Is(w) = read_roles(&s[e..], 116, r, t) else {
         return false;
     };

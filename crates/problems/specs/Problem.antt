@@ -1,11 +1,11 @@
 -- A problem handed in as numbers and lists: what it is, and by which number of document 01's list it is refused.
---   Problem                       == the generators' forms and the target forms, each in order
---   problem gs ts                 == the problem with those
---   targetForms kd p q r n m u    == the target forms of a map with u outputs, in order
---   listed p q r gs ts others     == a list of p bits: refusals 4 to 7, then the forms handed in
---   mapped kd .. gs ts others     == a map in n and m variables with u outputs: refusals 4 to 6, then its generators and targets
+--   Problem                         == the generators' forms and the target forms, each in order
+--   problem gs ts                   == the problem with those
+--   targetForms kd p q r n m u      == the target forms of a map with u outputs, in order
+--   listed p q r gs ts others       == a list of p bits: refusals 4 to 7, then the forms handed in
+--   mapped kd .. gs ts others       == a map in n and m variables with u outputs: refusals 4 to 6, then its generators and targets
 --   posed number p q r gs ts others == the problem of the kind with that number: refusals 2 to 7, or what it is
--- `repeats` and `unlike`: crate lists. gs and ts are handed in for list only; `others` are further forms of the same call (the rows of a space, a form asked for).
+-- `repeats` and `unlike`: words, lists. gs and ts are handed in for list only; `others` are further forms of the same call (the rows of a space, a form asked for).
 -- Theorems: posed-few, posed-map, posed-list (Theorems). Assumes nothing.
 use mathlib.Core.Bool.{_||_}
 use mathlib.Core.List.{List}
@@ -20,6 +20,7 @@ use Rattle.words.specs.Masks.{wide, zeroIn}
 use Rattle.words.specs.lists.Lists.{repeats, unlike}
 use Rattle.maps.specs.Target.{targetForm}
 use Rattle.maps.specs.Generators.{listOf, generatorForms, countOf}
+use Rattle.kinds.specs.Limits.{mostGenerators}
 
 -- "A menu is a list of forms, numbered from 0. The targets are the forms to be computed."
 pub record Problem : Type 0 where
@@ -35,7 +36,7 @@ targetForms kd p q r n m u = listOf (targetForm kd p q r n m) 0 u
 -- refusal 4: "has more than 4,095 forms"; refusal 6: "A form, factor or row has a bit outside its width"
 unfoldable pub listed : (p q r : ℕ) (gs ts others : List ℕ) → Answer Problem
 listed p q r gs ts others =
-    refuse 4 (ltb 4095 q)
+    refuse 4 (ltb mostGenerators q)
     (refuse 5 (unlike q r gs ts)
     (refuse 6 (wide p gs || (wide p ts || wide p others))
     (refuse 7 (zeroIn gs || repeats gs)

@@ -16,15 +16,17 @@ use native.Mathlib.Omega.{arith}
 use lib.ListN.{length, getD}
 use Rattle.kinds.specs.Kinds.{kindNumbered}
 use Rattle.kinds.specs.Sizes.{sizes}
-use Rattle.kinds.specs.SizeLaws.{sizes-bounds}
+use Rattle.kinds.specs.laws.Sizes.{sizes-bounds}
 use Rattle.kinds.specs.Refusal.{accepted}
 use Rattle.kinds.specs.declared.Kind.{Kind}
 use Rattle.kinds.specs.declared.Kind.the-variants as kind
 use Rattle.maps.specs.Target.{targetForm}
 use Rattle.maps.specs.Generators.{length-listOf, at-listOf, forms-length}
 use Rattle.problems.specs.Problem.{Problem, targetForms, listed, mapped, sorted, posed}
-use Rattle.problems.specs.laws.Taken.{ListTaken, listed-taken, MapTaken, mapped-taken, posed-kind}
+use Rattle.problems.specs.Taken.{ListTaken, MapTaken}
+use Rattle.problems.specs.laws.Taken.{listed-taken, mapped-taken, posed-kind}
 use Rattle.problems.specs.laws.Laying.{sorted-map, list-targets}
+use Rattle.kinds.specs.Limits.{mostGenerators, mostTargets}
 
 module _ (kd : Kind) (p q r n m u : ℕ) where
   pub targets-length : length (targetForms kd p q r n m u) ≡ u
@@ -36,9 +38,9 @@ module _ (kd : Kind) (p q r n m u : ℕ) where
   targets-at t h = at-listOf (targetForm kd p q r n m) 0 u t h ∙ ap (targetForm kd p q r n m) (zero-add t)
 
 pub record Few (P : Problem) : Type 0 where
-  pub generators : length (P .generators) ≤ 4095
+  pub generators : length (P .generators) ≤ mostGenerators
   pub some-target : 1 ≤ length (P .targets)
-  pub targets : length (P .targets) ≤ 64
+  pub targets : length (P .targets) ≤ mostTargets
 
 pub record IsMap (kd : Kind) (p q r : ℕ) (gs ts others : List ℕ) (P : Problem) : Type 0 where
   pub n : ℕ

@@ -2,3 +2,4 @@
 pub mod Refusals
 pub mod Taken
 pub mod Laying
+pub mod Handed

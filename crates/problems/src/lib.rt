@@ -1,10 +1,13 @@
-// A problem handed in as numbers and slices: refusals 2 to 7, then its generators and targets in lent buffers.
+// A problem on numbers: refusals 2 to 7, then its generators and targets in lent buffers, in the same way for a list and for a map.
+// targets    how many targets a problem has, and their dimension
+// What is asked of a problem: `selections`, `catalogue`, `rank`, `space_formulae`. Reading one from a file: `problem_files`.
 ghost use mathlib.Core.Path.{_≡_};
 ghost use Prim.Native.Nat.{_≤_};
 ghost use lib.ListN.{length};
 ghost use Rattle.maps.specs.form_lists.Fills.{Mapping};
 ghost use Rattle.problems.specs.Problem.{listed, mapped, posed};
-ghost use Rattle.problems.specs.Replies.{Laid, Asked};
+ghost use Rattle.problems.specs.Replies.{Laid, PoseAsked};
+ghost use Rattle.kinds.specs.Limits.{mostGenerators, mostTargets};
 use kinds::Kind;
 use kinds::Known;
 use kinds::Sized;
@@ -29,7 +32,7 @@ fn pose_list(
     g: &mut [u64],
     t: &mut [u64],
 ) -> Posed
-    requires { ⌜ Asked r (now g) (now t) ⌝ }
+    requires { ⌜ PoseAsked r (now g) (now t) ⌝ }
     ensures { λ x. ⌜ Laid (listed p q r (now (gs .entry)) (now (ts .entry)) (now (others .entry))) x (now (g .exit)) (now (t .exit)) ⌝ }
 {
     let e = words::lists::list_refusal(p, q, r, gs, ts, others);
@@ -56,7 +59,7 @@ fn pose_map(
     g: &mut [u64],
     t: &mut [u64],
 ) -> Posed
-    requires { ⌜ (4095 ≤ length (now g)) × Mapping kind p q r n m u (now t) ⌝ }
+    requires { ⌜ (mostGenerators ≤ length (now g)) × Mapping kind p q r n m u (now t) ⌝ }
     ensures { λ x. ⌜ Laid (mapped kind p q r n m u (now (gs .entry)) (now (ts .entry)) (now (others .entry))) x (now (g .exit)) (now (t .exit)) ⌝ }
 {
     let Count::Is(c) = maps::generator_count(n, m) else {
@@ -84,7 +87,7 @@ pub fn pose(
     g: &mut [u64],
     t: &mut [u64],
 ) -> Posed
-    requires { ⌜ (4095 ≤ length (now g)) × (64 ≤ length (now t)) ⌝ }
+    requires { ⌜ (mostGenerators ≤ length (now g)) × (mostTargets ≤ length (now t)) ⌝ }
     ensures { λ x. ⌜ Laid (posed number p q r (now (gs .entry)) (now (ts .entry)) (now (others .entry))) x (now (g .exit)) (now (t .exit)) ⌝ }
 {
     let Known::Is(kind) = kinds::kind_numbered(number) else {

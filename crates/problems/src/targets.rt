@@ -21,8 +21,8 @@ pub fn targets_of(
 ) -> Targets
     ensures { λ x. ⌜ Measures (posed number p q r (now (gs .entry)) (now (ts .entry)) (now (others .entry))) x ⌝ }
 {
-    let mut g = [0u64; 4095];
-    let mut t = [0u64; 64];
+    let mut g = [0u64; kinds::GENERATORS];
+    let mut t = [0u64; kinds::TARGETS];
     match super::pose(number, p, q, r, gs, ts, others, &mut g, &mut t) {
         Posed::Refused(e) => Targets::Refused(e),
         Posed::Are(n, u) => Targets::Are(u, bases::basis_of(&t[..u]).len),

@@ -1,9 +1,12 @@
 // What the Catalogue and Rank programs print of an input.
+// meaning    (specs) an accepted input is answered, and what the answer means. Start at Theorems.antt
+// Reading and writing is left to the programs, `bilinear_catalogue` and `bilinear_rank`.
 ghost use mathlib.Core.Path.{_≡_};
 ghost use Prim.Native.Nat.{_≤_};
 ghost use lib.ListN.{length, take};
 ghost use Rattle.problem_files.specs.judging.Judged.{problemOf};
 ghost use Rattle.programs.specs.Programs.{replyTo, problemProgram, catalogueProgram, rankProgram};
+ghost use Rattle.printing.specs.refusals.Pages.{replyPage};
 use kinds::Kind;
 use problem_files::judging::ProblemRead;
 use problem_files::judging::Purpose;
@@ -20,8 +23,8 @@ fn reply(
     ts: &[u64],
     page: &mut [u8],
 ) -> usize
-    requires { ⌜ length (now page) ≡ 196608 ⌝ }
-    ensures { λ e. ⌜ (take e (now (page .exit)) ≡ replyTo purpose (problemOf kind p q r k (now (gs .entry)) (now (ts .entry)))) × (e ≤ 196608) ⌝ }
+    requires { ⌜ length (now page) ≡ replyPage ⌝ }
+    ensures { λ e. ⌜ (take e (now (page .exit)) ≡ replyTo purpose (problemOf kind p q r k (now (gs .entry)) (now (ts .entry)))) × (e ≤ replyPage) ⌝ }
 {
     match purpose {
         Purpose::Catalogue => catalogue_text::catalogue_reply(kind, p, q, r, k, gs, ts, page),
@@ -31,11 +34,11 @@ fn reply(
 
 // What is printed of an input, likewise.
 fn problem_program(purpose: Purpose, file: &[u8], page: &mut [u8]) -> usize
-    requires { ⌜ length (now page) ≡ 196608 ⌝ }
-    ensures { λ e. ⌜ (take e (now (page .exit)) ≡ problemProgram purpose (now (file .entry))) × (e ≤ 196608) ⌝ }
+    requires { ⌜ length (now page) ≡ replyPage ⌝ }
+    ensures { λ e. ⌜ (take e (now (page .exit)) ≡ problemProgram purpose (now (file .entry))) × (e ≤ replyPage) ⌝ }
 {
-    let mut gs = [0u64; 4096];
-    let mut ts = [0u64; 4096];
+    let mut gs = [0u64; text::PROGRAM_WORDS];
+    let mut ts = [0u64; text::PROGRAM_WORDS];
     match problem_files::inputs::read_input(file, purpose, &mut gs, &mut ts) {
         ProblemRead::Refused(e) => printing::refusals::refused_page(e, page),
         ProblemRead::Problem(kind, p, q, r, k) => {
@@ -48,16 +51,16 @@ fn problem_program(purpose: Purpose, file: &[u8], page: &mut [u8]) -> usize
 
 // What the Catalogue program prints of an input, from the start of a page; its length.
 pub fn catalogue_program(file: &[u8], page: &mut [u8]) -> usize
-    requires { ⌜ length (now page) ≡ 196608 ⌝ }
-    ensures { λ e. ⌜ (take e (now (page .exit)) ≡ catalogueProgram (now (file .entry))) × (e ≤ 196608) ⌝ }
+    requires { ⌜ length (now page) ≡ replyPage ⌝ }
+    ensures { λ e. ⌜ (take e (now (page .exit)) ≡ catalogueProgram (now (file .entry))) × (e ≤ replyPage) ⌝ }
 {
     problem_program(Purpose::Catalogue, file, page)
 }
 
 // What the Rank program prints of an input, likewise.
 pub fn rank_program(file: &[u8], page: &mut [u8]) -> usize
-    requires { ⌜ length (now page) ≡ 196608 ⌝ }
-    ensures { λ e. ⌜ (take e (now (page .exit)) ≡ rankProgram (now (file .entry))) × (e ≤ 196608) ⌝ }
+    requires { ⌜ length (now page) ≡ replyPage ⌝ }
+    ensures { λ e. ⌜ (take e (now (page .exit)) ≡ rankProgram (now (file .entry))) × (e ≤ replyPage) ⌝ }
 {
     problem_program(Purpose::Rank, file, page)
 }

@@ -1,7 +1,7 @@
 -- Rank on numbers.
 --   rank ..          == refused by a number of document 01's list (2 to 9), or r with the buffer's content, above, or beyond
 --   rankNumbers r    == the refusal's number and the rank that an answer of the code stands for
--- What is written and said: `ranking` (crate fewest). What it means: `Theorems`. Assumes nothing.
+-- What is written and said: `ranking` (`fewest`). What it means: theorems, catalogue_and_rank. Assumes nothing.
 use mathlib.Core.Bool.{not}
 use mathlib.Core.List.{List, []}
 use Prim.Native.Nat.{ℕ}

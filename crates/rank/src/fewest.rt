@@ -2,8 +2,8 @@
 ghost use mathlib.Core.Path.{_≡_};
 ghost use Prim.Native.Nat.{_≤_};
 ghost use lib.ListN.{length};
-ghost use Rattle.rank.specs.fewest.Fewest.{Ranking, ranking, seenRanked, lentRanking};
-ghost use Rattle.rank.specs.fewest.laws.Least.{Asking, Found, Finishing};
+ghost use Rattle.rank.specs.fewest.Fewest.{Ranking, ranking, seenRanked, lentRanking, Asking, Found, Finishing};
+ghost use Rattle.kinds.specs.Limits.{mostGenerators};
 
 // What Rank says: refused by 9, a number of products, above or beyond.
 pub enum Ranked {
@@ -52,7 +52,7 @@ fn finish(gens: &[u64], targets: &[u64], w: &[u64], out: &mut [u64]) -> Ranked
 
 // The fewest generators that compute the targets, with the formula in `out`.
 pub fn rank_of(gens: &[u64], targets: &[u64], out: &mut [u64]) -> Ranked
-    requires { ⌜ length (now gens) ≤ 4095 ⌝ }
+    requires { ⌜ length (now gens) ≤ mostGenerators ⌝ }
     ensures { λ r. ⌜ (ranking (now (gens .entry)) (now (targets .entry)) (now (out .entry)) ≡ seenRanked r (now (out .exit))) × (now (out .exit) ≡ lentRanking (ranking (now (gens .entry)) (now (targets .entry)) (now (out .entry))) (now (out .entry))) ⌝ }
 {
     let all = bases::basis_of(gens);

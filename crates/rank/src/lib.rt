@@ -1,4 +1,6 @@
-// Rank on numbers.
+// Rank on numbers: refusals 2 to 8, the fewest products, and the first formula with so many.
+// fewest     the same where the problem is made
+// What it means beside Catalogue: `theorems`. The reply as text: `rank_text`.
 ghost use mathlib.Core.Path.{_≡_};
 ghost use Rattle.rank.specs.Rank.{rank};
 ghost use Rattle.rank.specs.fewest.Fewest.{seenRanked, lentRanking};
@@ -20,8 +22,8 @@ pub fn rank(
 ) -> Ranked
     ensures { λ x. ⌜ (rank number p q r k (now (gs .entry)) (now (ts .entry)) (now (out .entry)) ≡ seenRanked x (now (out .exit))) × (now (out .exit) ≡ lentRanking (rank number p q r k (now (gs .entry)) (now (ts .entry)) (now (out .entry))) (now (out .entry))) ⌝ }
 {
-    let mut g = [0u64; 4095];
-    let mut t = [0u64; 64];
+    let mut g = [0u64; kinds::GENERATORS];
+    let mut t = [0u64; kinds::TARGETS];
     match problems::pose(number, p, q, r, gs, ts, &gs[..0], &mut g, &mut t) {
         Posed::Refused(e) => Ranked::Refused(e),
         Posed::Are(n, u) => {

@@ -1,4 +1,6 @@
-// A problem's Rank as text, on a page.
+// A problem's Rank as text on a page.
+// report     its lines, from the numbers
+// The program: `programs`.
 ghost use mathlib.Core.Path.{_≡_};
 ghost use mathlib.Core.List.{[]};
 ghost use Prim.Native.Nat.{_+_, _≤_};
@@ -9,6 +11,8 @@ ghost use Rattle.rank_text.specs.report.RankReports.{rankText};
 ghost use Rattle.problems.specs.Problem.{posed};
 ghost use Rattle.problems.specs.targets.Targets.{Measured};
 ghost use Rattle.rank_text.specs.RankAnswers.{rankReply};
+ghost use Rattle.text.specs.Limits.{programWords};
+ghost use Rattle.printing.specs.refusals.Pages.{replyPage};
 use kinds::Kind;
 use problems::targets::Targets;
 use rank::fewest::Ranked;
@@ -28,7 +32,7 @@ fn put_formula(
     formula: &[u64],
     page: &mut [u8],
 ) -> usize
-    requires { ⌜ (length (now formula) ≡ 4096) × (n + t ≤ 4096) ⌝ }
+    requires { ⌜ (length (now formula) ≡ programWords) × (n + t ≤ programWords) ⌝ }
     ensures { λ e. ⌜ Piece (now (page .entry)) 0 (rankText kind p q r k ell (take n (now (formula .entry))) (take t (drop n (now (formula .entry))))) 86188 (now (page .exit)) e ⌝ }
 {
     report::rank_text(
@@ -57,10 +61,10 @@ fn put_rank(
     ts: &[u64],
     page: &mut [u8],
 ) -> usize
-    requires { ⌜ (length (now page) ≡ 196608) × Measured (posed (numberOf kind) p q r (now gs) (now ts) []) t ell ⌝ }
-    ensures { λ e. ⌜ (take e (now (page .exit)) ≡ rankReply kind p q r k (now (gs .entry)) (now (ts .entry))) × (e ≤ 196608) ⌝ }
+    requires { ⌜ (length (now page) ≡ replyPage) × Measured (posed (numberOf kind) p q r (now gs) (now ts) []) t ell ⌝ }
+    ensures { λ e. ⌜ (take e (now (page .exit)) ≡ rankReply kind p q r k (now (gs .entry)) (now (ts .entry))) × (e ≤ replyPage) ⌝ }
 {
-    let mut formula = [0u64; 4096];
+    let mut formula = [0u64; text::PROGRAM_WORDS];
     let said = rank::rank(kinds::number_of(kind), p, q, r, k, gs, ts, &mut formula);
     match said {
         Ranked::Refused(e) => printing::refusals::refused_page(e, page),
@@ -81,8 +85,8 @@ pub fn rank_reply(
     ts: &[u64],
     page: &mut [u8],
 ) -> usize
-    requires { ⌜ length (now page) ≡ 196608 ⌝ }
-    ensures { λ e. ⌜ (take e (now (page .exit)) ≡ rankReply kind p q r k (now (gs .entry)) (now (ts .entry))) × (e ≤ 196608) ⌝ }
+    requires { ⌜ length (now page) ≡ replyPage ⌝ }
+    ensures { λ e. ⌜ (take e (now (page .exit)) ≡ rankReply kind p q r k (now (gs .entry)) (now (ts .entry))) × (e ≤ replyPage) ⌝ }
 {
     match problems::targets::targets_of(kinds::number_of(kind), p, q, r, gs, ts, &gs[..0]) {
         Targets::Refused(e) => printing::refusals::refused_page(e, page),

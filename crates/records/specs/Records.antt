@@ -1,5 +1,5 @@
 -- Records written one after the other into a buffer, as many as fit, and counted up to a limit.
---   State         == how many were found, how many of them shown (written), the first free place, and the buffer
+--   State          == how many were found, how many of them shown (written), the first free place, and the buffer
 --   note limit s r == the state after the record r: nothing happens where the limit is reached; else it is counted, and written where it fits
 --   run limit s rs == the state after all of rs
 --   Sane limit s   == found is at most the limit, shown at most found, and the free place is in the buffer or at its end

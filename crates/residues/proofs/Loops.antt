@@ -19,17 +19,18 @@ use Rattle.bases.specs.Basis.{rowsOf, Valid, Holds}
 use Rattle.bases.specs.declared.Basis.{Basis}
 use Rattle.residues.specs.children.Residues.{withResidue}
 use Rattle.residues.specs.Mapped.{Mapped}
+use Rattle.residues.specs.Room.{searchRoom}
 
 pub record Mapping (f : ℕ → ℕ) (h : List ℕ) (out : List ℕ) (i : ℕ) : Type 0 where
   pub within : i ≤ length h
-  pub whole : length out ≡ 4096
+  pub whole : length out ≡ searchRoom
   pub done : take i out ≡ map f (take i h)
 
 map-snoc : (f : ℕ → ℕ) (l : List ℕ) (y : ℕ) → map f (l ++ y ∷ []) ≡ map f l ++ f y ∷ []
 map-snoc f [] y = refl
 map-snoc f (x ∷ l) y = ap {B = List ℕ} (λ r. f x ∷ r) (map-snoc f l y)
 
-pub mapping-next : (f : ℕ → ℕ) (h : List ℕ) (out : List ℕ) (i : ℕ) → length h ≤ 4096 → Mapping f h out i → i < length h → (y : ℕ) → y ≡ f (getD h i 0)
+pub mapping-next : (f : ℕ → ℕ) (h : List ℕ) (out : List ℕ) (i : ℕ) → length h ≤ searchRoom → Mapping f h out i → i < length h → (y : ℕ) → y ≡ f (getD h i 0)
     → Mapping f h (set out i y) (i + 1)
 mapping-next f h out i b C l y e =
     record {

@@ -1,4 +1,5 @@
 -- Residues of the generators.
+pub mod Room
 pub mod Mapped
 pub mod Taking
 pub mod laws

@@ -1,5 +1,6 @@
-// The residues of the generators at a space: what is left of each when the leads of the space's basis are cleared in it. The residue is 0
-// exactly for a generator in the space.
+// The residues of the generators at a space, what is left of each when the leads of the space's basis are cleared in it: at a space, at its child, those
+// with one residue, whether a number is known already, whether generators span the space. A residue is 0 exactly for a generator in the space.
+// children   (specs) the spaces over a space, what a search for them gives, and when a child leads nowhere: the theory behind `weights` and `sieve`
 use bases::Basis;
 ghost use mathlib.Core.Path.{_≡_};
 ghost use Prim.Native.Nat.{_<_, _≤_};
@@ -11,10 +12,14 @@ ghost use Rattle.bases.specs.Basis.{rowsOf, Valid, Holds};
 ghost use Rattle.residues.specs.children.Residues.{known, withResidue};
 ghost use Rattle.residues.specs.Mapped.{Mapped};
 ghost use Rattle.residues.specs.Taking.{Took};
+ghost use Rattle.residues.specs.Room.{searchRoom};
+
+// The arrays of the search have a place for each generator's number (`searchRoom`).
+pub const SEARCH_ROOM: usize = 4096;
 
 // The residues of the generators for the basis `b`.
-pub fn residues(gens: &[u64], b: Basis, out: &mut [u64; 4096])
-    requires { ⌜ (Valid b) × (length (now gens) ≤ 4096) × (length (now out) ≡ 4096) ⌝ }
+pub fn residues(gens: &[u64], b: Basis, out: &mut [u64; SEARCH_ROOM])
+    requires { ⌜ (Valid b) × (length (now gens) ≤ searchRoom) × (length (now out) ≡ searchRoom) ⌝ }
     ensures { λ _. ⌜ Mapped (reduce word (rowsOf b)) (now (gens .entry)) (now (out .exit)) ⌝ }
 {
     let mut i = 0;
@@ -26,7 +31,7 @@ pub fn residues(gens: &[u64], b: Basis, out: &mut [u64; 4096])
 
 // The residues after a new row, `x`, from those before.
 pub fn child(h: &[u64], x: u64, out: &mut [u64])
-    requires { ⌜ (length (now h) ≤ 4096) × (length (now out) ≡ 4096) ⌝ }
+    requires { ⌜ (length (now h) ≤ searchRoom) × (length (now out) ≡ searchRoom) ⌝ }
     ensures { λ _. ⌜ Mapped (clear word x) (now (h .entry)) (now (out .exit)) ⌝ }
 {
     let mut i = 0;

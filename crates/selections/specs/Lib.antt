@@ -1,5 +1,4 @@
 -- Questions on a selection of generators.
 pub mod Selections
 pub mod Theorems
-pub mod laws
 pub mod on_forms

@@ -1,7 +1,7 @@
 -- Two questions on a selection of generator numbers, for a problem handed in.
 --   isSum ..       == is a form a sum of the selected generators; refusals 2 to 7, then 11
 --   isRedundant .. == do the selected generators but j still span the targets (document 01: is j spare); refusals 2 to 7, then 11
--- The two questions are in crate selected. What the answers mean is in `Theorems`. Assumes nothing.
+-- The two questions are in `on_forms`. What the answers mean is in `Theorems`. Assumes nothing.
 use mathlib.Core.Bool.{Bool}
 use mathlib.Core.List.{List, [], _∷_}
 use Prim.Native.Nat.{ℕ}

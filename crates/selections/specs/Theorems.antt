@@ -1,5 +1,5 @@
 -- What the answers on a selection mean, in words of sums. To be read from top to bottom.
---   Fits            == each selected number is one of a generator, and none stands twice
+--   SelectionFits            == each selected number is one of a generator, and none stands twice
 --   sum-means       yes exactly if the form is a sum of selected generators
 --   redundant-means yes exactly if each target is a sum of the selected generators other than j; and all of them span the targets, and j is one of them
 -- Assumes nothing.
@@ -12,7 +12,7 @@ use lib.ListN.{length}
 use lib.Dec.{eqb, ltb}
 use borrow.Author.Tests.{eqb-true, not-true, not-false}
 use Rattle.kinds.specs.Refusal.{accepted, refuse}
-use Rattle.kinds.specs.RefusalLaws.{accepted-inj, follow-inv, refuse-inv, neither}
+use Rattle.kinds.specs.laws.Refusal.{accepted-inj, follow-inv, refuse-inv, neither}
 use Rattle.problems.specs.Problem.{Problem, posed}
 use Rattle.words.specs.lists.Lists.{repeats}
 use Rattle.linear.specs.Span.{Span}
@@ -28,7 +28,7 @@ use Rattle.selections.specs.on_forms.Selected.{misfit, without, missedBy
 use Rattle.selections.specs.on_forms.laws.Spanning.{misfit-below}
 use Rattle.selections.specs.Selections.{isSum, isRedundant}
 
-pub record Fits (n : ℕ) (sel : List ℕ) : Type 0 where
+pub record SelectionFits (n : ℕ) (sel : List ℕ) : Type 0 where
   pub numbers : (e : ℕ) → List·Memᴰ e sel → e < n
   pub once : repeats sel ≡ false
 
@@ -42,17 +42,19 @@ in-span xs v = (
 pub not-missed : (gens targets sel : List ℕ) → (missedBy gens targets sel ≡ false) ↔ Computes word targets (chosen word gens sel)
 unfolding missedBy
 not-missed gens targets sel = (
-  λ e t m. in-span (chosen word gens sel) t .0 (not-false (inside word (basisOf word (chosen word gens sel)) t) (anyOf-no (λ t. not (inside word (basisOf word (chosen word gens sel)) t)) targets e t m)),
-  λ h. no-anyOf (λ t. not (inside word (basisOf word (chosen word gens sel)) t)) targets (λ t m. ap not (in-span (chosen word gens sel) t .1 (h t m))),
+  λ e t m. in-span (chosen word gens sel) t .0
+      (not-false (inside word (basisOf word (chosen word gens sel)) t) (anyOf-no (λ t. not (inside word (basisOf word (chosen word gens sel)) t)) targets e t m)),
+  λ h. no-anyOf (λ t. not (inside word (basisOf word (chosen word gens sel)) t)) targets
+      (λ t m. ap not (in-span (chosen word gens sel) t .1 (h t m))),
 )
 
-pub fits : (n : ℕ) (sel : List ℕ) → misfit n sel ≡ false → Fits n sel
+pub selection-fits : (n : ℕ) (sel : List ℕ) → misfit n sel ≡ false → SelectionFits n sel
 unfolding misfit
-fits n sel e = record { numbers = misfit-below n sel e; once = neither (anyOf (λ e. not (ltb e n)) sel) (repeats sel) e .1 }
+selection-fits n sel e = record { numbers = misfit-below n sel e; once = neither (anyOf (λ e. not (ltb e n)) sel) (repeats sel) e .1 }
 
 -- ---- the two answers
 pub record SumMeans (x : Problem) (sel : List ℕ) (form : ℕ) (b : Bool) : Type 0 where
-  pub fits : Fits (length (x .generators)) sel
+  pub fits : SelectionFits (length (x .generators)) sel
   pub exactly : (b ≡ true) ↔ Span word (chosen word (x .generators) sel) form
 
 pub sum-means : (number p q r : ℕ) (gs ts sel : List ℕ) (form : ℕ) (b : Bool) → isSum number p q r gs ts sel form ≡ accepted b
@@ -60,12 +62,24 @@ pub sum-means : (number p q r : ℕ) (gs ts sel : List ℕ) (form : ℕ) (b : Bo
 unfolding isSum sumAnswer
 sum-means number p q r gs ts sel form b e =
     let i = follow-inv (posed number p q r gs ts (form ∷ [])) (λ x. sumAnswer x sel form) b e in
-    let j = refuse-inv 11 (misfit (length (i .0 .generators)) sel) (accepted (inside word (basisOf word (chosen word (i .0 .generators) sel)) form)) b (i .2) in
-    let q : inside word (basisOf word (chosen word (i .0 .generators) sel)) form ≡ b = accepted-inj (inside word (basisOf word (chosen word (i .0 .generators) sel)) form) b (j .1) in
-    (i .0, i .1, record { fits = fits (length (i .0 .generators)) sel (j .0); exactly = (λ t. in-span (chosen word (i .0 .generators) sel) form .0 (q ∙ t), λ s. sym q ∙ in-span (chosen word (i .0 .generators) sel) form .1 s) })
+    let j = refuse-inv 11 (misfit (length (i .0 .generators)) sel) (accepted (inside word (basisOf word (chosen word (i .0 .generators) sel)) form)) b
+    (i .2) in
+    let q : inside word (basisOf word (chosen word (i .0 .generators) sel)) form ≡ b = accepted-inj
+    (inside word (basisOf word (chosen word (i .0 .generators) sel)) form) b (j .1) in (
+      i .0,
+      i .1,
+      record {
+        fits = selection-fits (length (i .0 .generators)) sel (j .0);
+        exactly = (
+          λ t. in-span (chosen word (i .0 .generators) sel) form .0 (q ∙ t),
+          λ s. sym q ∙ in-span (chosen word (i .0 .generators) sel)
+              form .1 s,
+        );
+      },
+    )
 
 pub record RedundantMeans (x : Problem) (sel : List ℕ) (j : ℕ) (b : Bool) : Type 0 where
-  pub fits : Fits (length (x .generators)) sel
+  pub fits : SelectionFits (length (x .generators)) sel
   pub spans : Computes word (x .targets) (chosen word (x .generators) sel)
   pub selected : List·Memᴰ j sel
   pub exactly : (b ≡ true) ↔ Computes word (x .targets) (chosen word (x .generators) (without j sel))
@@ -88,7 +102,7 @@ redundant-means number p q r gs ts sel j b e =
       i .0,
       i .1,
       record {
-        fits = fits (length G) sel (a .0);
+        fits = selection-fits (length G) sel (a .0);
         spans = not-missed G T sel .0 (c .0);
         selected = member j sel (not-false (anyOf (eqb j) sel) (d .0));
         exactly = (λ t. not-missed G T (without j sel) .0 (not-true (missedBy G T (without j sel)) (q ∙ t)), λ h. sym q ∙ ap not (not-missed G T (without j sel) .1 h));

@@ -1,4 +1,5 @@
-// Questions on a selection of generators: is a form a sum of them, and is one of them redundant. The problem is handed in.
+// Two questions on a selection of a problem's generators, on numbers: is a form a sum of them, is one of them redundant. Refusals 2 to 7 and 11.
+// on_forms   the same where the problem is made
 ghost use mathlib.Core.Path.{_≡_};
 ghost use Rattle.selections.specs.on_forms.Selected.{seenSaid};
 ghost use Rattle.selections.specs.Selections.{isSum, isRedundant};
@@ -20,8 +21,8 @@ pub fn is_sum(
 ) -> Said
     ensures { λ x. ⌜ isSum number p q r (now (gs .entry)) (now (ts .entry)) (now (sel .entry)) form ≡ seenSaid x ⌝ }
 {
-    let mut g = [0u64; 4095];
-    let mut t = [0u64; 64];
+    let mut g = [0u64; kinds::GENERATORS];
+    let mut t = [0u64; kinds::TARGETS];
     let one = [form];
     match problems::pose(number, p, q, r, gs, ts, &one, &mut g, &mut t) {
         Posed::Refused(e) => Said::Refused(e),
@@ -42,8 +43,8 @@ pub fn is_redundant(
 ) -> Said
     ensures { λ x. ⌜ isRedundant number p q r (now (gs .entry)) (now (ts .entry)) (now (sel .entry)) j ≡ seenSaid x ⌝ }
 {
-    let mut g = [0u64; 4095];
-    let mut t = [0u64; 64];
+    let mut g = [0u64; kinds::GENERATORS];
+    let mut t = [0u64; kinds::TARGETS];
     match problems::pose(number, p, q, r, gs, ts, &gs[..0], &mut g, &mut t) {
         Posed::Refused(e) => Said::Refused(e),
         Posed::Are(n, u) => on_forms::say_redundant(&g[..n], &t[..u], sel, j),

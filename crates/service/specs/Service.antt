@@ -1,7 +1,7 @@
 -- What the exported calls answer.
---   checkFile s        == of a byte string that holds a formula's file: a refusal's number, or what the Check program prints
+--   checkFile s               == of a byte string that holds a formula's file: a refusal's number, or what the Check program prints
 --   numbersReply, numbersLent == the reply of `gijpsando_check_numbers`, and the final content of its lent words
--- The reply of `gijpsando_check` and the second string's final content, `replyOf` and `bytesOf`, are in crate check_answers.
+-- The reply of `gijpsando_check` and the second string's final content, `replyOf` and `bytesOf`, are in crate check_text.
 -- Document 01: "one byte string holds a file as below, a second takes what the Check program would print, and the reply is the count of bytes
 -- written (always above 35) or a refusal's number. Too short a second string is refused by 9." Assumes nothing.
 use mathlib.Core.Bool.{cond}
@@ -17,6 +17,7 @@ use Rattle.formula_files.specs.Outcome.{Outcome, outcome}
 use Rattle.formula_files.specs.Outcome as file
 use Rattle.formula_check.specs.Formula.{check}
 use Rattle.check_text.specs.CheckAnswers.{replyText}
+use Rattle.kinds.specs.Limits.{mostProducts, mostTargets}
 
 -- the file is read, and the formula that it holds is checked
 abbrev pub checkRead : Outcome → Answer (List ℕ)
@@ -24,7 +25,7 @@ checkRead (file.refused e) = refused e
 checkRead (file.formula kd p q r k xs ys zs) = replyText kd p q r k (check (numberOf kd) p q r k xs ys zs)
 
 unfoldable pub checkFile : List ℕ → Answer (List ℕ)
-checkFile s = checkRead (outcome s 64 64 64)
+checkFile s = checkRead (outcome s mostProducts mostProducts mostTargets)
 
 -- ---- gijpsando_check_numbers, with the lent words d: verdict (0 right, 1 wrong), output, adders
 abbrev pub verdictWords : Option ℕ → ℕ → List ℕ

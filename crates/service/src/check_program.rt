@@ -9,7 +9,7 @@ pub fn check_program(file: &[u8], out: &mut [u8]) -> usize
     requires { ⌜ length (now out) ≡ 256 ⌝ }
     ensures { λ n. ⌜ (take n (now (out .exit)) ≡ programText (now (file .entry))) × (n ≤ 256) ⌝ }
 {
-    if 65536 < file.len() {
+    if text::FILE_BYTES < file.len() {
         return printing::fields::refused_text(1, out);
     }
     let n = super::gijpsando_check(file, out);

@@ -1,4 +1,5 @@
-// Check for callers in C: all refusals are made inside.
+// Check for callers in C: one call on a file's bytes, one on numbers. All refusals are made inside; include/gijpsando.h describes them.
+// check_program   what the Check program prints of an input
 ghost use mathlib.Core.Path.{_≡_};
 ghost use lib.ListN.{length};
 ghost use Rattle.formula_check.specs.Formula.{check};
@@ -19,9 +20,9 @@ pub mod check_program;
 pub extern "C" fn gijpsando_check(file: &[u8], out: &mut [u8]) -> usize
     ensures { λ x. ⌜ (x ≡ replyOf (checkFile (now (file .entry))) (now (out .entry))) × (now (out .exit) ≡ bytesOf (checkFile (now (file .entry))) (now (out .entry))) ⌝ }
 {
-    let mut a = [0u64; 64];
-    let mut b = [0u64; 64];
-    let mut rows = [0u64; 64];
+    let mut a = [0u64; kinds::PRODUCTS];
+    let mut b = [0u64; kinds::PRODUCTS];
+    let mut rows = [0u64; kinds::TARGETS];
     let got = formula_files::read_formula(file, &mut a, &mut b, &mut rows);
     match got {
         Read::Refused(e) => e as usize,

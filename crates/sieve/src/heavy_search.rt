@@ -13,7 +13,8 @@ ghost use Rattle.bases.specs.Basis.{Holds};
 ghost use Rattle.residues.specs.children.Residues.{withResidue};
 ghost use Rattle.residues.specs.children.Found.{Found, FoundBy, Finished};
 ghost use Rattle.residues.specs.children.Weighed.{Light};
-ghost use Rattle.sieve.specs.heavy_search.Find.{FirstNew, At, Closed, Pairing, Ready, Neared, Finding};
+ghost use Rattle.sieve.specs.heavy_search.Find.{FirstNew, At, Closed, Pairing, ChildBasis, Neared, Finding};
+ghost use Rattle.residues.specs.Room.{searchRoom};
 
 // The first number from `start` on that is new at `h` and not any more in the child of `d` by `x`; the number of generators where there is none.
 fn first_new(h: &[u64], d: &[u64], x: u64, start: usize) -> usize
@@ -36,7 +37,7 @@ fn first_new(h: &[u64], d: &[u64], x: u64, start: usize) -> usize
 
 // Marks the number that the walk goes on with to the child of `d` by `x`, unless it is known.
 fn finish(h: &[u64], d: &[u64], x: u64, start: usize, marks: &mut [u8])
-    requires { ⌜ (length (now h) ≡ length (now d)) × (start ≤ length (now h)) × (length (now h) ≤ 4096) × (length (now marks) ≡ 4096) ⌝ }
+    requires { ⌜ (length (now h) ≡ length (now d)) × (start ≤ length (now h)) × (length (now h) ≤ searchRoom) × (length (now marks) ≡ searchRoom) ⌝ }
     ensures { λ _. ⌜ Finished (now (h .entry)) (map (clear word x) (now (d .entry))) start (now (marks .entry)) (now (marks .exit)) ⌝ }
 {
     let j = first_new(h, d, x, start);
@@ -100,7 +101,7 @@ fn close(
     picks: &[u8],
     marks: &mut [u8],
 )
-    requires { ⌜ At (now gens) (now h) (now d) start s (now gone) (now marks) × (length (now picks) ≡ 4096) ⌝ }
+    requires { ⌜ At (now gens) (now h) (now d) start s (now gone) (now marks) × (length (now picks) ≡ searchRoom) ⌝ }
     ensures { λ _. ⌜ Closed (now (gens .entry)) (now (h .entry)) (now (d .entry)) start k (now (gone .entry)) (now (picks .entry))
         (now (marks .entry)) (now (marks .exit)) ⌝ }
 {
@@ -170,7 +171,7 @@ fn near(
     mine: &mut [u64],
     marks: &mut [u8],
 ) -> bool
-    requires { ⌜ Pairing (now gens) (now h) (now d) j start (now gone) (now slots) (now w) (now picks) (now mine) (now marks) × Ready (now gens)
+    requires { ⌜ Pairing (now gens) (now h) (now d) j start (now gone) (now slots) (now w) (now picks) (now mine) (now marks) × ChildBasis (now gens)
         (now d) j (now gone) t × (missing ≢ 0) ⌝ }
     ensures { λ r. ⌜ Neared (now (gens .entry)) (now (h .entry)) (now (d .entry)) j start k missing t (now (gone .entry)) (now (marks .entry))
         (now (mine .exit)) (now (marks .exit)) r ⌝ }
@@ -219,7 +220,7 @@ pub fn find(
     k: usize,
     missing: usize,
     s: Basis,
-    dead: [u8; 4096],
+    dead: [u8; residues::SEARCH_ROOM],
     rows: &mut [u64],
     marks: &mut [u8],
 )
@@ -227,8 +228,8 @@ pub fn find(
     ensures { λ _. ⌜ Found (now (gens .entry)) (now (h .entry)) (now (d .entry)) start k missing dead (now (marks .entry)) (now (marks .exit)) ⌝ }
 {
     let n = gens.len();
-    let mut slots = [0u16; 16384];
-    let mut w = [0u8; 4096];
+    let mut slots = [0u16; weights::SLOTS];
+    let mut w = [0u8; residues::SEARCH_ROOM];
     let basis = s.rows;
     let len = s.len;
     let top = weights::fill(
@@ -246,8 +247,8 @@ pub fn find(
         return;
     }
     let mut gone = dead;
-    let mut picks = [0u8; 4096];
-    let mut mine = [0u64; 4096];
+    let mut picks = [0u8; residues::SEARCH_ROOM];
+    let mut mine = [0u64; residues::SEARCH_ROOM];
     let mut r = top;
     let mut j = super::marked_numbers::next_with(&w, r, start, n);
     while low < r {

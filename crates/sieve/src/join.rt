@@ -4,7 +4,8 @@ ghost use mathlib.Core.Logic.{_≢_, _⊎_};
 ghost use Prim.Native.Nat.{_<_, _≤_};
 ghost use lib.ListN.{length};
 ghost use Rattle.weights.specs.Table.{weightOf};
-ghost use Rattle.sieve.specs.join.Join.{Half, Halved, Third, Judging, Joining, Join};
+ghost use Rattle.sieve.specs.join.Join.{Half, Halved, Third, ThirdAsked, Joining, Join};
+ghost use Rattle.residues.specs.Room.{searchRoom};
 
 // The least weight, at least 1, that has half of `left`; 255 where none of the weights has.
 fn half(left: usize) -> u8
@@ -34,7 +35,7 @@ fn beside(w: u8, gone: u8, least: u8) -> u8
 
 // Marks the numbers from `start` on and below `n` that have half of `left` and are not gone. One short step a number: most numbers end here.
 fn halves(start: usize, n: usize, left: usize, gone: &[u8], w: &[u8], picks: &mut [u8])
-    requires { ⌜ (start ≤ n) × (n ≤ 4096) × (length (now gone) ≡ 4096) × (length (now w) ≡ 4096) × (length (now picks) ≡ 4096) ⌝ }
+    requires { ⌜ (start ≤ n) × (n ≤ searchRoom) × (length (now gone) ≡ searchRoom) × (length (now w) ≡ searchRoom) × (length (now picks) ≡ searchRoom) ⌝ }
     ensures { λ _. ⌜ Halved start n left (now (gone .entry)) (now (w .entry)) (now (picks .exit)) ⌝ }
 {
     let least = half(left);
@@ -47,7 +48,7 @@ fn halves(start: usize, n: usize, left: usize, gone: &[u8], w: &[u8], picks: &mu
 
 // The mark of the number `i`: 0 where it has the value `x`, or does not reach `left` together with the sum of the two.
 fn third(d: &[u64], i: usize, x: u64, left: usize, slots: &[u16], w: &[u8]) -> u8
-    requires { ⌜ Judging (now d) i (now slots) (now w) ⌝ }
+    requires { ⌜ ThirdAsked (now d) i (now slots) (now w) ⌝ }
     ensures { λ r. ⌜ (r ≡ 0 → Third (now (d .entry)) i x left (now (w .entry)) (weightOf (now (slots .entry)) (now (d .entry)) (now (w .entry)))) ⌝ }
 {
     if d[i] == x {

@@ -1,5 +1,9 @@
-// Which numbers a walk goes on with from a space. A space is given by `h`, the residues of the generators: what is left of each when the leads of the
-// space's basis are cleared in it.
+// Which children of a space the walk visits: never one fewer than lead to a space.
+// heavy_search     the search for the spaces over a space, along heavy values
+// join             the numbers that matter beside a value, where two dimensions are missing
+// dead_numbers     the numbers that a search leaves out from the first
+// marked_numbers   the next marked number
+// docs/SEARCH.md says why nothing is left out. Visiting the children: `catalogue::walk`.
 use bases::Basis;
 ghost use lib.ListN.{length};
 ghost use Rattle.sieve.specs.Sieve.{Sieving, Sieved};
@@ -23,7 +27,7 @@ pub fn sieve(
     requires { ⌜ Sieving (now gens) (now h) start missing (now rows) (now marks) ⌝ }
     ensures { λ _. ⌜ Sieved (now (gens .entry)) (now (h .entry)) start (length (now (gens .entry))) k missing (now (marks .exit)) ⌝ }
 {
-    let mut flags = [0u8; 4096];
+    let mut flags = [0u8; residues::SEARCH_ROOM];
     dead_numbers::flag_before(h, start, &mut flags);
     let s = residues::with_residue(gens, h, 0, Basis::empty());
     heavy_search::find(gens, h, h, start, k, missing, s, flags, rows, marks);

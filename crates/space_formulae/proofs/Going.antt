@@ -19,22 +19,19 @@ use Rattle.linear.specs.laws.Spread.{inner-down, spread-leaf, spread-none, spre
 use Rattle.bases.specs.Basis.{rowsOf, Valid, Holds}
 use Rattle.bases.specs.declared.Basis.{Basis}
 use Rattle.first_formula.specs.declared.Choice.{Choice}
-use Rattle.first_formula.specs.Choice.{numbersOf, recordOf, formulaRecord, chose-record}
-use Rattle.first_formula.specs.laws.Choosing.{Added}
+use Rattle.first_formula.specs.Choice.{numbersOf, recordOf, formulaRecord, chose-record, Added}
 use Rattle.first_formula.specs.laws.Writing.{numbers-length}
 use Rattle.records.specs.declared.Tally.{Tally}
-use Rattle.records.specs.Records.{State, note, run, Sane}
+use Rattle.records.specs.Records.{State, note, run}
 use Rattle.records.specs.Keep.{stateOf}
-use Rattle.records.specs.laws.Records.{run-append, run-full, run-sane}
-use Rattle.space_formulae.specs.enumeration.Spread.{formulaeFrom, Node}
+use Rattle.records.specs.laws.Ahead.{Ahead, ahead-as, ahead-past, ahead-full, ahead-none}
+use Rattle.space_formulae.specs.enumeration.Spread.{formulaeFrom, Branch}
 
-pub record Going (gens w targets C p : List ℕ) (missing limit : ℕ) (final : State) (size j : ℕ) (t : Tally) (out : List ℕ) : Type 0 where
-  pub rest : run limit (stateOf t out) (formulaeFrom gens w targets C p (length gens - j) j missing) ≡ final
-  pub sane : Sane limit (stateOf t out)
-  pub same : length out ≡ size
+abbrev pub Going : (gens w targets C p : List ℕ) (missing limit : ℕ) (final : State) (size j : ℕ) (t : Tally) (out : List ℕ) → Type 0
+Going gens w targets C p missing limit final size j t out = Ahead limit final size (formulaeFrom gens w targets C p (length gens - j) j missing) (stateOf t out)
 
 -- no number is missing
-pub going-leaf : (gens w targets : List ℕ) (start missing : ℕ) (b : Basis) (c : Choice) (t : Tally) (limit : ℕ) (out : List ℕ) → Node gens w missing b c t limit out → missing ≡ 0 → (end : State)
+pub going-leaf : (gens w targets : List ℕ) (start missing : ℕ) (b : Basis) (c : Choice) (t : Tally) (limit : ℕ) (out : List ℕ) → Branch gens w missing b c t limit out → missing ≡ 0 → (end : State)
     → end ≡ note limit (stateOf t out) (recordOf c targets) → end ≡ run limit (stateOf t out) (formulaeFrom gens w targets (rowsOf b) (numbersOf c) (length gens - start) start missing)
 unfolding run
 going-leaf gens w targets start missing b c t limit out N z end e =
@@ -42,31 +39,25 @@ going-leaf gens w targets start missing b c t limit out N z end e =
     ∙ ap (run limit (stateOf t out)) (sym (spread-leaf word gens w (N .space) (formulaRecord gens targets) (rowsOf b) (numbersOf c) (length gens - start) start missing z (N .inner)))
 
 -- at a node: what it asks, as plain facts
-module _ (gens w targets : List ℕ) (missing : ℕ) (b : Basis) (c : Choice) (t₀ : Tally) (limit : ℕ) (out₀ : List ℕ) (N : Node gens w missing b c t₀ limit out₀) (ne : missing ≢ 0)
+module _ (gens w targets : List ℕ) (missing : ℕ) (b : Basis) (c : Choice) (t₀ : Tally) (limit : ℕ) (out₀ : List ℕ) (N : Branch gens w missing b c t₀ limit out₀) (ne : missing ≢ 0)
     (final : State) (size j : ℕ) (t : Tally) (out : List ℕ) (I : Going gens w targets (rowsOf b) (numbersOf c) missing limit final size j t out) where
   abbrev from : ℕ → List (List ℕ)
   from i = formulaeFrom gens w targets (rowsOf b) (numbersOf c) (length gens - i) i missing
 
   pub going-full : t .found ≡ limit → stateOf t out ≡ final
-  going-full e = sym (run-full limit (stateOf t out) (from j) e) ∙ I .rest
+  going-full e = ahead-full I e
 
   pub going-end : length gens ≤ j → stateOf t out ≡ final
-  unfolding run
-  going-end g = ap (run limit (stateOf t out)) (sym (spread-end word gens w (N .space) (formulaRecord gens targets) (rowsOf b) (numbersOf c) j missing ne g)) ∙ I .rest
+  going-end g = ahead-none I (spread-end word gens w (N .space) (formulaRecord gens targets) (rowsOf b) (numbersOf c) j missing ne g)
 
   pub going-skip : j < length gens → inside word w (getD gens j 0) && not (inside word (rowsOf b) (getD gens j 0)) ≡ false
       → Going gens w targets (rowsOf b) (numbersOf c) missing limit final size (j + 1) t out
   unfolding generator
-  going-skip g e =
-      record {
-        rest = ap (run limit (stateOf t out)) (sym (spread-skip word gens w (N .space) (formulaRecord gens targets) (rowsOf b) (numbersOf c) j missing ne g e)) ∙ I .rest;
-        sane = I .sane;
-        same = I .same;
-      }
+  going-skip g e = ahead-as I (spread-skip word gens w (N .space) (formulaRecord gens targets) (rowsOf b) (numbersOf c) j missing ne g e)
 
   module _ (g : j < length gens) (e : inside word w (getD gens j 0) && not (inside word (rowsOf b) (getD gens j 0)) ≡ true)
       (b′ : Basis) (H : Holds (insert word (rowsOf b) (getD gens j 0)) b′) (c′ : Choice) (A : Added c j (getD gens j 0) c′) where
-    pub node-down : Node gens w (missing - 1) b′ c′ t limit out
+    pub node-down : Branch gens w (missing - 1) b′ c′ t limit out
     unfolding chosen generator
     node-down =
         record {
@@ -100,21 +91,12 @@ module _ (gens w targets : List ℕ) (missing : ℕ) (b : Basis) (c : Choice) (t
     unfolding generator
     going-down r out′ q =
         let here : List (List ℕ) = formulaeFrom gens w targets (rowsOf b′) (numbersOf c′) (length gens - (j + 1)) (j + 1) (missing - 1) in
-        let v = run-sane limit (stateOf t out) here (I .sane) in
-        record {
-          rest =
-              ap (λ (x : State). run limit x (from (j + 1))) q ∙ sym (run-append limit (stateOf t out) here (from (j + 1)))
-              ∙ ap (λ (x : List (List ℕ)). run limit (stateOf t out) (x ++ from (j + 1)))
-              (ap₂ (λ (x y : List ℕ). formulaeFrom gens w targets x y (length gens - (j + 1)) (j + 1) (missing - 1)) (H .is) (A .numbers))
-              ∙ ap (run limit (stateOf t out)) (sym (spread-down word gens w (N .space) (formulaRecord gens targets) (rowsOf b) (numbersOf c) j missing ne g e)) ∙ I .rest;
-          sane = subst (Sane limit) (sym q) (v .0);
-          same = ap (λ (x : State). length (x .buf)) q ∙ v .1 ∙ I .same;
-        }
+        ahead-past I here (from (j + 1))
+        (spread-down word gens w (N .space) (formulaRecord gens targets) (rowsOf b) (numbersOf c) j missing ne g e
+        ∙ ap₂ (λ (x y : List ℕ). formulaeFrom gens w targets x y (length gens - (j + 1)) (j + 1) (missing - 1) ++ from (j + 1)) (sym (H .is)) (sym (A .numbers))) q
 
 -- the space can't be completed from the next number on
 pub going-stop : (gens w targets : List ℕ) (missing : ℕ) (b : Basis) (c : Choice) (limit : ℕ) → Reduced word w → Valid b → (final : State) (size j : ℕ) (t : Tally) (out : List ℕ)
     → Going gens w targets (rowsOf b) (numbersOf c) missing limit final size (j + 1) t out → j < length gens → completes word gens w (rowsOf b) (j + 1) ≡ false → stateOf t out ≡ final
-unfolding run
 going-stop gens w targets missing b c limit ρ G final size j t out I g e =
-    ap (run limit (stateOf t out))
-    (sym (spread-none word gens w ρ (formulaRecord gens targets) (rowsOf b) (numbersOf c) (length gens - (j + 1)) (j + 1) missing (G .reduced) (omega arith) e)) ∙ I .rest
+    ahead-none I (spread-none word gens w ρ (formulaRecord gens targets) (rowsOf b) (numbersOf c) (length gens - (j + 1)) (j + 1) missing (G .reduced) (omega arith) e)

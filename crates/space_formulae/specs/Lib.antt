@@ -3,3 +3,4 @@ pub mod Replies
 pub mod formula_records
 pub mod enumeration
 pub mod spaces
+pub mod laws

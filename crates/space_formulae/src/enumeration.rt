@@ -9,7 +9,7 @@ ghost use Rattle.bases.specs.Basis.{rowsOf};
 ghost use Rattle.first_formula.specs.Choice.{numbersOf};
 ghost use Rattle.records.specs.Records.{run};
 ghost use Rattle.records.specs.Keep.{stateOf};
-ghost use Rattle.space_formulae.specs.enumeration.Spread.{formulaeFrom, Node};
+ghost use Rattle.space_formulae.specs.enumeration.Spread.{formulaeFrom, Branch};
 
 // Goes on from the generators of `c`, with the basis `b`, by `missing` generators from number `start` on, each inside the space `w` and not yet spanned. Where
 // those left can't complete the space it returns at once.
@@ -25,22 +25,22 @@ pub fn spread(
     limit: u64,
     out: &mut [u64],
 ) -> Tally
-    requires { ⌜ Node (now gens) (now w) missing b c t limit (now out) ⌝ }
+    requires { ⌜ Branch (now gens) (now w) missing b c t limit (now out) ⌝ }
     ensures { λ r. ⌜ stateOf r (now (out .exit)) ≡ run limit (stateOf t (now (out .entry))) (formulaeFrom (now (gens .entry)) (now (w .entry)) (now (targets .entry)) (rowsOf b) (numbersOf c) (length (now (gens .entry)) - start) start missing) ⌝ }
 {
     if missing == 0 {
         return super::formula_records::keep(c, targets, t, limit, out);
     }
     let n = gens.len();
-    let mut u = t;
+    let mut counts = t;
     let mut j = start;
     while j < n {
-        if u.found == limit {
-            return u;
+        if counts.found == limit {
+            return counts;
         }
         let g = gens[j];
         if bases::spans::is_wanted(w, b, g) {
-            u = spread(
+            counts = spread(
                 gens,
                 w,
                 targets,
@@ -48,17 +48,17 @@ pub fn spread(
                 missing - 1,
                 b.insert(g),
                 first_formula::add(c, j, g),
-                u,
+                counts,
                 limit,
                 out,
             );
             if !bases::spans::completes(gens, w, b, j + 1) {
-                return u;
+                return counts;
             }
             j += 1;
         } else {
             j += 1;
         }
     }
-    u
+    counts
 }

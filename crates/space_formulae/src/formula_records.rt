@@ -5,29 +5,17 @@ ghost use mathlib.Core.Path.{_≡_};
 ghost use Rattle.first_formula.specs.Choice.{recordOf};
 ghost use Rattle.records.specs.Records.{note};
 ghost use Rattle.records.specs.Keep.{stateOf};
-ghost use Rattle.space_formulae.specs.formula_records.Keep.{Keeping};
+ghost use Rattle.space_formulae.specs.formula_records.Keep.{FormulaKeeping};
 
-// Counts the formula whose products `c` holds, unless the limit is reached, and writes its record where it fits.
+// Counts the formula whose products `c` holds, and writes its record where it fits.
 pub fn keep(c: Choice, targets: &[u64], t: Tally, limit: u64, out: &mut [u64]) -> Tally
-    requires { ⌜ Keeping c t limit (now out) ⌝ }
+    requires { ⌜ FormulaKeeping c t limit (now out) ⌝ }
     ensures { λ r. ⌜ stateOf r (now (out .exit)) ≡ note limit (stateOf t (now (out .entry))) (recordOf c (now (targets .entry))) ⌝ }
 {
-    if t.found == limit {
-        return t;
+    let r = records::count(t, limit, c.len + targets.len(), out.len());
+    if r.shown == t.shown {
+        return r;
     }
-    let at = t.at;
-    let size = c.len + targets.len();
-    if out.len() - at < size {
-        return Tally {
-            found: t.found + 1,
-            shown: t.shown,
-            at: at,
-        };
-    }
-    first_formula::write_formula(c, targets, out, at);
-    Tally {
-        found: t.found + 1,
-        shown: t.shown + 1,
-        at: at + size,
-    }
+    first_formula::write_formula(c, targets, out, t.at);
+    r
 }

@@ -1,9 +1,13 @@
-// The formulae of a space of a problem, on numbers.
+// The formulae of a space, on numbers: refusals 2 to 8 and 10, and the records that fit.
+// spaces            the same where the problem is made, and what the reply means
+// enumeration       the recursion over the formulae of a space, which yields one at every call
+// formula_records   a formula counted and written
+// The reply as text: `formulae_text`.
 use problems::Posed;
 use spaces::Listed;
 ghost use mathlib.Core.Path.{_≡_};
 ghost use Rattle.space_formulae.specs.spaces.Spaces.{formulaeOf, seenFormulae, lentFormulae};
-ghost use Rattle.space_formulae.specs.Replies.{Some, Given};
+ghost use Rattle.space_formulae.specs.Replies.{Some, FormulaeGiven};
 
 pub mod enumeration;
 pub mod formula_records;
@@ -12,7 +16,7 @@ pub mod spaces;
 // The formulae of a space of a problem whose generators and targets are made; refusals 8 and 10.
 fn list_problem(gens: &[u64], targets: &[u64], rows: &[u64], out: &mut [u64]) -> Listed
     requires { ⌜ Some (now targets) ⌝ }
-    ensures { λ r. ⌜ Given (now (gens .entry)) (now (targets .entry)) (now (rows .entry)) (now (out .entry)) r (now (out .exit)) ⌝ }
+    ensures { λ r. ⌜ FormulaeGiven (now (gens .entry)) (now (targets .entry)) (now (rows .entry)) (now (out .entry)) r (now (out .exit)) ⌝ }
 {
     let ell = bases::basis_of(targets).len;
     if rows.len() > ell + 6 {
@@ -38,8 +42,8 @@ pub fn formulae(
 ) -> Listed
     ensures { λ x. ⌜ (formulaeOf number p q r (now (gs .entry)) (now (ts .entry)) (now (rows .entry)) (now (out .entry)) ≡ seenFormulae x (now (out .exit))) × (now (out .exit) ≡ lentFormulae (formulaeOf number p q r (now (gs .entry)) (now (ts .entry)) (now (rows .entry)) (now (out .entry))) (now (out .entry))) ⌝ }
 {
-    let mut g = [0u64; 4095];
-    let mut t = [0u64; 64];
+    let mut g = [0u64; kinds::GENERATORS];
+    let mut t = [0u64; kinds::TARGETS];
     match problems::pose(number, p, q, r, gs, ts, rows, &mut g, &mut t) {
         Posed::Refused(e) => Listed::Refused(e),
         Posed::Are(n, u) => list_problem(&g[..n], &t[..u], rows, out),

@@ -2,8 +2,7 @@
 use bases::Basis;
 use first_formula::Choice;
 use records::Tally;
-ghost use Rattle.space_formulae.specs.spaces.laws.Entry.{Rows};
-ghost use Rattle.space_formulae.specs.spaces.laws.Listing.{Accepted, Told};
+ghost use Rattle.space_formulae.specs.spaces.Spaces.{SpaceAccepted, FormulaeTold, Rows};
 
 // What is said of a space: a refusal's number; or how many formulae are listed, these being all, or more being left.
 pub enum Listed {
@@ -28,14 +27,14 @@ pub fn is_entry(gens: &[u64], targets: &[u64], rows: &[u64]) -> bool
 
 // The formulae of a solution space. It stops after the first that does not fit.
 pub fn list_space(gens: &[u64], targets: &[u64], rows: &[u64], out: &mut [u64]) -> Listed
-    requires { ⌜ Accepted (now gens) (now targets) (now rows) ⌝ }
-    ensures { λ r. ⌜ Told (now (gens .entry)) (now (targets .entry)) (now (rows .entry)) (now (out .entry)) r (now (out .exit)) ⌝ }
+    requires { ⌜ SpaceAccepted (now gens) (now targets) (now rows) ⌝ }
+    ensures { λ r. ⌜ FormulaeTold (now (gens .entry)) (now (targets .entry)) (now (rows .entry)) (now (out .entry)) r (now (out .exit)) ⌝ }
 {
     let k = rows.len();
     let limit = out.len() / (k + targets.len()) + 1;
     let c = Choice {
-        numbers: [0u64; 64],
-        forms: [0u64; 64],
+        numbers: [0u64; kinds::PRODUCTS],
+        forms: [0u64; kinds::PRODUCTS],
         len: 0,
     };
     let t = Tally {
@@ -43,7 +42,7 @@ pub fn list_space(gens: &[u64], targets: &[u64], rows: &[u64], out: &mut [u64]) 
         shown: 0,
         at: 0,
     };
-    let u = super::enumeration::spread(
+    let counts = super::enumeration::spread(
         gens,
         rows,
         targets,
@@ -55,8 +54,8 @@ pub fn list_space(gens: &[u64], targets: &[u64], rows: &[u64], out: &mut [u64]) 
         limit as u64,
         out,
     );
-    if u.found == u.shown as u64 {
-        return Listed::All(u.shown);
+    if counts.found == counts.shown as u64 {
+        return Listed::All(counts.shown);
     }
-    Listed::More(u.shown)
+    Listed::More(counts.shown)
 }

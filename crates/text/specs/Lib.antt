@@ -1,4 +1,5 @@
 -- The bytes and numbers of a file.
+pub mod Limits
 pub mod Reading
 pub mod Numeral
 pub mod Line

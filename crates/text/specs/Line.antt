@@ -1,8 +1,8 @@
 -- Lines and fields: each reading gives what it says and the text after it.
---   till c s            == how many bytes of s stand before the first c
---   cut c s             == what stands before the first c, and what follows it; none where there is no c
---   nameLine name s     == the text after the fixed line `name`
---   field base most c s == a numeral that the byte c ends, and the text after it
+--   till c s                        == how many bytes of s stand before the first c
+--   cut c s                         == what stands before the first c, and what follows it; none where there is no c
+--   nameLine name s                 == the text after the fixed line `name`
+--   field base most c s             == a numeral that the byte c ends, and the text after it
 --   countField, maskLine, maskField == a count that a comma ends; a mask that LF ends, and one that a comma ends
 -- Document 01: "lines ended by LF, a line of names and then lines of values in that order". Assumes nothing.
 use Prim.Native.Nat.{ℕ, suc}

@@ -1,8 +1,8 @@
 -- Numerals, read. A byte string is a list of numbers below 256; `none` is 'misshapen'.
---   digit b            == what the byte b is worth as a digit; 16 where it is none
---   digits base v s    == the number whose digits are those of v, then those of s
+--   digit b             == what the byte b is worth as a digit; 16 where it is none
+--   digits base v s     == the number whose digits are those of v, then those of s
 --   numeral base most s == the number that s writes to the base, in at most `most` digits
---   count, mask        == the two that a file has
+--   count, mask         == the two that a file has
 -- Document 01: "Counts are decimal, up to four digits; forms and masks are lowercase hexadecimal, up to sixteen digits. Neither has
 -- leading zeros; zero is `0`." Assumes nothing.
 use Prim.Native.Nat.{ℕ, _+_, _-_, _*_}

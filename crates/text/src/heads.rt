@@ -21,13 +21,13 @@ pub enum Counts {
 fn counts_of(s: &[u8]) -> Counts
     ensures { λ r. ⌜ countFields (now (s .entry)) ≡ seenCounts r ⌝ }
 {
-    let FieldRead::Is(p, u) = super::field_at(s, 44, 10, 4) else {
+    let FieldRead::Is(p, used) = super::field_at(s, 44, 10, 4) else {
         return Counts::No;
     };
-    let FieldRead::Is(q, v) = super::field_at(&s[u..], 44, 10, 4) else {
+    let FieldRead::Is(q, v) = super::field_at(&s[used..], 44, 10, 4) else {
         return Counts::No;
     };
-    let b = u + v;
+    let b = used + v;
     let FieldRead::Is(r, w) = super::field_at(&s[b..], 44, 10, 4) else {
         return Counts::No;
     };
@@ -88,11 +88,11 @@ fn head_line(s: &[u8]) -> HeadRead
 pub fn head_lines(s: &[u8]) -> HeadRead
     ensures { λ r. ⌜ (headLines (now (s .entry)) ≡ seenHead (now (s .entry)) r) × (bytesHead r ≤ length (now (s .entry))) ⌝ }
 {
-    let Used::Is(u) = super::name_line(s, b"kind,p,q,r,k") else {
+    let Used::Is(used) = super::name_line(s, b"kind,p,q,r,k") else {
         return HeadRead::No;
     };
-    let HeadRead::Is(kind, p, q, r, k, v) = head_line(&s[u..]) else {
+    let HeadRead::Is(kind, p, q, r, k, v) = head_line(&s[used..]) else {
         return HeadRead::No;
     };
-    HeadRead::Is(kind, p, q, r, k, u + v)
+    HeadRead::Is(kind, p, q, r, k, used + v)
 }

@@ -1,13 +1,31 @@
-// Bytes and numbers of a file: numerals, fields, fixed lines.
+// The bytes of a file, read: numerals, fields, lines, fixed lines.
+// heads      the first two lines of a file: the kind, its sizes and k
+// The lines below: `formula_files`, `problem_files`. Writing: `printing`.
 ghost use mathlib.Core.Path.{_≡_};
-ghost use Prim.Native.Nat.{_^_, _≤_};
+ghost use Prim.Native.Nat.{_+_, _^_, _≤_};
 ghost use lib.ListN.{length};
 ghost use Rattle.kinds.specs.Kinds.{same};
 ghost use Rattle.text.specs.Numeral.{digit, numeral};
 ghost use Rattle.text.specs.Line.{till, cut, nameLine, field};
 ghost use Rattle.text.specs.Views.{seenNumber, seenCut, bytesCut, seenUsed, bytesUsed, seenField, bytesField};
+ghost use Rattle.text.specs.Limits.{mostBytes};
 
 pub mod heads;
+
+// The longest input that a program takes, in bytes, and the words of its buffers (specs/Limits.antt).
+pub const FILE_BYTES: usize = 65536;
+
+pub const PROGRAM_WORDS: usize = 4096;
+
+// A byte more than the longest input, so that a longer one is told.
+pub const INPUT_ROOM: usize = 65537;
+
+// Room for a program's input.
+pub fn input_room() -> [u8; INPUT_ROOM]
+    ensures { λ r. ⌜ mostBytes + 1 ≡ length r ⌝ }
+{
+    [0; INPUT_ROOM]
+}
 
 // What reading a numeral finds.
 pub enum Number {

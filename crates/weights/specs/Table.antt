@@ -1,10 +1,10 @@
 -- A table of weights by value. A value is a residue other than 0; a slot has 0, or a number and one, and then stands for that number's value.
---   slotFrom fuel q slots d v   == from the slot q on the first that is free or has a number of the value v; 16,384 where as many as fuel are tried in vain
---   slotOf slots d v            == the slot of the value v: from its own on, where 64 are tried
---   weightOf slots d w v        == the weight of v: that of the number in its slot, 0 where that is free, 200 where there is none
---   Slots slots d               == the slots are all there, and have numbers of d
---   Blank ..                    == what `fill` asks: slots and weights are all 0, and s has the rows of the generators of residue 0
---   Filled ..                   == what it gives: the weights are bounds, of numbers that have a value, and none is above top, which is at most 200
+--   slotFrom fuel q slots d v == from the slot q on the first that is free or has a number of the value v; 16,384 where as many as fuel are tried in vain
+--   slotOf slots d v          == the slot of the value v: from its own on, where 64 are tried
+--   weightOf slots d w v      == the weight of v: that of the number in its slot, 0 where that is free, 200 where there is none
+--   Slots slots d             == the slots are all there, and have numbers of d
+--   Blank ..                  == what `fill` asks: slots and weights are all 0, and s has the rows of the generators of residue 0
+--   TableFilled ..            == what it gives: the weights are bounds, of numbers that have a value, and none is above top, which is at most 200
 -- Laws: laws/Seek, laws/Fill. Assumes nothing.
 use mathlib.Core.Path.{_≡_}
 use mathlib.Core.Logic.{_≢_}
@@ -17,37 +17,39 @@ use Rattle.linear.specs.Basis.{basisOf}
 use Rattle.linear.specs.Word.{word, isZero}
 use Rattle.residues.specs.children.Residues.{withResidue}
 use Rattle.residues.specs.children.Weighed.{Weighed}
-use Rattle.weights.specs.slots.Bucket.{bucketOf}
+use Rattle.weights.specs.slots.Bucket.{bucketOf, slotCount}
+use Rattle.residues.specs.Room.{searchRoom}
+use Rattle.weights.specs.rank_rows.Stretch.{rowRoom}
 
 unfoldable pub slotFrom : ℕ → ℕ → List ℕ → List ℕ → ℕ → ℕ
-slotFrom zero q slots d v = 16384
+slotFrom zero q slots d v = slotCount
 slotFrom (suc fuel) q slots d v =
-    cond (isZero (getD slots q 0) || eqb (getD d (getD slots q 0 - 1) 0) v) q (slotFrom fuel ((q + 1) % 16384) slots d v)
+    cond (isZero (getD slots q 0) || eqb (getD d (getD slots q 0 - 1) 0) v) q (slotFrom fuel ((q + 1) % slotCount) slots d v)
 
 unfoldable pub slotOf : List ℕ → List ℕ → ℕ → ℕ
 slotOf slots d v = slotFrom 64 (bucketOf v) slots d v
 
 unfoldable pub weightAt : List ℕ → List ℕ → ℕ → ℕ
-weightAt slots w q = cond (eqb q 16384) 200 (cond (isZero (getD slots q 0)) 0 (getD w (getD slots q 0 - 1) 0))
+weightAt slots w q = cond (eqb q slotCount) 200 (cond (isZero (getD slots q 0)) 0 (getD w (getD slots q 0 - 1) 0))
 
 unfoldable pub weightOf : List ℕ → List ℕ → List ℕ → ℕ → ℕ
 weightOf slots d w v = weightAt slots w (slotOf slots d v)
 
 pub record Slots (slots d : List ℕ) : Type 0 where
-  pub size : length slots ≡ 16384
+  pub size : length slots ≡ slotCount
   pub number : (q : ℕ) → getD slots q 0 ≤ length d
 
 pub record Blank (gens d : List ℕ) (start : ℕ) (dead s slots rows w : List ℕ) : Type 0 where
   pub alike : length gens ≡ length d
-  pub few : length d ≤ 4096
+  pub few : length d ≤ searchRoom
   pub begin : start ≤ length d
-  pub dead-all : length dead ≡ 4096
+  pub dead-all : length dead ≡ searchRoom
   pub basis : s ≡ basisOf word (withResidue 0 gens d)
-  pub blank : slots ≡ replicate 16384 0
-  pub rows-all : length rows ≡ 32768
-  pub none : w ≡ replicate 4096 0
+  pub blank : slots ≡ replicate slotCount 0
+  pub rows-all : length rows ≡ rowRoom
+  pub none : w ≡ replicate searchRoom 0
 
-pub record Filled (gens d : List ℕ) (start : ℕ) (dead table w : List ℕ) (top : ℕ) : Type 0 where
+pub record TableFilled (gens d : List ℕ) (start : ℕ) (dead table w : List ℕ) (top : ℕ) : Type 0 where
   pub weighed : Weighed gens d start dead w (weightOf table d w)
   pub slots : Slots table d
   pub most : (n : ℕ) → getD w n 0 ≤ top

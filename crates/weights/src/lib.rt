@@ -1,18 +1,28 @@
-// Weights of values, bounds on the ranks of the generators that have them: a table by value with open addressing.
+// Weights of values: bounds on the ranks of the generators that have a value, in a table by value with open addressing.
+// slots       where the slot of a value is sought first
+// rank_rows   the rows that bound the rank of a value, eight for each number
+// Which values are heavy enough to be looked at is left to `sieve`.
 ghost use mathlib.Core.Path.{_≡_};
 ghost use Prim.Native.Nat.{_≤_};
 ghost use lib.ListN.{length};
-ghost use Rattle.weights.specs.Table.{slotOf, weightOf, Slots, Blank, Filled};
+ghost use Rattle.weights.specs.Table.{slotOf, weightOf, Slots, Blank, TableFilled};
 ghost use Rattle.weights.specs.Enter.{Entering, Entered};
+ghost use Rattle.residues.specs.Room.{searchRoom};
+ghost use Rattle.weights.specs.slots.Bucket.{slotCount};
 
 pub mod rank_rows;
 pub mod slots;
 
-// The slot of the value `x`: from its own on, the first that is free or has a number of this value; 16384 where 64 are tried in vain.
+// Slots of the table (`slotCount`), and rows that bound ranks, eight for each number (`rowRoom`).
+pub const SLOTS: usize = 16384;
+
+pub const ROW_ROOM: usize = 32768;
+
+// The slot of the value `x`: from its own on, the first that is free or has a number of this value; `SLOTS` where 64 are tried in vain.
 // A slot has a number and one, or 0.
 fn seek(slots: &[u16], d: &[u64], x: u64) -> usize
     requires { ⌜ Slots (now slots) (now d) ⌝ }
-    ensures { λ r. ⌜ (r ≡ slotOf (now (slots .entry)) (now (d .entry)) x) × (r ≤ 16384) ⌝ }
+    ensures { λ r. ⌜ (r ≡ slotOf (now (slots .entry)) (now (d .entry)) x) × (r ≤ slotCount) ⌝ }
 {
     let mut q = slots::bucket(x);
     let mut t: usize = 64;
@@ -24,19 +34,19 @@ fn seek(slots: &[u16], d: &[u64], x: u64) -> usize
         if d[f - 1] == x {
             return q;
         }
-        q = (q + 1) % 16384;
+        q = (q + 1) % SLOTS;
         t -= 1;
     }
-    16384
+    SLOTS
 }
 
 // The weight of the value `x`: that of the number in its slot, 0 where that is free, 200 where there is none.
 pub fn weight_of(slots: &[u16], d: &[u64], w: &[u8], x: u64) -> usize
-    requires { ⌜ Slots (now slots) (now d) × (length (now d) ≤ 4096) × (length (now w) ≡ 4096) ⌝ }
+    requires { ⌜ Slots (now slots) (now d) × (length (now d) ≤ searchRoom) × (length (now w) ≡ searchRoom) ⌝ }
     ensures { λ r. ⌜ (r ≡ weightOf (now (slots .entry)) (now (d .entry)) (now (w .entry)) x) × (r ≤ 255) ⌝ }
 {
     let q = seek(slots, d, x);
-    if q == 16384 {
+    if q == SLOTS {
         return 200;
     }
     let f = slots[q] as usize;
@@ -63,7 +73,7 @@ fn enter(
 {
     let x = d[i];
     let q = seek(slots, d, x);
-    if q == 16384 {
+    if q == SLOTS {
         w[i] = 200;
         return 200;
     }
@@ -92,7 +102,7 @@ pub fn fill(
     w: &mut [u8],
 ) -> usize
     requires { ⌜ Blank (now gens) (now d) start (now dead) (now s) (now slots) (now rows) (now w) ⌝ }
-    ensures { λ r. ⌜ Filled (now (gens .entry)) (now (d .entry)) start (now (dead .entry)) (now (slots .exit)) (now (w .exit)) r ⌝ }
+    ensures { λ r. ⌜ TableFilled (now (gens .entry)) (now (d .entry)) start (now (dead .entry)) (now (slots .exit)) (now (w .exit)) r ⌝ }
 {
     let mut top = 0;
     let mut i = start;

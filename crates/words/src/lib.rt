@@ -1,4 +1,6 @@
-// 64-bit words: lent buffers of them, and the tests on masks that a reader keeps as flags.
+// Words of 64 bits: lent buffers of them (put, copy, clear), then tests on masks (is a bit outside, is one zero).
+// lists    lists handed in: does a form stand twice, which of refusals 4 to 7 applies, is a number outside
+// What the words mean is left to the callers.
 ghost use mathlib.Core.Path.{_≡_};
 ghost use mathlib.Core.Bool.{_||_};
 ghost use Prim.Native.Nat.{_+_, _≤_};
@@ -8,6 +10,9 @@ ghost use lib.Dec.{eqb};
 ghost use Rattle.words.specs.Masks.{outside, wide, zeroIn};
 
 pub mod lists;
+
+// The largest word (`largestWord`).
+pub const LARGEST: u64 = 18446744073709551615;
 
 // The word x at place i, where there is one.
 pub fn put_word(a: &mut [u64], i: usize, x: u64)

@@ -38,7 +38,7 @@ pub fn repeats(xs: &[u64]) -> bool
 pub fn list_refusal(p: u64, q: u64, r: u64, gs: &[u64], ts: &[u64], others: &[u64]) -> u64
     ensures { λ e. ⌜ listRefusal p q r (now (gs .entry)) (now (ts .entry)) (now (others .entry)) ≡ e ⌝ }
 {
-    if q > 4095 {
+    if q > kinds::GENERATORS as u64 {
         return 4;
     }
     if gs.len() as u64 != q {

@@ -32,15 +32,5 @@ returns c = let l = c .before .loop in basing-end (c .before .before .before .be
 pub basis-of-spec : {M : Type 1} → statement M
 basis-of-spec =
     tie.close
-    (tie.spec
-    Inv-loop
-    μ-loop
-    empty-requires
-    loop-holds
-    (λ c. omega arith)
-    (λ c. omega arith)
-    insert-requires
-    (λ c. omega arith)
-    (λ c. omega arith)
-    loop-again
-    returns)
+    (tie.spec Inv-loop μ-loop empty-requires loop-holds (λ c. omega arith) (λ c. omega arith) insert-requires (λ c. omega arith) (λ c. omega arith)
+    loop-again returns)

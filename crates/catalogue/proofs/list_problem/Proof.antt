@@ -1,4 +1,4 @@
--- `search::list_problem` meets its contract. Assumes nothing.
+-- `catalogue::list_problem` meets its contract. Assumes nothing.
 use borrow.Author.Needs.{needs}
 use native.Mathlib.Omega.{arith}
 use Rattle.bases.specs.Basis.{based-dim}
@@ -40,5 +40,4 @@ returns-2 c =
 
 pub list-problem-spec : {M : Type 1} → statement M
 list-problem-spec =
-    tie.close
-    (tie.spec (λ c κs. search needs) (λ c. search needs) returns list-entries-requires (λ c. search needs) returns-2)
+    tie.close (tie.spec (λ c κs. search needs) (λ c. search needs) returns list-entries-requires (λ c. search needs) returns-2)

@@ -3,7 +3,7 @@
 --   records gens targets k == the records of all entries for k, in order
 --   flat rs                == the words of records, one after the other
 --   fitting n c w          == how many records of n words, out of c, fit into w words
---   Asked                  == what is asked of the generators and of k
+--   SearchAsked            == what is asked of the generators and of k
 --   Listed                 == the promise: the dimension of the targets, the number of entries up to the limit, how many are shown, and the buffer's content
 -- The entries are those of the catalogue: linear's `Theorems` shows that none is missing and none comes twice. With the limit 2 ^ 64 - 1 all are counted: `found-all`
 -- (laws/Listing). Assumes nothing.
@@ -15,6 +15,7 @@ use Rattle.linear.specs.Basis.{dim}
 use Rattle.linear.specs.Entry.{entries, space}
 use Rattle.linear.specs.Word.{word}
 use Rattle.catalogue.specs.declared.listing.Listing.{Listing}
+use Rattle.kinds.specs.Limits.{mostGenerators}
 
 -- Document 01: "Each is recorded as the extension ascending, then the k rows of its reduced basis".
 --   | extension: k − ℓ numbers | basis: k rows |
@@ -34,8 +35,8 @@ unfoldable pub fitting : ℕ → ℕ → ℕ → ℕ
 fitting zero c w = c
 fitting (suc n) c w = min c (w / suc n)
 
-pub record Asked (gens targets : List ℕ) (k : ℕ) : Type 0 where
-  pub small : length gens ≤ 4095
+pub record SearchAsked (gens targets : List ℕ) (k : ℕ) : Type 0 where
+  pub small : length gens ≤ mostGenerators
   pub near : k ≤ dim word targets + 6
 
 -- Document 01: "The first shown records fill the buffer from its start and every later word keeps its value."

@@ -13,12 +13,13 @@ use Rattle.records.specs.declared.Tally.{Tally}
 use Rattle.records.specs.Records.{State, run}
 use Rattle.records.specs.Keep.{stateOf}
 use Rattle.catalogue.specs.walk.Walk.{search}
+use Rattle.kinds.specs.Limits.{mostGenerators}
 
 abbrev pub start : List ℕ → State
 start buffer = record { found = 0; shown = 0; at = 0; buf = buffer }
 
 pub record Rooted (gens : List ℕ) (b : Basis) (k : ℕ) : Type 0 where
-  pub small : length gens ≤ 4095
+  pub small : length gens ≤ mostGenerators
   pub valid : Valid b
   pub least : b .len ≤ k
   pub near : k ≤ b .len + 6

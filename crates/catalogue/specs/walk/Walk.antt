@@ -16,13 +16,14 @@ use Rattle.records.specs.Keep.{stateOf, Tidy}
 use Rattle.records.specs.declared.Chain.{Chain}
 use Rattle.records.specs.declared.Tally.{Tally}
 use Rattle.residues.specs.children.Residues.{residues, known}
+use Rattle.residues.specs.Room.{searchRoom}
 
 abbrev pub search : List ℕ → ℕ → List ℕ → List ℕ → ℕ → ℕ → ℕ → List (List ℕ)
 search gens k = walk word gens (λ C i. known (residues gens C) i) (spans word gens k) (λ p C. p ++ C)
 
 pub record Node (gens h : List ℕ) (start missing : ℕ) (b : Basis) (c : Chain) (t : Tally) (limit : ℕ) (out : List ℕ) : Type 0 where
   pub left : h ≡ residues gens (rowsOf b)
-  pub small : length gens ≤ 4096
+  pub small : length gens ≤ searchRoom
   pub begin : start ≤ length gens
   pub valid : Valid b
   pub tidy : Tidy c missing

@@ -1,5 +1,5 @@
 -- The Catalogue's answer fits the page.
---   Fitted k c           == of the answer c for k: its records are in 4,096 words
+--   ListingFitted k c           == of the answer c for k: its records are in 4,096 words
 --   fitted               an accepted answer is such
 --   text-fits            so its text fits the page
 --   Said                 == what the code knows of Catalogue's answer x
@@ -16,7 +16,7 @@ use borrow.Author.Tests.{ltb-false}
 use Rattle.kinds.specs.declared.Kind.{Kind}
 use Rattle.kinds.specs.Kinds.{numberOf}
 use Rattle.kinds.specs.Refusal.{accepted, refuse}
-use Rattle.kinds.specs.RefusalLaws.{accepted-inj, follow-inv, refuse-inv}
+use Rattle.kinds.specs.laws.Refusal.{accepted-inj, follow-inv, refuse-inv}
 use Rattle.problems.specs.Problem.{Problem, posed}
 use Rattle.problems.specs.Theorems.{posed-few}
 use Rattle.linear.specs.Basis.{dim}
@@ -27,7 +27,7 @@ use Rattle.linear.specs.laws.Dimension.{dim-length}
 use Rattle.linear.specs.laws.Select.{first-length}
 use Rattle.catalogue.specs.listing.Listing.{recordLength, fitting}
 use Rattle.catalogue.specs.listing.laws.Run.{fitting-in, fitting-le}
-use Rattle.catalogue.specs.Catalogue.{Catalogued, listing, catalogue, seenCatalogue}
+use Rattle.catalogue.specs.Catalogue.{Catalogued, entryListing, catalogue, seenCatalogue}
 use Rattle.catalogue.specs.declared.Catalogued.{Catalogued as Reply}
 use Rattle.catalogue.specs.declared.Catalogued.the-variants as reply
 use Rattle.printing.specs.fields.Piece.{Piece}
@@ -35,8 +35,10 @@ use Rattle.printing.specs.fields.laws.Pieces.{whole}
 use Rattle.printing.specs.fields.RefusedText.{refusedText}
 use Rattle.catalogue_text.specs.report.CatalogueReports.{catalogueText}
 use Rattle.printing.specs.record_lines.RecordLines.{Records}
-use Rattle.printing.specs.refusals.Pages.{listingRoom}
+use Rattle.printing.specs.record_lines.laws.Lines.{records-held}
+use Rattle.printing.specs.refusals.Pages.{listingRoom, replyPage}
 use Rattle.catalogue_text.specs.CatalogueAnswers.{catalogueAnswer, catalogueReply}
+use Rattle.text.specs.Limits.{programWords}
 
 -- ---- how much is listed
 -- of no dimension there is one space at most
@@ -44,19 +46,20 @@ one-space : (gens targets : List ℕ) → length (entries word gens targets 0) �
 unfolding entries
 one-space gens targets =
     let a = first-length (space word gens targets) (fits word gens 0) (sameBasis word) (risingLists (length gens) 0 (0 - dim word targets)) [] in
-    let b : length (risingLists (length gens) 0 (0 - dim word targets)) ≡ 1 = ap (λ (m : ℕ). length (risingLists (length gens) 0 m)) (let z : 0 - dim word targets ≡ 0 = omega arith in z) ∙ (one (length gens)) in
+    let b : length (risingLists (length gens) 0 (0 - dim word targets)) ≡ 1 = ap (λ (m : ℕ). length (risingLists (length gens) 0 m))
+    (let z : 0 - dim word targets ≡ 0 = omega arith in z) ∙ (one (length gens)) in
     omega arith
   where
     one : (n : ℕ) → length (risingLists n 0 0) ≡ 1
     one n = unfold risingLists in refl
 
-pub record Fitted (k : ℕ) (c : Catalogued) : Type 0 where
-  pub held : c .shown * ((k - c .ell) + k) ≤ 4096
-  pub few : c .shown ≤ 4096
+pub record ListingFitted (k : ℕ) (c : Catalogued) : Type 0 where
+  pub held : c .shown * ((k - c .ell) + k) ≤ programWords
+  pub few : c .shown ≤ programWords
   pub rows : k ≤ 70
 
-listing-fitted : (x : Problem) (k : ℕ) (old : List ℕ) → length old ≡ 4096 → k ≤ 70 → Fitted k (listing x k old)
-unfolding listing
+listing-fitted : (x : Problem) (k : ℕ) (old : List ℕ) → length old ≡ programWords → k ≤ 70 → ListingFitted k (entryListing x k old)
+unfolding entryListing
 listing-fitted x k old w h =
     record { held = (let a = fitting-in size found (length old) in omega arith); few = go size refl; rows = h }
   where
@@ -66,43 +69,36 @@ listing-fitted x k old w h =
     found : ℕ
     found = length (entries word (x .generators) (x .targets) k)
 
-    go : (n : ℕ) → size ≡ n → fitting size found (length old) ≤ 4096
+    go : (n : ℕ) → size ≡ n → fitting size found (length old) ≤ programWords
     go zero e =
         let z : k ≡ 0 = omega (arith, e) in
         let a = fitting-le size found (length old) in
-        let b : length (entries word (x .generators) (x .targets) k) ≤ 1 = subst (λ (j : ℕ). length (entries word (x .generators) (x .targets) j) ≤ 1) (sym z) (one-space (x .generators) (x .targets)) in
+        let b : length (entries word (x .generators) (x .targets) k) ≤ 1 = subst
+        (λ (j : ℕ). length (entries word (x .generators) (x .targets) j) ≤ 1) (sym z) (one-space (x .generators) (x .targets)) in
         omega (arith, a, b)
     go (suc n) e =
         let a : fitting size found (length old) * size ≤ length old = fitting-in size found (length old) in
         let b : fitting size found (length old) * 1 ≤ fitting size found (length old) * size = mul-le-mul (le-refl (fitting size found (length old))) (let z : 1 ≤ size = omega (arith, e) in z) in
         omega (arith, a, b, w)
 
-pub fitted : (number p q r k : ℕ) (gs ts : List ℕ) (old : List ℕ) (c : Catalogued) → length old ≡ 4096 → catalogue number p q r k gs ts old ≡ accepted c → Fitted k c
+pub fitted : (number p q r k : ℕ) (gs ts : List ℕ) (old : List ℕ) (c : Catalogued) → length old ≡ programWords → catalogue number p q r k gs ts old ≡ accepted c → ListingFitted k c
 unfolding catalogue
 fitted number p q r k gs ts old c w e =
-    let i = follow-inv (posed number p q r gs ts []) (λ x. refuse 8 (ltb (dim word (x .targets) + 6) k) (accepted (listing x k old))) c e in
-    let j = refuse-inv 8 (ltb (dim word (i .0 .targets) + 6) k) (accepted (listing (i .0) k old)) c (i .2) in
+    let i = follow-inv (posed number p q r gs ts []) (λ x. refuse 8 (ltb (dim word (x .targets) + 6) k) (accepted (entryListing x k old))) c e in
+    let j = refuse-inv 8 (ltb (dim word (i .0 .targets) + 6) k) (accepted (entryListing (i .0) k old)) c (i .2) in
     let F = posed-few p q r gs ts [] (i .0) number (i .1) in
     let a = ltb-false (dim word (i .0 .targets) + 6) k (j .0) in
     let b = F .targets in
     let d = dim-length word (i .0 .targets) in
-    subst (Fitted k) (accepted-inj (listing (i .0) k old) c (j .1)) (listing-fitted (i .0) k old w (omega arith))
+    subst (ListingFitted k) (accepted-inj (entryListing (i .0) k old) c (j .1)) (listing-fitted (i .0) k old w (omega arith))
 
 -- ---- the text
-pub records-fit : (k : ℕ) (c : Catalogued) → Fitted k c → length (c .buffer) ≡ 4096 → Records (c .buffer) (k - c .ell) k (c .shown) 204
-records-fit k c F l =
-    record {
-      held = (let a = F .held in omega arith);
-      small = omega arith;
-      few = (let a = F .few in omega arith);
-      numbers = (let a = F .rows in omega arith);
-      rows = (let a = F .rows in omega arith);
-      place = omega arith;
-    }
+pub records-fit : (k : ℕ) (c : Catalogued) → ListingFitted k c → length (c .buffer) ≡ programWords → Records (c .buffer) (k - c .ell) k (c .shown) 204
+records-fit k c F l = records-held (c .buffer) (k - c .ell) k (c .shown) 204 l (F .held) (F .few) (let a = F .rows in omega arith) (F .rows) (omega arith)
 
-pub text-fits : (kind : Kind) (p q r k : ℕ) (c : Catalogued) (d d₁ : List ℕ) (e : ℕ) → Fitted k c → length d ≡ 196608
+pub text-fits : (kind : Kind) (p q r k : ℕ) (c : Catalogued) (d d₁ : List ℕ) (e : ℕ) → ListingFitted k c → length d ≡ replyPage
     → Piece d 0 (catalogueText kind p q r k (c .ell) (c .found) (c .shown) (c .buffer)) (204 + (21 * (c .shown * ((k - c .ell) + k)) + 25 * c .shown)) d₁ e
-    → (take e d₁ ≡ catalogueAnswer kind p q r k (accepted c)) × (e ≤ 196608)
+    → (take e d₁ ≡ catalogueAnswer kind p q r k (accepted c)) × (e ≤ replyPage)
 text-fits kind p q r k c d d₁ e F l P =
     let a = F .held in
     let b = F .few in
@@ -116,29 +112,30 @@ module _ (kind : Kind) (p q r k : ℕ) (gs ts : List ℕ) (number : ℕ) (x : Re
   pub record Said : Type 0 where
     pub named : number ≡ numberOf kind
     pub answer : catalogue number p q r k gs ts listingRoom ≡ seenCatalogue x after
-    pub size : length after ≡ 4096
+    pub size : length after ≡ programWords
 
   module _ (S : Said) where
     reply-is : (y : Reply) → x ≡ y → catalogueReply kind p q r k gs ts ≡ catalogueAnswer kind p q r k (seenCatalogue y after)
     unfolding catalogueReply
     reply-is y h =
-        ap (λ (i : ℕ). catalogueAnswer kind p q r k (catalogue i p q r k gs ts listingRoom)) (sym (S .named)) ∙ ap (catalogueAnswer kind p q r k) (S .answer ∙ ap (λ (z : Reply). seenCatalogue z after) h)
+        ap (λ (i : ℕ). catalogueAnswer kind p q r k (catalogue i p q r k gs ts listingRoom)) (sym (S .named)) ∙ ap (catalogueAnswer kind p q r k)
+        (S .answer ∙ ap (λ (z : Reply). seenCatalogue z after) h)
 
-    pub reply-refused : (e n : ℕ) (d : List ℕ) → x ≡ reply.Refused e → (take n d ≡ refusedText e) × (n ≤ 32) → (take n d ≡ catalogueReply kind p q r k gs ts) × (n ≤ 196608)
+    pub reply-refused : (e n : ℕ) (d : List ℕ) → x ≡ reply.Refused e → (take n d ≡ refusedText e) × (n ≤ 32) → (take n d ≡ catalogueReply kind p q r k gs ts) × (n ≤ replyPage)
     reply-refused e n d h P = (P .0 ∙ sym (reply-is (reply.Refused e) h), (let a = P .1 in omega arith))
 
     module _ (l f s : ℕ) (h : x ≡ reply.Entries l f s) where
       abbrev c : Catalogued
       c = record { ell = l; found = f; shown = s; buffer = after }
 
-      fit : Fitted k c
+      fit : ListingFitted k c
       fit = fitted number p q r k gs ts listingRoom c refl (S .answer ∙ ap (λ (z : Reply). seenCatalogue z after) h)
 
       pub reply-records : Records after (k - l) k s 204
       reply-records = records-fit k c fit (S .size)
 
-      pub reply-entries : (d d₁ : List ℕ) (e : ℕ) → length d ≡ 196608 → Piece d 0 (catalogueText kind p q r k l f s after) (204 + (21 * (s * ((k - l) + k)) + 25 * s)) d₁ e
-          → (take e d₁ ≡ catalogueReply kind p q r k gs ts) × (e ≤ 196608)
+      pub reply-entries : (d d₁ : List ℕ) (e : ℕ) → length d ≡ replyPage → Piece d 0 (catalogueText kind p q r k l f s after) (204 + (21 * (s * ((k - l) + k)) + 25 * s)) d₁ e
+          → (take e d₁ ≡ catalogueReply kind p q r k gs ts) × (e ≤ replyPage)
       reply-entries d d₁ e w P =
           let T = text-fits kind p q r k c d d₁ e fit w P in
           (T .0 ∙ sym (reply-is (reply.Entries l f s) h), T .1)

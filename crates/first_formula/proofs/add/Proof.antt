@@ -1,4 +1,4 @@
--- `choice::add` meets its contract. Assumes nothing.
+-- `first_formula::add` meets its contract. Assumes nothing.
 use borrow.Author.Needs.{needs}
 use Rattle.first_formula.specs.laws.Choosing.{added}
 use Rattle.first_formula.proofs.add.Statement.{statement}

@@ -1,4 +1,4 @@
--- `choice::first_formula` meets its contract: what is chosen among the generators looked at, and the rest as the greedy choice goes on. Assumes nothing.
+-- `first_formula::first_formula` meets its contract: what is chosen among the generators looked at, and the rest as the greedy choice goes on. Assumes nothing.
 use native.Mathlib.Omega.{arith}
 use mathlib.Core.Path.{refl, sym, _∙_}
 use Prim.Native.Nat.{_-_}
@@ -66,20 +66,5 @@ returns c =
 pub first-formula-spec : {M : Type 1} → statement M
 first-formula-spec =
     tie.close
-    (tie.spec
-    Inv-loop
-    μ-loop
-    (λ c κs. search needs)
-    loop-holds
-    (λ c. omega arith)
-    (λ c. omega arith)
-    is-wanted-requires
-    add-requires
-    insert-requires
-    (λ c. omega arith)
-    (λ c. omega arith)
-    loop-again
-    (λ c. omega arith)
-    (λ c. omega arith)
-    loop-again-2
-    returns)
+    (tie.spec Inv-loop μ-loop (λ c κs. search needs) loop-holds (λ c. omega arith) (λ c. omega arith) is-wanted-requires add-requires insert-requires
+    (λ c. omega arith) (λ c. omega arith) loop-again (λ c. omega arith) (λ c. omega arith) loop-again-2 returns)

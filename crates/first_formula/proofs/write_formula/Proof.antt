@@ -1,4 +1,4 @@
--- `choice::write_formula` meets its contract. Assumes nothing.
+-- `first_formula::write_formula` meets its contract. Assumes nothing.
 use borrow.Author.Needs.{needs}
 use native.Mathlib.Omega.{arith}
 use Rattle.first_formula.specs.laws.Writing.{numbers-length, forms-length, record-written}
@@ -43,13 +43,5 @@ returns c =
 pub write-formula-spec : {M : Type 1} → statement M
 write-formula-spec =
     tie.close
-    (tie.spec
-    (λ c. search needs)
-    slice-aggregate-copy
-    copy-requires
-    (λ c. search needs)
-    slice-aggregate-put-rows
-    (λ c. search needs)
-    put-rows-requires
-    (λ c. search needs)
-    returns)
+    (tie.spec (λ c. search needs) slice-aggregate-copy copy-requires (λ c. search needs) slice-aggregate-put-rows (λ c. search needs)
+    put-rows-requires (λ c. search needs) returns)

@@ -11,18 +11,12 @@ use lib.Seq.{take-suc-set, length-take-le}
 use Rattle.linear.specs.Basis.{insert, basisOf, inserts}
 use Rattle.linear.specs.Entry.{inside, generator, chosen}
 use Rattle.linear.specs.Word.{word}
-use Rattle.linear.specs.laws.Greedy.{wanted, greedy}
-use Rattle.linear.specs.laws.Extension.{extension, chosen-append}
+use Rattle.linear.specs.Extension.{wanted, greedy, extension}
+use Rattle.linear.specs.laws.Extension.{chosen-append}
 use Rattle.bases.specs.declared.Basis.{Basis}
 use Rattle.bases.specs.Basis.{rowsOf, Valid, Holds}
 use Rattle.first_formula.specs.declared.Choice.{Choice}
-use Rattle.first_formula.specs.Choice.{numbersOf, formsOf, Whole, Chose}
-
--- one generator more, number j with the form g
-pub record Added (c : Choice) (j g : ℕ) (r : Choice) : Type 0 where
-  pub whole : Whole r
-  pub numbers : numbersOf r ≡ numbersOf c ++ j ∷ []
-  pub forms : formsOf r ≡ formsOf c ++ g ∷ []
+use Rattle.first_formula.specs.Choice.{numbersOf, Whole, Chose, Added}
 
 pub added : (c : Choice) (j g : ℕ) → Whole c → c .len < 64 → Added c j g (record { numbers = set (c .numbers) (c .len) j; forms = set (c .forms) (c .len) g; len = c .len + 1 })
 added c j g W l =

@@ -1,6 +1,6 @@
 -- `forms::clear` meets its contract: the comparison tells the coordinate at the row's lead. Assumes nothing.
 use mathlib.Core.Path.{sym}
-use Rattle.forms.specs.Clear.{clear-less, clear-not}
+use Rattle.forms.specs.laws.Clear.{clear-less, clear-not}
 use Rattle.forms.proofs.clear.Statement.{statement}
 use Rattle.forms.proofs.clear.Tie as tie
 

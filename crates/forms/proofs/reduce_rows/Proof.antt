@@ -8,7 +8,7 @@ use native.Mathlib.Omega.{arith}
 use lib.ListN.{length, drop, getD}
 use Rattle.linear.specs.Basis.{clear, reduce}
 use Rattle.linear.specs.Word.{word}
-use Rattle.forms.specs.Clear.{clear-less, clear-not, reduce-next, reduce-end}
+use Rattle.forms.specs.laws.Clear.{clear-less, clear-not, reduce-next, reduce-end}
 use Rattle.forms.proofs.reduce_rows.Statement.{statement}
 use Rattle.forms.proofs.reduce_rows.Tie as tie
 
@@ -46,13 +46,4 @@ returns c =
 pub reduce-rows-spec : {M : Type 1} → statement M
 reduce-rows-spec =
     tie.close
-    (tie.spec
-    Inv-loop
-    μ-loop
-    loop-holds
-    (λ c. omega arith)
-    (λ c. omega arith)
-    (λ c. omega arith)
-    (λ c. omega arith)
-    loop-again
-    returns)
+    (tie.spec Inv-loop μ-loop loop-holds (λ c. omega arith) (λ c. omega arith) (λ c. omega arith) (λ c. omega arith) loop-again returns)

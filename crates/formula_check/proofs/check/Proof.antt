@@ -1,4 +1,4 @@
--- `formula::check` meets its contract. Assumes nothing.
+-- `formula_check::check` meets its contract. Assumes nothing.
 use mathlib.Core.Path.{_≡_, sym, ap, ap₂, _∙_}
 use mathlib.Core.Option.{some}
 use Prim.Native.Nat.{ℕ}
@@ -120,17 +120,5 @@ returns-6 c =
 pub check-spec : {M : Type 1} → statement M
 check-spec =
     tie.close
-    (tie.spec
-    map-kind-requires
-    enum-known-kind
-    enum-told
-    returns
-    sizes-of-requires
-    enum-known-n
-    enum-told-2
-    returns-2
-    returns-3
-    returns-4
-    returns-5
-    judge-requires
-    returns-6)
+    (tie.spec map-kind-requires enum-known-kind enum-told returns sizes-of-requires enum-known-n enum-told-2 returns-2 returns-3 returns-4 returns-5
+    judge-requires returns-6)

@@ -1,4 +1,4 @@
--- `formula::first_wrong` meets its contract. Assumes nothing.
+-- `formula_check::first_wrong` meets its contract. Assumes nothing.
 use mathlib.Core.Path.{_≡_, refl, sym, _∙_}
 use Prim.Native.Nat.{_-_, _≤_}
 use lib.ListN.{length, drop}
@@ -58,16 +58,5 @@ returns-2 c =
 pub first-wrong-spec : {M : Type 1} → statement M
 first-wrong-spec =
     tie.close
-    (tie.spec
-    Inv-loop
-    μ-loop
-    loop-holds
-    (λ c. omega arith)
-    (λ c. omega arith)
-    row-form-requires
-    target-requires
-    returns
-    (λ c. omega arith)
-    (λ c. omega arith)
-    loop-again
-    returns-2)
+    (tie.spec Inv-loop μ-loop loop-holds (λ c. omega arith) (λ c. omega arith) row-form-requires target-requires returns (λ c. omega arith)
+    (λ c. omega arith) loop-again returns-2)

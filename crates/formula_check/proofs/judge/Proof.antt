@@ -1,4 +1,4 @@
--- `formula::judge` meets its contract. Assumes nothing.
+-- `formula_check::judge` meets its contract. Assumes nothing.
 use mathlib.Core.Path.{refl, sym, ap₂, _∙_}
 use mathlib.Core.Bool.{true, false}
 use mathlib.Core.Option.{Option}
@@ -9,7 +9,7 @@ use lib.Dec.{ltb}
 use borrow.Author.Tests.{lt-ltb, le-ltb}
 use Rattle.words.specs.Masks.{wide, zeroIn}
 use Rattle.kinds.specs.Refusal.{accepted}
-use Rattle.kinds.specs.SizeLaws.{sizes-bounds}
+use Rattle.kinds.specs.laws.Sizes.{sizes-bounds}
 use Rattle.formula_check.specs.laws.Judging.{judged-as}
 use borrow.Author.Needs.{needs}
 use Rattle.formula_check.proofs.judge.Statement.{statement}
@@ -146,22 +146,6 @@ returns-7 c =
 pub judge-spec : {M : Type 1} → statement M
 judge-spec =
     tie.close
-    (tie.spec
-    any-wide-requires
-    returns
-    any-wide-requires-2
-    returns-2
-    any-wide-requires-3
-    returns-3
-    any-zero-requires
-    returns-4
-    any-zero-requires-2
-    returns-5
-    returns-6
-    (λ c κs. search needs)
-    (λ c κs. search needs)
-    (λ c. search needs)
-    adders-of-requires-3
-    (λ c. search needs)
-    (λ c κs. search needs)
-    returns-7)
+    (tie.spec any-wide-requires returns any-wide-requires-2 returns-2 any-wide-requires-3 returns-3 any-zero-requires returns-4 any-zero-requires-2
+    returns-5 returns-6 (λ c κs. search needs) (λ c κs. search needs) (λ c. search needs) adders-of-requires-3 (λ c. search needs)
+    (λ c κs. search needs) returns-7)

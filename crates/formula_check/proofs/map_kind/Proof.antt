@@ -1,7 +1,7 @@
--- `formula::map_kind` meets its contract. Assumes nothing.
+-- `formula_check::map_kind` meets its contract. Assumes nothing.
 use mathlib.Core.Path.{ap, _∙_}
 use Rattle.kinds.specs.Kinds.{seenKind}
-use Rattle.formula_check.specs.Formula.{known, mapKind}
+use Rattle.formula_check.specs.Formula.{knownMap, mapKind}
 use Rattle.formula_check.proofs.map_kind.Statement.{statement}
 use Rattle.formula_check.proofs.map_kind.Tie as tie
 use Rattle.formula_check.proofs.map_kind.Reads as reads
@@ -18,7 +18,7 @@ enum-told : tie.Need-enum-told
 enum-told c = c .match .keys2
 
 returns : tie.Need-returns
-returns c = ap known (c .before .before .kind-numbered .ensures ∙ ap seenKind (c .enum-told .given .1))
+returns c = ap knownMap (c .before .before .kind-numbered .ensures ∙ ap seenKind (c .enum-told .given .1))
 
 enum-told-2 : tie.Need-enum-told-2
 enum-told-2 c = c .match2 .keys1
@@ -36,35 +36,22 @@ enum-told-6 : tie.Need-enum-told-6
 enum-told-6 c = c .match2 .keys5
 
 returns-2 : tie.Need-returns-2
-returns-2 c = ap known (c .before .before .before .before .before .kind-numbered .ensures ∙ ap seenKind (c .before .before .before .kind .given .1)) ∙ ap mapKind (c .enum-told2 .given .1)
+returns-2 c = ap knownMap (c .before .before .before .before .before .kind-numbered .ensures ∙ ap seenKind (c .before .before .before .kind .given .1)) ∙ ap mapKind (c .enum-told2 .given .1)
 
 returns-3 : tie.Need-returns-3
-returns-3 c = ap known (c .before .before .before .before .before .kind-numbered .ensures ∙ ap seenKind (c .before .before .before .kind .given .1)) ∙ ap mapKind (c .enum-told3 .given .1)
+returns-3 c = ap knownMap (c .before .before .before .before .before .kind-numbered .ensures ∙ ap seenKind (c .before .before .before .kind .given .1)) ∙ ap mapKind (c .enum-told3 .given .1)
 
 returns-4 : tie.Need-returns-4
-returns-4 c = ap known (c .before .before .before .before .before .kind-numbered .ensures ∙ ap seenKind (c .before .before .before .kind .given .1)) ∙ ap mapKind (c .enum-told4 .given .1)
+returns-4 c = ap knownMap (c .before .before .before .before .before .kind-numbered .ensures ∙ ap seenKind (c .before .before .before .kind .given .1)) ∙ ap mapKind (c .enum-told4 .given .1)
 
 returns-5 : tie.Need-returns-5
-returns-5 c = ap known (c .before .before .before .before .before .kind-numbered .ensures ∙ ap seenKind (c .before .before .before .kind .given .1)) ∙ ap mapKind (c .enum-told5 .given .1)
+returns-5 c = ap knownMap (c .before .before .before .before .before .kind-numbered .ensures ∙ ap seenKind (c .before .before .before .kind .given .1)) ∙ ap mapKind (c .enum-told5 .given .1)
 
 returns-6 : tie.Need-returns-6
-returns-6 c = ap known (c .before .before .before .before .before .kind-numbered .ensures ∙ ap seenKind (c .before .before .before .kind .given .1)) ∙ ap mapKind (c .enum-told6 .given .1)
+returns-6 c = ap knownMap (c .before .before .before .before .before .kind-numbered .ensures ∙ ap seenKind (c .before .before .before .kind .given .1)) ∙ ap mapKind (c .enum-told6 .given .1)
 
 pub map-kind-spec : {M : Type 1} → statement M
 map-kind-spec =
     tie.close
-    (tie.spec
-    kind-numbered-requires
-    enum-known-kind
-    enum-told
-    returns
-    enum-told-2
-    enum-told-3
-    enum-told-4
-    enum-told-5
-    enum-told-6
-    returns-2
-    returns-3
-    returns-4
-    returns-5
-    returns-6)
+    (tie.spec kind-numbered-requires enum-known-kind enum-told returns enum-told-2 enum-told-3 enum-told-4 enum-told-5 enum-told-6 returns-2
+    returns-3 returns-4 returns-5 returns-6)

@@ -1,4 +1,4 @@
--- `formula::verdict_on` meets its contract. Assumes nothing.
+-- `formula_check::verdict_on` meets its contract. Assumes nothing.
 use mathlib.Core.Path.{sym, ap, _∙_}
 use mathlib.Core.List.{List}
 use Prim.Native.Nat.{ℕ}
@@ -24,8 +24,10 @@ slice-aggregate-first-wrong c =
 
 first-wrong-requires : tie.Need-first-wrong-requires
 first-wrong-requires c κs =
-    let args = c .before .before .before .before .before .before .args in
-    let pre = c .before .before .before .before .before .before .pre in
+    let the-args = c .before .before .before .before .before .before .args in
+    let the-pre = c .before .before .before .before .before .before .pre in
+    let args = the-args in
+    let pre = the-pre in
     record {
       sized = pre .matching .sized;
       few =
@@ -40,10 +42,4 @@ returns c =
 
 pub verdict-on-spec : {M : Type 1} → statement M
 verdict-on-spec =
-    tie.close
-    (tie.spec
-    (λ c κs. search needs)
-    (λ c. search needs)
-    slice-aggregate-first-wrong
-    first-wrong-requires
-    returns)
+    tie.close (tie.spec (λ c κs. search needs) (λ c. search needs) slice-aggregate-first-wrong first-wrong-requires returns)

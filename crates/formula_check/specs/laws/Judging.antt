@@ -12,7 +12,7 @@ use Rattle.kinds.specs.Sizes.{sizes}
 use Rattle.kinds.specs.Refusal.{refused, accepted, need, refuse}
 use Rattle.words.specs.Masks.{wide, zeroIn}
 use Rattle.kinds.specs.declared.Kind.{Kind}
-use Rattle.formula_check.specs.Formula.{firstWrong, adders, known, lengths, judged, check}
+use Rattle.formula_check.specs.Formula.{firstWrong, adders, knownMap, lengths, judged, check}
 use Rattle.formula_check.specs.sums.Sums.{productForms}
 
 -- ---- 5: the lengths
@@ -62,16 +62,16 @@ module _ (kd : Kind) (p q r n m : ℕ) (xs ys rows : List ℕ) (paired : length 
 
 -- ---- 2 and 3
 module _ (number p q r k : ℕ) (xs ys rows : List ℕ) where
-  pub check-2 : known (kindNumbered number) ≡ none → check number p q r k xs ys rows ≡ refused 2
+  pub check-2 : knownMap (kindNumbered number) ≡ none → check number p q r k xs ys rows ≡ refused 2
   unfolding check
   check-2 e = ap (λ (o : Option Kind). need 2 o λ kd. need 3 (sizes kd p q r) λ z. judged kd p q r (z .0) (z .1) (z .2) k xs ys rows) e
 
-  pub check-kind : (kd : Kind) → known (kindNumbered number) ≡ some kd → check number p q r k xs ys rows ≡ (need 3 (sizes kd p q r) λ z. judged kd p q r (z .0) (z .1) (z .2) k xs ys rows)
+  pub check-kind : (kd : Kind) → knownMap (kindNumbered number) ≡ some kd → check number p q r k xs ys rows ≡ (need 3 (sizes kd p q r) λ z. judged kd p q r (z .0) (z .1) (z .2) k xs ys rows)
   unfolding check
   check-kind kd e = ap (λ (o : Option Kind). need 2 o λ kd. need 3 (sizes kd p q r) λ z. judged kd p q r (z .0) (z .1) (z .2) k xs ys rows) e
 
-  pub check-3 : (kd : Kind) → known (kindNumbered number) ≡ some kd → sizes kd p q r ≡ none → check number p q r k xs ys rows ≡ refused 3
+  pub check-3 : (kd : Kind) → knownMap (kindNumbered number) ≡ some kd → sizes kd p q r ≡ none → check number p q r k xs ys rows ≡ refused 3
   check-3 kd e s = check-kind kd e ∙ ap (λ (o : Option (ℕ × ℕ × ℕ)). need 3 o λ z. judged kd p q r (z .0) (z .1) (z .2) k xs ys rows) s
 
-  pub check-sized : (kd : Kind) (n m u : ℕ) → known (kindNumbered number) ≡ some kd → sizes kd p q r ≡ some (n, m, u) → check number p q r k xs ys rows ≡ judged kd p q r n m u k xs ys rows
+  pub check-sized : (kd : Kind) (n m u : ℕ) → knownMap (kindNumbered number) ≡ some kd → sizes kd p q r ≡ some (n, m, u) → check number p q r k xs ys rows ≡ judged kd p q r n m u k xs ys rows
   check-sized kd n m u e s = check-kind kd e ∙ ap (λ (o : Option (ℕ × ℕ × ℕ)). need 3 o λ z. judged kd p q r (z .0) (z .1) (z .2) k xs ys rows) s

@@ -1,7 +1,7 @@
 -- The parts of a formula.
---   productForms n m xs ys  == the forms of the products, pairs of masks in n and m variables
---   addersOf xs             == the adders of some masks
---   Filled xs n out         == the first n words of the buffer are xs, and it has 64
+--   productForms n m xs ys == the forms of the products, pairs of masks in n and m variables
+--   addersOf xs            == the adders of some masks
+--   FormsFilled xs n out   == the first n words of the buffer are xs, and it has 64
 -- What a row sums: rowForm (forms, Row). Assumes nothing.
 use mathlib.Core.Path.{_≡_}
 use mathlib.Core.List.{List, [], _∷_}
@@ -9,6 +9,7 @@ use Prim.Native.Nat.{ℕ, _+_, _-_}
 use lib.ListN.{length, take}
 use Rattle.forms.specs.products.Product.{productForm}
 use Rattle.forms.specs.Weight.{weight}
+use Rattle.kinds.specs.Limits.{mostProducts}
 
 unfoldable pub productForms : ℕ → ℕ → List ℕ → List ℕ → List ℕ
 productForms n m [] ys = []
@@ -20,6 +21,6 @@ unfoldable pub addersOf : List ℕ → ℕ
 addersOf [] = 0
 addersOf (x ∷ xs) = (weight 64 x - 1) + addersOf xs
 
-pub record Filled (xs : List ℕ) (n : ℕ) (out : List ℕ) : Type 0 where
-  pub whole : length out ≡ 64
+pub record FormsFilled (xs : List ℕ) (n : ℕ) (out : List ℕ) : Type 0 where
+  pub whole : length out ≡ mostProducts
   pub start : take n out ≡ xs

@@ -1,4 +1,4 @@
--- `files::read_formula` meets its contract. Assumes nothing.
+-- `formula_files::read_formula` meets its contract. Assumes nothing.
 use mathlib.Core.Path.{ap, _∙_}
 use Prim.Native.Nat.{ℕ}
 use borrow.Author.Needs.{needs}
@@ -13,16 +13,11 @@ returns : tie.Need-returns
 returns c =
     let far = c .before .before .before .before .before .before .before .before .before .before .before .before in
     let farther = far .before .before .before .before .before .before .before .before .before .before .before .before in
-    let the-args = farther .before .before .before .before .before .args in
-    let the-read-whole = far .before .before .before .before .before .before .before .before .before .read-whole in
-    let the-got = far .before .got in
-    let the-clear = c .before .before .before .before .before .before .before .before .before .before .clear in
-    let the-clear2 = c .before .before .before .before .before .before .clear2 in
-    let args = the-args in
-    let read-whole = the-read-whole in
-    let got = the-got in
-    let clear = the-clear in
-    let clear2 = the-clear2 in
+    let args = farther .before .before .before .before .before .args in
+    let read-whole = far .before .before .before .before .before .before .before .before .before .read-whole in
+    let got = far .before .got in
+    let clear = c .before .before .before .before .before .before .before .before .before .before .clear in
+    let clear2 = c .before .before .before .before .before .before .clear2 in
     let clear3 = c .before .before .clear3 in
     let f : ℕ → List ℕ = λ n. replicate n 0 in
     final-refused (outcome (args .s .now) (length (args .a .now)) (length (args .b .now)) (length (args .rows .now))) _ _ (args .a .now)
@@ -33,28 +28,13 @@ returns c =
 returns-2 : tie.Need-returns-2
 returns-2 c =
     let far = c .before .before .before .before .before .before .before .before .before .before .before .before in
-    let the-args = far .before .before .before .before .before .args in
-    let the-read-whole = c .before .before .before .before .before .before .before .before .before .read-whole in
-    let args = the-args in
-    let read-whole = the-read-whole in
+    let args = far .before .before .before .before .before .args in
+    let read-whole = c .before .before .before .before .before .before .before .before .before .read-whole in
     final-formula (outcome (args .s .now) (length (args .a .now)) (length (args .b .now)) (length (args .rows .now))) _ _ _ _ _ _ (args .a .now)
     (args .b .now) (args .rows .now) _ _ _ (read-whole .ensures .0) (c .before .got2 .given .1) (read-whole .ensures .1)
 
 pub read-formula-spec : {M : Type 1} → statement M
 read-formula-spec =
     tie.close
-    (tie.spec
-    (λ c κs. search needs)
-    (λ c. search needs)
-    (λ c κs. search needs)
-    (λ c κs. search needs)
-    (λ c κs. search needs)
-    (λ c. search needs)
-    (λ c. search needs)
-    (λ c. search needs)
-    (λ c. search needs)
-    returns
-    (λ c. search needs)
-    (λ c. search needs)
-    (λ c. search needs)
-    returns-2)
+    (tie.spec (λ c κs. search needs) (λ c. search needs) (λ c κs. search needs) (λ c κs. search needs) (λ c κs. search needs) (λ c. search needs)
+    (λ c. search needs) (λ c. search needs) (λ c. search needs) returns (λ c. search needs) (λ c. search needs) (λ c. search needs) returns-2)

@@ -1,28 +1,10 @@
--- `files::read_under` meets its contract. Assumes nothing.
+-- `formula_files::read_under` meets its contract. Assumes nothing.
 use mathlib.Core.Path.{ap, _∙_}
 use Rattle.formula_files.specs.lines.Views.{seenBody}
 use Rattle.formula_files.specs.lines.laws.Told.{body-told, body-none}
 use Rattle.formula_files.specs.laws.Outcome.{under-none, under-told}
 use Rattle.formula_files.proofs.read_under.Statement.{statement}
 use Rattle.formula_files.proofs.read_under.Tie as tie
-
-read-body-requires : tie.Need-read-body-requires
-read-body-requires c κs = tt
-
-enum-known-wide : tie.Need-enum-known-wide
-enum-known-wide c = c .match .keys1
-
-enum-told : tie.Need-enum-told
-enum-told c = c .match .keys2
-
-same-length : tie.Need-same-length
-same-length c = c .before .before .before .before .before .before .before .before .read-body .kept .1 .1 .1 .1 .1 .0
-
-same-length-2 : tie.Need-same-length-2
-same-length-2 c = c .before .before .before .before .before .before .before .before .read-body .kept .1 .1 .1 .1 .1 .1 .0
-
-same-length-3 : tie.Need-same-length-3
-same-length-3 c = c .before .before .before .before .before .before .before .before .read-body .kept .1 .1 .1 .1 .1 .1 .1 .0
 
 returns : tie.Need-returns
 returns c =
@@ -31,15 +13,6 @@ returns c =
     let read-body = c .before .before .before .before .before .before .before .before .read-body in
     under-none _ _ _ _ (args .s .now) _ _ _ _ _ _
     (body-none _ _ _ _ (args .s .now) _ _ _ (read-body .ensures ∙ ap (seenBody _ _ _) (c .enum-told .given .1)))
-
-refusal-requires : tie.Need-refusal-requires
-refusal-requires c κs = tt
-
-same-length-4 : tie.Need-same-length-4
-same-length-4 c = c .before .before .before .before .before .before .before .before .before .before .read-body .kept .1 .1 .1 .1 .1 .0
-
-same-length-5 : tie.Need-same-length-5
-same-length-5 c = c .before .before .before .before .before .before .before .before .before .before .read-body .kept .1 .1 .1 .1 .1 .1 .0
 
 same-length-6 : tie.Need-same-length-6
 same-length-6 c = c .before .before .before .before .before .before .before .before .before .before .read-body .kept .1 .1 .1 .1 .1 .1 .1 .0
@@ -56,16 +29,10 @@ returns-2 c =
 pub read-under-spec : {M : Type 1} → statement M
 read-under-spec =
     tie.close
-    (tie.spec
-    read-body-requires
-    enum-known-wide
-    enum-told
-    same-length
-    same-length-2
-    same-length-3
-    returns
-    refusal-requires
-    same-length-4
-    same-length-5
-    same-length-6
+    (tie.spec (λ c κs. tt) (λ c. c .match .keys1) (λ c. c .match .keys2)
+    (λ c. c .before .before .before .before .before .before .before .before .read-body .kept .1 .1 .1 .1 .1 .0)
+    (λ c. c .before .before .before .before .before .before .before .before .read-body .kept .1 .1 .1 .1 .1 .1 .0)
+    (λ c. c .before .before .before .before .before .before .before .before .read-body .kept .1 .1 .1 .1 .1 .1 .1 .0) returns (λ c κs. tt)
+    (λ c. c .before .before .before .before .before .before .before .before .before .before .read-body .kept .1 .1 .1 .1 .1 .0)
+    (λ c. c .before .before .before .before .before .before .before .before .before .before .read-body .kept .1 .1 .1 .1 .1 .1 .0) same-length-6
     returns-2)

@@ -3,7 +3,7 @@
 --   judged-refused, judged-none, judged-is  refusals 6 to 9 by one number, and the formula
 --   Left                  what the attempt leaves in the buffers; Under: what the reading of the lines says; final-refused, final-formula: the whole call
 -- Assumes nothing.
-use Prim.Native.Nat.{ℕ, _-_, _<_, _≤_}
+use Prim.Native.Nat.{ℕ, _-_, _≤_}
 use mathlib.Core.Path.{_≡_, refl, sym, ap, _∙_}
 use mathlib.Core.List.{List}
 use mathlib.Core.Bool.{Bool, true, false, _||_}
@@ -19,7 +19,6 @@ use Rattle.kinds.specs.Sizes.{sizes}
 use Rattle.words.specs.Masks.{wide, zeroIn}
 use Rattle.words.specs.Buffers.{filled, zeros}
 use Rattle.words.specs.laws.Buffers.{filled-sets}
-use Rattle.text.specs.Reading.{_>>=_}
 use Rattle.text.specs.heads.Head.{Head, headLines}
 use Rattle.text.specs.heads.Views.{bytesHead}
 use Rattle.text.specs.declared.heads.HeadRead.{HeadRead}
@@ -27,14 +26,11 @@ use Rattle.text.specs.declared.heads.HeadRead.the-variants as hd
 use Rattle.formula_files.specs.lines.Formula.{body}
 use Rattle.formula_files.specs.refusals.Number.{number}
 use Rattle.formula_files.specs.lines.laws.Told.{Told}
-use Rattle.formula_files.specs.Outcome.{Outcome, refused, formula, need, refuse, isList, judged, rest, outcome}
-use Rattle.formula_files.specs.Lent.{reply, firstOf, secondOf, rowsOf}
+use Rattle.formula_files.specs.Outcome.{Outcome, refused, formula, need, refuse, isList, readJudged, rest, outcome, under}
+use Rattle.formula_files.specs.Lent.{formulaReply, firstOf, secondOf, rowsLent, Left, Under}
 use Rattle.formula_files.specs.declared.Read.{Read}
 use Rattle.formula_files.specs.declared.Read.the-variants as read
-
--- 5 to 9, of the lines under the first two
-abbrev pub under : (kind : Kind) (p q r k n m t la lb lr : ℕ) → List ℕ → Outcome
-under kind p q r k n m t la lb lr s = need 5 (body k t s) λ d. judged kind p q r k n m t la lb lr (d .0) (d .1) (d .2)
+use Rattle.kinds.specs.Limits.{mostProducts}
 
 -- ---- the outcome
 module _ (s : List ℕ) (la lb lr : ℕ) where
@@ -68,7 +64,7 @@ module _ (kd : Option Kind) (p q r k : ℕ) (t : List ℕ) (la lb lr : ℕ) wher
   rest-under kind n m o e f g = rw (e, f, g)
 
   pub rest-judged : (kind : Kind) (n m o : ℕ) (xs ys zs : List ℕ) → kd ≡ some kind → isList kind ≡ false → sizes kind p q r ≡ some (n, m, o) → body k o t ≡ some (xs, ys, zs)
-      → restOf ≡ judged kind p q r k n m o la lb lr xs ys zs
+      → restOf ≡ readJudged kind p q r k n m o la lb lr xs ys zs
   unfolding rest
   rest-judged kind n m o xs ys zs e f g i = rw (e, f, g, i)
 
@@ -97,33 +93,29 @@ module _ (kind : Kind) (p q r k n m t la lb lr : ℕ) (xs ys zs : List ℕ) wher
   Nonzero z = z ≡ (zeroIn xs || zeroIn ys)
 
   abbrev judgedOf : Outcome
-  judgedOf = judged kind p q r k n m t la lb lr xs ys zs
+  judgedOf = readJudged kind p q r k n m t la lb lr xs ys zs
 
-  pub judged-refused : (w z : Bool) (la′ lb′ lr′ e : ℕ) → Narrow w → Nonzero z → la′ ≡ la → lb′ ≡ lb → lr′ ≡ lr → e ≡ number w z (ltb 64 k) (ltb la′ k || (ltb lb′ k || ltb lr′ t)) → (e ≡ 0 → ⊥)
+  pub judged-refused : (w z : Bool) (la′ lb′ lr′ e : ℕ) → Narrow w → Nonzero z → la′ ≡ la → lb′ ≡ lb → lr′ ≡ lr → e ≡ number w z (ltb mostProducts k) (ltb la′ k || (ltb lb′ k || ltb lr′ t)) → (e ≡ 0 → ⊥)
       → judgedOf ≡ refused e
-  unfolding judged
+  unfolding readJudged
   judged-refused w z la′ lb′ lr′ e hw hz ha hb hd h n =
-      rw (← hw, ← hz, ← ha, ← hb, ← hd) (number-some w z (ltb 64 k) (ltb la′ k || (ltb lb′ k || ltb lr′ t)) (formula kind p q r k xs ys zs) e h n)
+      rw (← hw, ← hz, ← ha, ← hb, ← hd) (number-some w z (ltb mostProducts k) (ltb la′ k || (ltb lb′ k || ltb lr′ t)) (formula kind p q r k xs ys zs) e h n)
 
-  pub judged-none : (w z : Bool) (la′ lb′ lr′ e : ℕ) → Narrow w → Nonzero z → la′ ≡ la → lb′ ≡ lb → lr′ ≡ lr → e ≡ number w z (ltb 64 k) (ltb la′ k || (ltb lb′ k || ltb lr′ t)) → e ≡ 0
+  pub judged-none : (w z : Bool) (la′ lb′ lr′ e : ℕ) → Narrow w → Nonzero z → la′ ≡ la → lb′ ≡ lb → lr′ ≡ lr → e ≡ number w z (ltb mostProducts k) (ltb la′ k || (ltb lb′ k || ltb lr′ t)) → e ≡ 0
       → judgedOf ≡ formula kind p q r k xs ys zs
-  unfolding judged
+  unfolding readJudged
   judged-none w z la′ lb′ lr′ e hw hz ha hb hd h n =
-      rw (← hw, ← hz, ← ha, ← hb, ← hd) (number-none w z (ltb 64 k) (ltb la′ k || (ltb lb′ k || ltb lr′ t)) (formula kind p q r k xs ys zs) (sym h ∙ n) .0)
+      rw (← hw, ← hz, ← ha, ← hb, ← hd) (number-none w z (ltb mostProducts k) (ltb la′ k || (ltb lb′ k || ltb lr′ t)) (formula kind p q r k xs ys zs) (sym h ∙ n) .0)
 
-  pub judged-is : Narrow false → Nonzero false → k ≤ 64 → (ltb la k || (ltb lb k || ltb lr t)) ≡ false → judgedOf ≡ formula kind p q r k xs ys zs
-  unfolding judged
-  judged-is w z h a = rw (← w, ← z, le-ltb 64 k h, a)
+  pub judged-is : Narrow false → Nonzero false → k ≤ mostProducts → (ltb la k || (ltb lb k || ltb lr t)) ≡ false → judgedOf ≡ formula kind p q r k xs ys zs
+  unfolding readJudged
+  judged-is w z h a = rw (← w, ← z, le-ltb mostProducts k h, a)
 
--- what the attempt leaves behind
-abbrev pub Left : Outcome → (a b d a₁ b₁ d₁ : List ℕ) → Type 0
-Left (refused e) a b d a₁ b₁ d₁ = Unit {0}
-Left (formula kind p q r k xs ys zs) a b d a₁ b₁ d₁ = (a₁ ≡ filled xs a) × (b₁ ≡ filled ys b) × (d₁ ≡ filled zs d)
-
-pub left-refused : (o : Outcome) (e : ℕ) (a b d a₁ b₁ d₁ : List ℕ) → o ≡ refused e → (read.Refused e ≡ reply o) × Left o a b d a₁ b₁ d₁
+pub left-refused : (o : Outcome) (e : ℕ) (a b d a₁ b₁ d₁ : List ℕ) → o ≡ refused e → (read.Refused e ≡ formulaReply o) × Left o a b d a₁ b₁ d₁
 left-refused o e a b d a₁ b₁ d₁ h = rw h (refl, tt)
 
-pub left-formula : (o : Outcome) (kind : Kind) (p q r k : ℕ) (xs ys zs a b d a₁ b₁ d₁ : List ℕ) → o ≡ formula kind p q r k xs ys zs → a₁ ≡ filled xs a → b₁ ≡ filled ys b → d₁ ≡ filled zs d → (read.Formula kind p q r k ≡ reply o) × Left o a b d a₁ b₁ d₁
+pub left-formula : (o : Outcome) (kind : Kind) (p q r k : ℕ) (xs ys zs a b d a₁ b₁ d₁ : List ℕ) → o ≡ formula kind p q r k xs ys zs
+    → a₁ ≡ filled xs a → b₁ ≡ filled ys b → d₁ ≡ filled zs d → (read.Formula kind p q r k ≡ formulaReply o) × Left o a b d a₁ b₁ d₁
 left-formula o kind p q r k xs ys zs a b d a₁ b₁ d₁ h ha hb hd = rw h (refl, (ha, hb, hd))
 
 pub room : (k t la lb lr : ℕ) → (ltb la k || (ltb lb k || ltb lr t)) ≡ false → (k ≤ la) × (k ≤ lb) × (t ≤ lr)
@@ -136,21 +128,17 @@ room k t la lb lr e = go (ltb la k) (ltb lb k) (ltb lr t) refl refl refl e
     go false false false a b c f = (ltb-false la k a, ltb-false lb k b, ltb-false lr t c)
 
 -- the buffers are as long after the attempt as before it
-pub number-room : (w z : Bool) (k t la lb lr la′ lb′ lr′ e : ℕ) → la′ ≡ la → lb′ ≡ lb → lr′ ≡ lr → e ≡ number w z (ltb 64 k) (ltb la′ k || (ltb lb′ k || ltb lr′ t)) → e ≡ 0
+pub number-room : (w z : Bool) (k t la lb lr la′ lb′ lr′ e : ℕ) → la′ ≡ la → lb′ ≡ lb → lr′ ≡ lr → e ≡ number w z (ltb mostProducts k) (ltb la′ k || (ltb lb′ k || ltb lr′ t)) → e ≡ 0
     → (k ≤ la) × (k ≤ lb) × (t ≤ lr)
 number-room w z k t la lb lr la′ lb′ lr′ e ha hb hd h n =
-    rw (← ha, ← hb, ← hd) (room k t la′ lb′ lr′ (number-none w z (ltb 64 k) (ltb la′ k || (ltb lb′ k || ltb lr′ t)) (refused 0) (sym h ∙ n) .1))
-
--- what the number e of the refusal, or 0, and the buffers say of the lines under the first two
-pub record Under (k n m t : ℕ) (s a b d a₁ b₁ d₁ : List ℕ) (e : ℕ) : Type 0 where
-  pub stopped : (kind : Kind) (p q r : ℕ) → (e ≡ 0 → ⊥) → under kind p q r k n m t (length a) (length b) (length d) s ≡ refused e
-  pub all : (kind : Kind) (p q r : ℕ) → e ≡ 0 → (read.Formula kind p q r k ≡ reply (under kind p q r k n m t (length a) (length b) (length d) s)) × Left (under kind p q r k n m t (length a) (length b) (length d) s) a b d a₁ b₁ d₁
+    rw (← ha, ← hb, ← hd) (room k t la′ lb′ lr′ (number-none w z (ltb mostProducts k) (ltb la′ k || (ltb lb′ k || ltb lr′ t)) (refused 0) (sym h ∙ n) .1))
 
 module _ (k n m t : ℕ) (s a b d a₁ b₁ d₁ : List ℕ) where
   pub under-none : body k t s ≡ none → Under k n m t s a b d a₁ b₁ d₁ 5
   under-none e = record { stopped = λ kind p q r h. rw e; all = λ kind p q r h. absurd (let q : _≡_ {A = ℕ} 5 0 = h in omega arith) }
 
-  pub under-told : (w z : Bool) (la lb lr e : ℕ) → Told n m k t s a b d a₁ b₁ d₁ w z → la ≡ length a → lb ≡ length b → lr ≡ length d → e ≡ number w z (ltb 64 k) (ltb la k || (ltb lb k || ltb lr t)) → Under k n m t s a b d a₁ b₁ d₁ e
+  pub under-told : (w z : Bool) (la lb lr e : ℕ) → Told n m k t s a b d a₁ b₁ d₁ w z → la ≡ length a → lb ≡ length b → lr ≡ length d
+      → e ≡ number w z (ltb mostProducts k) (ltb la k || (ltb lb k || ltb lr t)) → Under k n m t s a b d a₁ b₁ d₁ e
   under-told w z la lb lr e l ha hb hd h = record {
     stopped = λ kind p q r x. judges kind p q r ∙ judged-refused kind p q r k n m t (length a) (length b) (length d) (l .xs) (l .ys) (l .zs) w z la lb lr e (l .toowide) (l .haszero) ha hb hd h x;
     all = λ kind p q r x.
@@ -160,24 +148,24 @@ module _ (k n m t : ℕ) (s a b d a₁ b₁ d₁ : List ℕ) where
         (l .first ∙ filled-sets (l .xs) a k (l .xlong) (f .0)) (l .second ∙ filled-sets (l .ys) b k (l .ylong) (f .1)) (l .third ∙ filled-sets (l .zs) d t (l .zlong) (f .2));
   }
     where
-      judges : (kind : Kind) (p q r : ℕ) → under kind p q r k n m t (length a) (length b) (length d) s ≡ judged kind p q r k n m t (length a) (length b) (length d) (l .xs) (l .ys) (l .zs)
+      judges : (kind : Kind) (p q r : ℕ) → under kind p q r k n m t (length a) (length b) (length d) s ≡ readJudged kind p q r k n m t (length a) (length b) (length d) (l .xs) (l .ys) (l .zs)
       judges kind p q r = rw (l .is)
 
 -- the same of the part of s from u on
 pub under-at : (k n m t : ℕ) (s : List ℕ) (u : ℕ) (a b d a₁ b₁ d₁ : List ℕ) (e : ℕ) → Under k n m t (take (length s - u) (drop u s)) a b d a₁ b₁ d₁ e → Under k n m t (drop u s) a b d a₁ b₁ d₁ e
 under-at k n m t s u a b d a₁ b₁ d₁ e h = rw (part-to-end s u) at h
 
-pub left-under : (o o′ : Outcome) (x : Read) (a b d a₁ b₁ d₁ : List ℕ) → o ≡ o′ → (x ≡ reply o′) × Left o′ a b d a₁ b₁ d₁ → (x ≡ reply o) × Left o a b d a₁ b₁ d₁
+pub left-under : (o o′ : Outcome) (x : Read) (a b d a₁ b₁ d₁ : List ℕ) → o ≡ o′ → (x ≡ formulaReply o′) × Left o′ a b d a₁ b₁ d₁ → (x ≡ formulaReply o) × Left o a b d a₁ b₁ d₁
 left-under o o′ x a b d a₁ b₁ d₁ e h = rw e h
 
 -- the whole call
-pub final-refused : (o : Outcome) (e : ℕ) (r : Read) (a b d a₁ b₁ d₁ : List ℕ) → r ≡ reply o → r ≡ read.Refused e → a₁ ≡ zeros a → b₁ ≡ zeros b → d₁ ≡ zeros d
-    → (read.Refused e ≡ reply o) × (a₁ ≡ firstOf o a) × (b₁ ≡ secondOf o b) × (d₁ ≡ rowsOf o d)
+pub final-refused : (o : Outcome) (e : ℕ) (r : Read) (a b d a₁ b₁ d₁ : List ℕ) → r ≡ formulaReply o → r ≡ read.Refused e → a₁ ≡ zeros a → b₁ ≡ zeros b → d₁ ≡ zeros d
+    → (read.Refused e ≡ formulaReply o) × (a₁ ≡ firstOf o a) × (b₁ ≡ secondOf o b) × (d₁ ≡ rowsLent o d)
 final-refused (refused x) e r a b d a₁ b₁ d₁ h g ha hb hd = (sym g ∙ h, ha, hb, hd)
 final-refused (formula kind p q r′ k xs ys zs) e r a b d a₁ b₁ d₁ h g ha hb hd = absurd (let q : _≡_ {A = ℕ} 0 1 = cc in omega arith)
 
-pub final-formula : (o : Outcome) (kind : Kind) (p q r′ k : ℕ) (r : Read) (a b d a₁ b₁ d₁ : List ℕ) → r ≡ reply o → r ≡ read.Formula kind p q r′ k → Left o a b d a₁ b₁ d₁
-    → (read.Formula kind p q r′ k ≡ reply o) × (a₁ ≡ firstOf o a) × (b₁ ≡ secondOf o b) × (d₁ ≡ rowsOf o d)
+pub final-formula : (o : Outcome) (kind : Kind) (p q r′ k : ℕ) (r : Read) (a b d a₁ b₁ d₁ : List ℕ) → r ≡ formulaReply o → r ≡ read.Formula kind p q r′ k → Left o a b d a₁ b₁ d₁
+    → (read.Formula kind p q r′ k ≡ formulaReply o) × (a₁ ≡ firstOf o a) × (b₁ ≡ secondOf o b) × (d₁ ≡ rowsLent o d)
 final-formula (refused x) kind p q r′ k r a b d a₁ b₁ d₁ h g l = absurd (let q : _≡_ {A = ℕ} 0 1 = cc in omega arith)
 final-formula (formula kind′ p′ q′ r″ k′ xs ys zs) kind p q r′ k r a b d a₁ b₁ d₁ h g l = (sym g ∙ h, l .0, l .1, l .2)
 

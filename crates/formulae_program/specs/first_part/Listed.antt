@@ -1,9 +1,9 @@
 -- A problem with its Catalogue, and what the Formulae program prints of it first.
---   Listed            == a problem and its Catalogue
---   listed P          == the problem P of a file with its Catalogue, or its refusal
---   listedInput s     == those of the input s, or its refusal
---   headText ..       == Catalogue's first two lines, and the names of a formula's line
---   firstPart L       == those of a problem with its Catalogue
+--   PlanListed      == a problem and its Catalogue
+--   listedEntries P == the problem P of a file with its Catalogue, or its refusal
+--   listedInput s   == those of the input s, or its refusal
+--   formulaeHead .. == Catalogue's first two lines, and the names of a formula's line
+--   firstPart L     == those of a problem with its Catalogue
 -- What Formulae prints is decided (docs/DECISIONS.md). Assumes nothing.
 use Prim.Native.Nat.{ℕ}
 use mathlib.Core.List.{List, [], _∷_, _++_}
@@ -18,27 +18,27 @@ use Rattle.printing.specs.refusals.Pages.{listingRoom}
 use Rattle.problem_files.specs.inputs.Inputs.{inputOf}
 use Rattle.text.specs.Line.{LF}
 
-pub record Listed : Type 0 where
+pub record PlanListed : Type 0 where
   pub problem : ProblemFile
   pub said : Catalogued
 
-abbrev pub listed : ProblemFile → Answer Listed
-listed P =
+abbrev pub listedEntries : ProblemFile → Answer PlanListed
+listedEntries P =
     follow (catalogue (numberOf (P .kind)) (P .p) (P .q) (P .r) (P .k) (P .generators) (P .targets) listingRoom) λ c.
     accepted (record { problem = P; said = c })
 
-unfoldable pub listedInput : List ℕ → Answer Listed
-listedInput s = follow (inputOf purpose.Catalogue s) listed
+unfoldable pub listedInput : List ℕ → Answer PlanListed
+listedInput s = follow (inputOf purpose.Catalogue s) listedEntries
 
 -- `entry,formula,products,rows`
 abbrev pub formulaeNames : List ℕ
 formulaeNames =
     101 ∷ 110 ∷ 116 ∷ 114 ∷ 121 ∷ 44 ∷ 102 ∷ 111 ∷ 114 ∷ 109 ∷ 117 ∷ 108 ∷ 97 ∷ 44 ∷ 112 ∷ 114 ∷ 111 ∷ 100 ∷ 117 ∷ 99 ∷ 116 ∷ 115 ∷ 44 ∷ 114 ∷ 111 ∷ 119 ∷ 115 ∷ LF ∷ []
 
-unfoldable pub headText : Kind → (p q r k ell found shown : ℕ) → List ℕ
-headText kind p q r k ell found shown = countsText kind p q r k ell found shown ++ formulaeNames
+unfoldable pub formulaeHead : Kind → (p q r k ell found shown : ℕ) → List ℕ
+formulaeHead kind p q r k ell found shown = countsText kind p q r k ell found shown ++ formulaeNames
 
-abbrev pub firstPart : Listed → List ℕ
+abbrev pub firstPart : PlanListed → List ℕ
 firstPart L =
     let P = L .problem in
-    headText (P .kind) (P .p) (P .q) (P .r) (P .k) (L .said .ell) (L .said .found) (L .said .shown)
+    formulaeHead (P .kind) (P .p) (P .q) (P .r) (P .k) (L .said .ell) (L .said .found) (L .said .shown)

@@ -9,11 +9,12 @@ use lib.ListN.{take}
 use Rattle.kinds.specs.Kinds.{numberOf}
 use Rattle.kinds.specs.Refusal.{Answer, refused, accepted}
 use Rattle.printing.specs.fields.RefusedText.{refusedText}
-use Rattle.formulae_program.specs.plan.Plans.{Ready}
+use Rattle.formulae_program.specs.plan.Plans.{PlanReady}
 use Rattle.formulae_program.specs.declared.plan.Plan.{Plan}
-use Rattle.formulae_program.specs.first_part.Listed.{Listed, firstPart}
+use Rattle.formulae_program.specs.first_part.Listed.{PlanListed, firstPart}
+use Rattle.printing.specs.refusals.Pages.{partPage}
 
-pub record Follows (L : Listed) (x : Plan) (g t listing : List ℕ) : Type 0 where
+pub record Follows (L : PlanListed) (x : Plan) (g t listing : List ℕ) : Type 0 where
   pub number : x .number ≡ numberOf (L .problem .kind)
   pub p : x .p ≡ L .problem .p
   pub q : x .q ≡ L .problem .q
@@ -25,11 +26,20 @@ pub record Follows (L : Listed) (x : Plan) (g t listing : List ℕ) : Type 0 whe
   pub shown : x .shown ≡ L .said .shown
   pub buffer : listing ≡ L .said .buffer
 
-abbrev pub Printing : Answer Listed → Plan → (g t listing page : List ℕ) → Type 0
+abbrev pub Printing : Answer PlanListed → Plan → (g t listing page : List ℕ) → Type 0
 Printing (refused e) x g t listing page = (take (x .head) page ≡ refusedText e) × (x .shown ≡ 0)
 Printing (accepted L) x g t listing page = (take (x .head) page ≡ firstPart L) × Follows L x g t listing
 
-pub record Starts (o : Answer Listed) (x : Plan) (g t listing page : List ℕ) : Type 0 where
+pub record Starts (o : Answer PlanListed) (x : Plan) (g t listing page : List ℕ) : Type 0 where
   pub prints : Printing o x g t listing page
-  pub room : x .head ≤ 278528
-  pub ready : Ready x g t listing
+  pub room : x .head ≤ partPage
+  pub ready : PlanReady x g t listing
+
+pub record Empty (n : ℕ) (x : Plan) (page : List ℕ) : Type 0 where
+  pub text : take (x .head) page ≡ refusedText n
+  pub head : x .head ≤ 32
+  pub generators : x .generators ≡ 0
+  pub targets : x .targets ≡ 0
+  pub numbers : x .numbers ≡ 0
+  pub rows : x .rows ≡ 0
+  pub shown : x .shown ≡ 0

@@ -20,13 +20,13 @@ use Rattle.kinds.specs.declared.Kind.{Kind}
 use Rattle.kinds.specs.declared.Kind.the-variants as kind
 use Rattle.kinds.specs.Sizes.{sizes}
 use Rattle.kinds.specs.Refusal.{Answer, accepted, need, refuse, follow}
-use Rattle.kinds.specs.RefusalLaws.{accepted-inj, follow-inv, refuse-inv}
+use Rattle.kinds.specs.laws.Refusal.{accepted-inj, follow-inv, refuse-inv}
 use Rattle.words.specs.Masks.{wide, zeroIn}
 use Rattle.linear.specs.Basis.{dim}
 use Rattle.linear.specs.Entry.{Solution, generatorsIn, inside, space, entries}
-use Rattle.linear.specs.Word.{word}
+use Rattle.linear.specs.Word.{word, Below}
 use Rattle.linear.specs.Theorems.{entry-solves}
-use Rattle.linear.specs.laws.Word.{Below, span-below}
+use Rattle.linear.specs.laws.Word.{span-below}
 use Rattle.linear.specs.laws.Span.{mem-cons, span-mem}
 use Rattle.linear.specs.laws.Select.{only-mem}
 use Rattle.linear.specs.laws.Order.{mem-map}
@@ -42,6 +42,7 @@ use Rattle.catalogue.specs.Catalogue as search
 use Rattle.space_formulae.specs.spaces.Spaces.{Formulae, isEntry, formulaeOf}
 use Rattle.space_formulae.specs.spaces.Spaces as spaces
 use Rattle.space_formulae.specs.spaces.laws.Entry.{is-entry}
+use Rattle.kinds.specs.Limits.{mostGenerators}
 
 -- ---- the rows in a listing of records es ++ f es
 module _ (f : List ℕ → List ℕ) (d k : ℕ) where
@@ -91,9 +92,9 @@ module _ (gens targets : List ℕ) (k : ℕ) where
       let b = E .size in
       (omega (arith, r, b, length-append es (space word gens targets es)), b)
 
-listing-entry : (x : Problem) (k : ℕ) (old : List ℕ) (i : ℕ) → i < search.listing x k old .shown
-    → (W : List ℕ) × Solution word (x .generators) (x .targets) k W × (take k (drop (i * ((k - dim word (x .targets)) + k) + (k - dim word (x .targets))) (search.listing x k old .buffer)) ≡ W)
-unfolding search.listing records
+listing-entry : (x : Problem) (k : ℕ) (old : List ℕ) (i : ℕ) → i < search.entryListing x k old .shown
+    → (W : List ℕ) × Solution word (x .generators) (x .targets) k W × (take k (drop (i * ((k - dim word (x .targets)) + k) + (k - dim word (x .targets))) (search.entryListing x k old .buffer)) ≡ W)
+unfolding search.entryListing records
 listing-entry x k old i h =
     let gens = x .generators in
     let targets = x .targets in
@@ -147,7 +148,7 @@ module _ (p q r : ℕ) (gs ts : List ℕ) (x : Problem) (k : ℕ) (W : List ℕ)
       let T = listed-taken p q r gs ts [] x e in
       let b : Below p (x .generators) = subst (λ (y : Problem). Below p (y .generators)) (sym (T .is)) (wide-below p gs (T .generators-fit)) in
       let w : wide p W ≡ false = below-wide p W (rows-below p (x .generators) (x .targets) k W E b) in
-      ap (λ (t : Bool). refuse 4 (ltb 4095 q) (refuse 5 (unlike q r gs ts) (refuse 6 (wide p gs || (wide p ts || t)) (refuse 7 (zeroIn gs || repeats gs) (accepted (problem gs ts)))))) w ∙ e
+      ap (λ (t : Bool). refuse 4 (ltb mostGenerators q) (refuse 5 (unlike q r gs ts) (refuse 6 (wide p gs || (wide p ts || t)) (refuse 7 (zeroIn gs || repeats gs) (accepted (problem gs ts)))))) w ∙ e
 
   sorted-with : (kd : Kind) (n m u : ℕ) → sorted kd p q r n m u gs ts [] ≡ accepted x → sorted kd p q r n m u gs ts W ≡ accepted x
   sorted-with kind.Poly n m u e = mapped-with kind.Poly n m u e
@@ -165,24 +166,25 @@ module _ (p q r : ℕ) (gs ts : List ℕ) (x : Problem) (k : ℕ) (W : List ℕ)
       ∙ ap (λ (o : Option (ℕ × ℕ × ℕ)). need 3 o (after (K .kd))) (K .sized)
       ∙ sorted-with (K .kd) (K .n) (K .m) (K .u) (K .rest)
 
-  formulae-with : (number : ℕ) (old : List ℕ) → posed number p q r gs ts [] ≡ accepted x → k ≤ dim word (x .targets) + 6 → formulaeOf number p q r gs ts W old ≡ accepted (spaces.listing x W old)
+  formulae-with : (number : ℕ) (old : List ℕ) → posed number p q r gs ts [] ≡ accepted x → k ≤ dim word (x .targets) + 6 → formulaeOf number p q r gs ts W old ≡ accepted (spaces.formulaeListing x W old)
   unfolding formulaeOf
   formulae-with number old e h =
       let size : length W ≡ k = E .size in
       let far : ltb (dim word (x .targets) + 6) (length W) ≡ false = le-ltb (dim word (x .targets) + 6) (length W) (omega arith) in
       let good : isEntry (x .generators) (x .targets) W ≡ true = is-entry (x .generators) (x .targets) W .1 (subst (λ (n : ℕ). Solution word (x .generators) (x .targets) n W) (sym size) E) in
-      ap (λ (o : Answer Problem). follow o λ y. refuse 8 (ltb (dim word (y .targets) + 6) (length W)) (refuse 10 (not (isEntry (y .generators) (y .targets) W)) (accepted (spaces.listing y W old)))) (posed-with number e)
-      ∙ ap₂ (λ (a b : Bool). refuse 8 a (refuse 10 (not b) (accepted (spaces.listing x W old)))) far good
+      ap (λ (o : Answer Problem). follow o λ y. refuse 8 (ltb (dim word (y .targets) + 6) (length W))
+      (refuse 10 (not (isEntry (y .generators) (y .targets) W)) (accepted (spaces.formulaeListing y W old)))) (posed-with number e)
+      ∙ ap₂ (λ (a b : Bool). refuse 8 a (refuse 10 (not b) (accepted (spaces.formulaeListing x W old)))) far good
 
 pub entry-accepted : (number p q r k : ℕ) (gs ts old room : List ℕ) (c : Catalogued) → catalogue number p q r k gs ts old ≡ accepted c → (i : ℕ) → i < c .shown
     → (f : Formulae) × (formulaeOf number p q r gs ts (take k (drop (i * ((k - c .ell) + k) + (k - c .ell)) (c .buffer))) room ≡ accepted f)
-unfolding catalogue search.listing
+unfolding catalogue search.entryListing
 entry-accepted number p q r k gs ts old room c e i h =
-    let a = follow-inv (posed number p q r gs ts []) (λ x. refuse 8 (ltb (dim word (x .targets) + 6) k) (accepted (search.listing x k old))) c e in
+    let a = follow-inv (posed number p q r gs ts []) (λ x. refuse 8 (ltb (dim word (x .targets) + 6) k) (accepted (search.entryListing x k old))) c e in
     let x : Problem = a .0 in
-    let b = refuse-inv 8 (ltb (dim word (x .targets) + 6) k) (accepted (search.listing x k old)) c (a .2) in
-    let l : search.listing x k old ≡ c = accepted-inj (search.listing x k old) c (b .1) in
+    let b = refuse-inv 8 (ltb (dim word (x .targets) + 6) k) (accepted (search.entryListing x k old)) c (a .2) in
+    let l : search.entryListing x k old ≡ c = accepted-inj (search.entryListing x k old) c (b .1) in
     let w = listing-entry x k old i (subst (λ (y : Catalogued). i < y .shown) (sym l) h) in
     let g = formulae-with p q r gs ts x k (w .0) (w .1) number room (a .1) (ltb-false (dim word (x .targets) + 6) k (b .0)) in
     subst (λ (y : Catalogued). (f : Formulae) × (formulaeOf number p q r gs ts (take k (drop (i * ((k - y .ell) + k) + (k - y .ell)) (y .buffer))) room ≡ accepted f)) l
-    (spaces.listing x (w .0) room, ap (λ (rows : List ℕ). formulaeOf number p q r gs ts rows room) (w .2) ∙ g)
+    (spaces.formulaeListing x (w .0) room, ap (λ (rows : List ℕ). formulaeOf number p q r gs ts rows room) (w .2) ∙ g)

@@ -15,7 +15,7 @@ use lib.ListN.{length, take}
 use lib.Dec.{ltb}
 use borrow.Author.Tests.{ltb-false}
 use Rattle.kinds.specs.Refusal.{Answer, refused, accepted, refuse, follow}
-use Rattle.kinds.specs.RefusalLaws.{accepted-inj, refuse-inv}
+use Rattle.kinds.specs.laws.Refusal.{accepted-inj, refuse-inv}
 use Rattle.linear.specs.Basis.{dim}
 use Rattle.linear.specs.Formulae.{formulae}
 use Rattle.linear.specs.Word.{word}
@@ -24,29 +24,26 @@ use Rattle.catalogue.specs.listing.Listing.{fitting}
 use Rattle.catalogue.specs.listing.laws.Run.{fitting-in}
 use Rattle.problems.specs.Problem.{Problem, posed}
 use Rattle.problems.specs.Theorems.{posed-few}
-use Rattle.space_formulae.specs.spaces.Spaces.{Formulae, isEntry, recordSize, listing, formulaeOf, seenFormulae}
+use Rattle.space_formulae.specs.spaces.Spaces.{Formulae, isEntry, recordSize, formulaeListing, formulaeOf, seenFormulae}
 use Rattle.space_formulae.specs.declared.spaces.Listed.{Listed as Reply}
 use Rattle.space_formulae.specs.declared.spaces.Listed.the-variants as reply
 use Rattle.printing.specs.fields.Piece.{Piece}
 use Rattle.printing.specs.fields.laws.Pieces.{whole}
 use Rattle.printing.specs.fields.RefusedText.{refusedText}
 use Rattle.printing.specs.record_lines.RecordLines.{Records}
+use Rattle.printing.specs.record_lines.laws.Lines.{records-held}
 use Rattle.formulae_text.specs.lines.FormulaLines.{formulaeText}
-use Rattle.printing.specs.refusals.Pages.{listingRoom, printed}
+use Rattle.printing.specs.refusals.Pages.{listingRoom, answerText, partPage}
 use Rattle.problems.specs.targets.Targets.{Measured, Measures}
 use Rattle.problems.specs.declared.targets.Targets.{Targets}
 use Rattle.problems.specs.declared.targets.Targets.the-variants as targets
-use Rattle.formulae_text.specs.FormulaAnswers.{formulaeAnswer, entryFormulae}
-
-pub record Counts (asked : Answer Problem) (t : ℕ) : Type 0 where
-  pub x : Problem
-  pub is : asked ≡ accepted x
-  pub count : t ≡ length (x .targets)
+use Rattle.formulae_text.specs.FormulaAnswers.{formulaeAnswer, entryFormulae, Counts}
+use Rattle.text.specs.Limits.{programWords}
 
 -- ---- how many formulae are listed
-pub record Fitted (k t n : ℕ) : Type 0 where
-  pub held : n * (k + t) ≤ 4096
-  pub few : n ≤ 4096
+pub record FormulaeFitted (k t n : ℕ) : Type 0 where
+  pub held : n * (k + t) ≤ programWords
+  pub few : n ≤ programWords
   pub rows : k ≤ 70
   pub outputs : t ≤ 64
 
@@ -54,19 +51,19 @@ abbrev told : ℕ → Bool → List ℕ → Formulae
 told n w after = record { listed = n; whole = w; buffer = after }
 
 fitted : (number p q r : ℕ) (gs ts rows : List ℕ) (x : Problem) (n : ℕ) (w : Bool) (after : List ℕ) → posed number p q r gs ts rows ≡ accepted x
-    → formulaeOf number p q r gs ts rows listingRoom ≡ accepted (told n w after) → Fitted (length rows) (length (x .targets)) n
-unfolding formulaeOf listing
+    → formulaeOf number p q r gs ts rows listingRoom ≡ accepted (told n w after) → FormulaeFitted (length rows) (length (x .targets)) n
+unfolding formulaeOf formulaeListing
 fitted number p q r gs ts rows x n w after a e =
-    let last : Problem → Answer Formulae = λ y. refuse 10 (not (isEntry (y .generators) (y .targets) rows)) (accepted (listing y rows listingRoom)) in
+    let last : Problem → Answer Formulae = λ y. refuse 10 (not (isEntry (y .generators) (y .targets) rows)) (accepted (formulaeListing y rows listingRoom)) in
     let step : Problem → Answer Formulae = λ y. refuse 8 (ltb (dim word (y .targets) + 6) (length rows)) (last y) in
     let i : step x ≡ accepted (told n w after) = sym (ap (λ (o : Answer Problem). follow o step) a) ∙ e in
     let j = refuse-inv 8 (ltb (dim word (x .targets) + 6) (length rows)) (last x) (told n w after) i in
-    let k = refuse-inv 10 (not (isEntry (x .generators) (x .targets) rows)) (accepted (listing x rows listingRoom)) (told n w after) (j .1) in
-    let l : listing x rows listingRoom ≡ told n w after = accepted-inj (listing x rows listingRoom) (told n w after) (k .1) in
+    let k = refuse-inv 10 (not (isEntry (x .generators) (x .targets) rows)) (accepted (formulaeListing x rows listingRoom)) (told n w after) (j .1) in
+    let l : formulaeListing x rows listingRoom ≡ told n w after = accepted-inj (formulaeListing x rows listingRoom) (told n w after) (k .1) in
     let c : ℕ = length (formulae word (x .generators) rows) in
     let size : ℕ = recordSize (x .targets) rows in
-    let m : fitting size c 4096 ≡ n = ap (λ (f : Formulae). f .listed) l in
-    let h : n * size ≤ 4096 = subst (λ (z : ℕ). z * size ≤ 4096) m (fitting-in size c 4096) in
+    let m : fitting size c programWords ≡ n = ap (λ (f : Formulae). f .listed) l in
+    let h : n * size ≤ programWords = subst (λ (z : ℕ). z * size ≤ programWords) m (fitting-in size c programWords) in
     let F = posed-few p q r gs ts rows x number a in
     let s : 1 ≤ size = (let f = F .some-target in omega arith) in
     let b : n * 1 ≤ n * size = mul-le-mul (le-refl n) s in
@@ -77,12 +74,12 @@ fitted number p q r gs ts rows x n w after a e =
 -- ---- the text, from the code's answers
 module _ (e number p q r : ℕ) (gs ts rows : List ℕ) where
   text-of : (a : Answer Problem) → posed number p q r gs ts rows ≡ a
-      → entryFormulae e number p q r gs ts rows ≡ printed (follow a λ x. accepted (formulaeAnswer e (length rows) (length (x .targets)) (formulaeOf number p q r gs ts rows listingRoom)))
+      → entryFormulae e number p q r gs ts rows ≡ answerText (follow a λ x. accepted (formulaeAnswer e (length rows) (length (x .targets)) (formulaeOf number p q r gs ts rows listingRoom)))
   unfolding entryFormulae
-  text-of a h = ap (λ (o : Answer Problem). printed (follow o λ x. accepted (formulaeAnswer e (length rows) (length (x .targets)) (formulaeOf number p q r gs ts rows listingRoom)))) h
+  text-of a h = ap (λ (o : Answer Problem). answerText (follow o λ x. accepted (formulaeAnswer e (length rows) (length (x .targets)) (formulaeOf number p q r gs ts rows listingRoom)))) h
 
   module _ (x : Targets) (M : Measures (posed number p q r gs ts rows) x) where
-    pub entry-refused : (n m : ℕ) (d : List ℕ) → x ≡ targets.Refused n → (take m d ≡ refusedText n) × (m ≤ 32) → (take m d ≡ entryFormulae e number p q r gs ts rows) × (m ≤ 278528)
+    pub entry-refused : (n m : ℕ) (d : List ℕ) → x ≡ targets.Refused n → (take m d ≡ refusedText n) × (m ≤ 32) → (take m d ≡ entryFormulae e number p q r gs ts rows) × (m ≤ partPage)
     entry-refused n m d h P =
         (P .0 ∙ sym (text-of (refused n) (subst (Measures (posed number p q r gs ts rows)) h M)), (let a = P .1 in omega arith))
 
@@ -95,7 +92,7 @@ module _ (e number p q r : ℕ) (gs ts rows : List ℕ) where
     pub record Said : Type 0 where
       pub counts : Counts (posed number p q r gs ts rows) t
       pub answer : formulaeOf number p q r gs ts rows listingRoom ≡ seenFormulae x after
-      pub size : length after ≡ 4096
+      pub size : length after ≡ programWords
 
     module _ (S : Said) where
       answer-is : (y : Reply) → x ≡ y → formulaeOf number p q r gs ts rows listingRoom ≡ seenFormulae y after
@@ -106,7 +103,7 @@ module _ (e number p q r : ℕ) (gs ts rows : List ℕ) where
           let C = S .counts in
           text-of (accepted (C .x)) (C .is) ∙ ap (formulaeAnswer e (length rows) (length (C .x .targets))) h ∙ ap (λ (c : ℕ). formulaeAnswer e (length rows) c a) (sym (C .count))
 
-      pub said-refused : (n m : ℕ) (d : List ℕ) → x ≡ reply.Refused n → (take m d ≡ refusedText n) × (m ≤ 32) → (take m d ≡ entryFormulae e number p q r gs ts rows) × (m ≤ 278528)
+      pub said-refused : (n m : ℕ) (d : List ℕ) → x ≡ reply.Refused n → (take m d ≡ refusedText n) × (m ≤ 32) → (take m d ≡ entryFormulae e number p q r gs ts rows) × (m ≤ partPage)
       said-refused n m d h P = (P .0 ∙ sym (text-is (refused n) (answer-is (reply.Refused n) h)), (let a = P .1 in omega arith))
 
       pub said-all : (n : ℕ) → x ≡ reply.All n → formulaeOf number p q r gs ts rows listingRoom ≡ accepted (told n true after)
@@ -116,25 +113,19 @@ module _ (e number p q r : ℕ) (gs ts rows : List ℕ) where
       said-more n h = answer-is (reply.More n) h
 
       module _ (n : ℕ) (w : Bool) (h : formulaeOf number p q r gs ts rows listingRoom ≡ accepted (told n w after)) where
-        fit : Fitted (length rows) t n
-        fit = let C = S .counts in subst (λ (c : ℕ). Fitted (length rows) c n) (sym (C .count)) (fitted number p q r gs ts rows (C .x) n w after (C .is) h)
+        fit : FormulaeFitted (length rows) t n
+        fit = let C = S .counts in subst (λ (c : ℕ). FormulaeFitted (length rows) c n) (sym (C .count)) (fitted number p q r gs ts rows (C .x) n w after (C .is) h)
 
         pub said-records : Records after (length rows) t n 0
-        said-records =
-            let l = S .size in
-            record {
-              held = (let a = fit .held in omega arith);
-              small = omega arith;
-              few = (let a = fit .few in omega arith);
-              numbers = (let a = fit .rows in omega arith);
-              rows = (let a = fit .outputs in omega arith);
-              place = omega arith;
-            }
+        said-records = records-held after (length rows) t n 0 (S .size) (fit .held) (fit .few) (fit .rows) (let a = fit .outputs in omega arith) (omega arith)
 
-        pub said-lines : (d d₁ : List ℕ) (m : ℕ) → length d ≡ 278528
-            → Piece d 0 (formulaeText e (length rows) t n w after) (21 * (n * (length rows + t)) + 46 * n + 30) d₁ m → (take m d₁ ≡ entryFormulae e number p q r gs ts rows) × (m ≤ 278528)
+        pub said-lines : (d d₁ : List ℕ) (m : ℕ) → length d ≡ partPage
+            → Piece d 0 (formulaeText e (length rows) t n w after) (21 * (n * (length rows + t)) + 46 * n + 30) d₁ m → (take m d₁ ≡ entryFormulae e number p q r gs ts rows) × (m ≤ partPage)
         said-lines d d₁ m l P =
             let a = fit .held in
             let b = fit .few in
-            let c : 21 * (n * (length rows + t)) + 46 * n + 30 ≤ length d = omega arith in
-            (whole (formulaeText e (length rows) t n w after) d d₁ (21 * (n * (length rows + t)) + 46 * n + 30) m P c ∙ sym (text-is (accepted (told n w after)) h), omega (arith, P .after, P .most, a, b))
+            let c : 21 * (n * (length rows + t)) + 46 * n + 30 ≤ length d = omega arith in (
+              whole (formulaeText e (length rows) t n w after) d d₁ (21 * (n * (length rows + t)) + 46 * n + 30) m P c ∙ sym
+                  (text-is (accepted (told n w after)) h),
+              omega (arith, P .after, P .most, a, b),
+            )

@@ -5,7 +5,7 @@ use native.Mathlib.Nat.{le-div-iff-mul-le, mul-comm}
 use native.Mathlib.Omega.{arith}
 use borrow.Author.Needs.{needs}
 use Rattle.kinds.specs.Sizes.{within}
-use Rattle.kinds.specs.SizeLaws.{Within, within-yes, is-not, within-quotient}
+use Rattle.kinds.specs.laws.Sizes.{Within, within-yes, is-not, within-quotient}
 use Rattle.kinds.proofs.fits.Statement.{statement}
 use Rattle.kinds.proofs.fits.Tie as tie
 use Rattle.kinds.proofs.fits.Reads as reads

@@ -4,7 +4,7 @@ use mathlib.Core.Bool.{true, false, true≢false, false≢true}
 use native.Mathlib.Omega.{arith}
 use borrow.Author.Needs.{needs}
 use borrow.Author.Tests.{not-true, not-false}
-use Rattle.kinds.specs.SizeLaws.{list-is, list-not}
+use Rattle.kinds.specs.laws.Sizes.{list-is, list-not}
 use Rattle.kinds.proofs.list_sizes.Statement.{statement}
 use Rattle.kinds.proofs.list_sizes.Tie as tie
 use Rattle.kinds.proofs.list_sizes.Reads as reads

@@ -5,7 +5,7 @@ use Prim.Native.Nat.{_*_}
 use native.Mathlib.Omega.{arith}
 use borrow.Author.Needs.{needs}
 use borrow.Author.Tests.{not-true, not-false}
-use Rattle.kinds.specs.SizeLaws.{within-yes, within-of, mat-is, mat-not, mat-within}
+use Rattle.kinds.specs.laws.Sizes.{within-yes, within-of, mat-is, mat-not, mat-within}
 use Rattle.kinds.proofs.mat_sizes.Statement.{statement}
 use Rattle.kinds.proofs.mat_sizes.Tie as tie
 use Rattle.kinds.proofs.mat_sizes.Reads as reads

@@ -3,7 +3,7 @@ use mathlib.Core.Path.{_≡_, sym, _∙_}
 use mathlib.Core.Bool.{true, false, true≢false, false≢true}
 use native.Mathlib.Omega.{arith}
 use borrow.Author.Needs.{needs}
-use Rattle.kinds.specs.SizeLaws.{within-yes, poly-is, poly-not}
+use Rattle.kinds.specs.laws.Sizes.{within-yes, poly-is, poly-not}
 use Rattle.kinds.proofs.poly_sizes.Statement.{statement}
 use Rattle.kinds.proofs.poly_sizes.Tie as tie
 use Rattle.kinds.proofs.poly_sizes.Reads as reads

@@ -3,7 +3,7 @@ use mathlib.Core.Path.{_≡_, sym, _∙_}
 use mathlib.Core.Bool.{true, false, true≢false, false≢true}
 use native.Mathlib.Omega.{arith}
 use borrow.Author.Needs.{needs}
-use Rattle.kinds.specs.SizeLaws.{square-is, square-not}
+use Rattle.kinds.specs.laws.Sizes.{square-is, square-not}
 use Rattle.kinds.proofs.square_sizes.Statement.{statement}
 use Rattle.kinds.proofs.square_sizes.Tie as tie
 use Rattle.kinds.proofs.square_sizes.Reads as reads

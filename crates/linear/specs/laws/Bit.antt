@@ -10,11 +10,7 @@ use native.Mathlib.Decide.{decLt}
 use lib.Arith.{bin-ind, half-le}
 use lib.Pow.{pow-mono, pow-pos}
 use lib.Bits.{bitXor, bitAnd, bitOr, differ, xor-shr, xor-step, and-shr, or-shr, and-step, or-step}
-use Rattle.linear.specs.Bit.{bitOf, bit, digitsOf, top}
-
-abbrev pub xorB : Bool → Bool → Bool
-xorB true b = not b
-xorB false b = b
+use Rattle.linear.specs.Bit.{bitOf, bit, digitsOf, top, xorB}
 
 -- ---- a digit of a sum, and equality by digits
 two-pos : 0 < 2

@@ -16,22 +16,17 @@ use Rattle.linear.specs.Space.{Space}
 use Rattle.linear.specs.Span.{Span}
 use Rattle.linear.specs.Basis.{insert, inserts, Reduced}
 use Rattle.linear.specs.Entry.{inside, generator, chosen}
-use Rattle.linear.specs.Walk.{Next}
+use Rattle.linear.specs.Walk.{Next, Steps}
 use Rattle.linear.specs.laws.Span.{span-head}
 use Rattle.linear.specs.laws.Reduce.{member}
 use Rattle.linear.specs.laws.Insert.{insert-reduced, insert-length-new, inserts-reduced, inserts-span}
 use Rattle.linear.specs.laws.Entry.{inside-yes, yes-inside, no-inside}
-use Rattle.linear.specs.laws.Greedy.{wanted, greedy}
+use Rattle.linear.specs.Extension.{wanted, greedy}
 
 module _ (S : Space) (gens : List (S .Vec)) where
   open Space S using (Vec)
 
-  -- rising numbers from lo on and below hi, each a next one
-  abbrev pub Steps : List Vec → ℕ → ℕ → List ℕ → Type 0
-  Steps C lo hi [] = Unit {0}
-  Steps C lo hi (e ∷ es) = (lo ≤ e) × (e < hi) × Next S gens C e × Steps (insert S C (generator S gens e)) (suc e) hi es
-
-  pub steps-more : (p : List ℕ) (C : List Vec) (lo hi hi′ : ℕ) → hi ≤ hi′ → Steps C lo hi p → Steps C lo hi′ p
+  pub steps-more : (p : List ℕ) (C : List Vec) (lo hi hi′ : ℕ) → hi ≤ hi′ → Steps S gens C lo hi p → Steps S gens C lo hi′ p
   steps-more [] C lo hi hi′ h s = tt
   steps-more (e ∷ p) C lo hi hi′ h s = (
     s .0,
@@ -41,8 +36,8 @@ module _ (S : Space) (gens : List (S .Vec)) where
         (s .3),
   )
 
-  pub steps-snoc : (p : List ℕ) (C : List Vec) (lo i : ℕ) → Steps C lo i p → lo ≤ i → Next S gens (inserts S C (chosen S gens p)) i
-      → Steps C lo (suc i) (p ++ i ∷ [])
+  pub steps-snoc : (p : List ℕ) (C : List Vec) (lo i : ℕ) → Steps S gens C lo i p → lo ≤ i → Next S gens (inserts S C (chosen S gens p)) i
+      → Steps S gens C lo (suc i) (p ++ i ∷ [])
   unfolding inserts chosen
   steps-snoc [] C lo i s l n = (l, omega arith, n, tt)
   steps-snoc (e ∷ p) C lo i s l n = (
@@ -54,7 +49,7 @@ module _ (S : Space) (gens : List (S .Vec)) where
   )
 
   -- what stands below all the numbers and is in the space was there before
-  pub steps-low : (p : List ℕ) (C : List Vec) (lo hi j : ℕ) → Steps C lo hi p → j < lo → Span S (inserts S C (chosen S gens p)) (generator S gens j)
+  pub steps-low : (p : List ℕ) (C : List Vec) (lo hi j : ℕ) → Steps S gens C lo hi p → j < lo → Span S (inserts S C (chosen S gens p)) (generator S gens j)
       → Span S C (generator S gens j)
   unfolding inserts chosen
   steps-low [] C lo hi j s l t = t
@@ -62,7 +57,7 @@ module _ (S : Space) (gens : List (S .Vec)) where
       let k : lo ≤ e = s .0 in
       s .2 .first j (omega arith) (steps-low p (insert S C (generator S gens e)) (suc e) hi j (s .3) (omega arith) t)
 
-  pub steps-length : (p : List ℕ) (C : List Vec) (lo hi : ℕ) → Reduced S C → Steps C lo hi p → length (inserts S C (chosen S gens p)) ≡ length C + length p
+  pub steps-length : (p : List ℕ) (C : List Vec) (lo hi : ℕ) → Reduced S C → Steps S gens C lo hi p → length (inserts S C (chosen S gens p)) ≡ length C + length p
   unfolding inserts chosen
   steps-length [] C lo hi ρ s = omega arith
   steps-length (e ∷ p) C lo hi ρ s =
@@ -84,7 +79,7 @@ module _ (S : Space) (gens : List (S .Vec)) where
       go true e = ap not (yes-inside S C ρ g (h (inside-yes S W g e)))
       go false e = refl
 
-  pub steps-greedy : (n : ℕ) (p : List ℕ) (C W : List Vec) (i hi : ℕ) → i + n ≡ hi → Reduced S C → W ≡ inserts S C (chosen S gens p) → Steps C i hi p
+  pub steps-greedy : (n : ℕ) (p : List ℕ) (C W : List Vec) (i hi : ℕ) → i + n ≡ hi → Reduced S C → W ≡ inserts S C (chosen S gens p) → Steps S gens C i hi p
       → greedy S gens W C n i ≡ p
   unfolding greedy inserts chosen
   steps-greedy zero [] C W i hi q ρ w s = refl
@@ -111,12 +106,12 @@ module _ (S : Space) (gens : List (S .Vec)) where
       in-W = subst (λ X. Span S X (generator S gens e)) (sym w) (inserts-span S (generator S gens e ∷ chosen S gens p) C (generator S gens e) .1
           (span-head S (generator S gens e) (chosen S gens p ++ C)))
 
-      go : Dec (e ≡ i) → (Steps (insert S C (generator S gens e)) (suc i) hi p → greedy S gens W (insert S C (generator S gens e)) n (suc i) ≡ p)
-          → (Steps C (suc i) hi (e ∷ p) → greedy S gens W C n (suc i) ≡ e ∷ p) → run (wanted S gens W C f) ≡ e ∷ p
+      go : Dec (e ≡ i) → (Steps S gens (insert S C (generator S gens e)) (suc i) hi p → greedy S gens W (insert S C (generator S gens e)) n (suc i) ≡ p)
+          → (Steps S gens C (suc i) hi (e ∷ p) → greedy S gens W C n (suc i) ≡ e ∷ p) → run (wanted S gens W C f) ≡ e ∷ p
       go (yes d) a b =
           ap run (wanted-true W C f σ (subst (λ x. Span S W (generator S gens x)) d in-W) (λ x. s .2 .new (subst (λ y. Span S C (generator S gens y))
           (sym d) x)))
-          ∙ ap₂ _∷_ (sym d) (ap (λ x. greedy S gens W (insert S C (generator S gens x)) n (suc i)) (sym d) ∙ a (subst (λ x. Steps (insert S C
+          ∙ ap₂ _∷_ (sym d) (ap (λ x. greedy S gens W (insert S C (generator S gens x)) n (suc i)) (sym d) ∙ a (subst (λ x. Steps S gens (insert S C
           (generator S gens e)) (suc x) hi p) d (s .3)))
       go (no d) a b =
           let l : i ≤ e = s .0 in

@@ -1,6 +1,5 @@
 -- A space has one reduced basis, and its dimension is well defined.
 --   unique          two reduced bases of one span are equal lists
---   basis-unique    lists with one span have one basis
 --   sub-length      of two reduced bases, the one whose span lies in the other's has no more rows
 --   dim-le, dim-same, dim-length   a smaller span has no larger dimension, equal ones equal; n vectors span at most n dimensions
 --   Fresh B xs      each of xs is outside the span of B and of those before it; `inserts-fresh`: each then gives a row
@@ -92,11 +91,6 @@ module _ (S : Space) where
       same : B ≡ C → b ≡ c
       same e =
           sym (take-put S 𝟙 c b) ∙ ap (add (scale 𝟙 c)) (span-zeroed S C (σ .3) d d-in (d-zeroed e)) ∙ add-nul S (scale 𝟙 c) ∙ one-scale S c
-
-  pub basis-unique : (xs ys : List Vec) → Within S xs ys → Within S ys xs → basisOf S xs ≡ basisOf S ys
-  basis-unique xs ys h k =
-      unique (basisOf S xs) (basisOf S ys) (basisOf-reduced S xs) (basisOf-reduced S ys)
-      (λ v s. basisOf-span S ys v .1 (h v (basisOf-span S xs v .0 s))) (λ v s. basisOf-span S xs v .1 (k v (basisOf-span S ys v .0 s)))
 
   -- ---- dimension
   pub dim-le : (xs ys : List Vec) → Within S xs ys → dim S xs ≤ dim S ys

@@ -1,7 +1,6 @@
 -- The extension of a solution space: the greedy one, which is the first in dictionary order. So each solution space is listed, once.
 --   extension W        == the greedy choice of generators that with the targets spans W
 --   entries-complete   each solution space for k is the space of an entry
---   entries-unique     two entries with one space are the same
 --   entries-first      an entry is the first of all rising lists with its space
 --   entries-greedy     an entry is the greedy extension of its space
 --   prune              what a search may leave out: after the numbers p no entry goes on with e if a smaller j was left out that e would bring in
@@ -23,9 +22,10 @@ use Rattle.linear.specs.laws.Reduce.{reduce-rest, member}
 use Rattle.linear.specs.laws.Insert.{inserts-reduced, inserts-span, basisOf-reduced, basisOf-span}
 use Rattle.linear.specs.laws.Dimension.{Fresh, unique, inserts-fresh, fresh-of-length}
 use Rattle.linear.specs.laws.Order.{before-asym, RisingList, rising-sound, rising-complete, rising-ordered, mem-index}
-use Rattle.linear.specs.laws.Select.{only-mem, first-mem, once-eq, first-some, first-first}
-use Rattle.linear.specs.laws.Entry.{sameBasis-yes, sameBasis-no, inside-yes, yes-fits, space-reduced, entries-sound, entries-once}
-use Rattle.linear.specs.laws.Greedy.{greedy, inserts-within, greedy-rising, greedy-inside, greedy-fresh, greedy-covers, greedy-first, greedy-skip}
+use Rattle.linear.specs.laws.Select.{only-mem, first-mem, first-some, first-first}
+use Rattle.linear.specs.laws.Entry.{sameBasis-yes, sameBasis-no, inside-yes, yes-fits, space-reduced, entries-sound}
+use Rattle.linear.specs.Extension.{greedy, extension}
+use Rattle.linear.specs.laws.Greedy.{inserts-within, greedy-rising, greedy-inside, greedy-fresh, greedy-covers, greedy-first, greedy-skip}
 
 module _ (S : Space) (gens targets : List (S .Vec)) where
   open Space S using (fld, Vec, nul, add, scale, isNul)
@@ -58,10 +58,7 @@ module _ (S : Space) (gens targets : List (S .Vec)) where
   space-append p e q = ap (inserts S (basisOf S targets)) (chosen-append p (e ∷ q)) ∙ inserts-append (gensAt p) (gen e ∷ gensAt q) (basisOf S targets)
 
   -- ---- the greedy extension of an entry
-  unfoldable pub extension : List Vec → List ℕ
-  extension W = greedy S gens W (basisOf S targets) (length gens) 0
-
-  pub extension-space : (k : ℕ) (W : List Vec) → Solution S gens targets k W → space S gens targets (extension W) ≡ W
+  pub extension-space : (k : ℕ) (W : List Vec) → Solution S gens targets k W → space S gens targets (extension S gens targets W) ≡ W
   unfolding extension space generatorsIn generator
   extension-space k W E =
       unique S (inserts S T (gensAt gs)) W (inserts-reduced S (gensAt gs) T (basisOf-reduced S targets)) (E .reduced)
@@ -86,20 +83,20 @@ module _ (S : Space) (gens targets : List (S .Vec)) where
           cast S (j .2) (greedy-covers S gens W (E .reduced) (length gens) 0 T (j .0) (omega arith) b (cast S (sym (j .2)) (inside-yes S W x (a .1))))
 
   -- it has as many numbers as the space has dimensions beyond the targets'
-  pub extension-length : (k : ℕ) (W : List Vec) → Solution S gens targets k W → dim S targets + length (extension W) ≡ k
+  pub extension-length : (k : ℕ) (W : List Vec) → Solution S gens targets k W → dim S targets + length (extension S gens targets W) ≡ k
   unfolding extension space dim
   extension-length k W E =
-      let f : length (inserts S (basisOf S targets) (gensAt (extension W))) ≡ length (basisOf S targets) + length (gensAt (extension W)) =
-      inserts-fresh S (gensAt (extension W)) (basisOf S targets) (basisOf-reduced S targets)
+      let f : length (inserts S (basisOf S targets) (gensAt (extension S gens targets W))) ≡ length (basisOf S targets) + length (gensAt (extension S gens targets W)) =
+      inserts-fresh S (gensAt (extension S gens targets W)) (basisOf S targets) (basisOf-reduced S targets)
       (greedy-fresh S gens W (E .reduced) (length gens) 0 (basisOf S targets) (basisOf-reduced S targets)) in
-      let g : length (inserts S (basisOf S targets) (gensAt (extension W))) ≡ length W = ap length (extension-space k W E) in
+      let g : length (inserts S (basisOf S targets) (gensAt (extension S gens targets W))) ≡ length W = ap length (extension-space k W E) in
       let h : length W ≡ k = E .size in
-      omega (arith, f, g, h, chosen-length (extension W))
+      omega (arith, f, g, h, chosen-length (extension S gens targets W))
 
-  pub extension-rising : (k : ℕ) (W : List Vec) → Solution S gens targets k W → List·Memᴰ (extension W) (risingLists (length gens) 0 (k - dim S targets))
+  pub extension-rising : (k : ℕ) (W : List Vec) → Solution S gens targets k W → List·Memᴰ (extension S gens targets W) (risingLists (length gens) 0 (k - dim S targets))
   unfolding extension
   extension-rising k W E =
-      rising-complete (length gens) 0 (k - dim S targets) (length gens) (omega arith) (extension W)
+      rising-complete (length gens) 0 (k - dim S targets) (length gens) (omega arith) (extension S gens targets W)
       (omega (arith, extension-length k W E)) (greedy-rising S gens W (E .reduced) (length gens) 0 (length gens) (basisOf S targets) (omega arith))
 
   -- ---- the theorem: every entry is listed, and no space twice
@@ -107,17 +104,12 @@ module _ (S : Space) (gens targets : List (S .Vec)) where
       → (es : List ℕ) × List·Memᴰ es (entries S gens targets k) × (space S gens targets es ≡ W)
   unfolding entries
   entries-complete k W E =
-      let q : space S gens targets (extension W) ≡ W = extension-space k W E in
+      let q : space S gens targets (extension S gens targets W) ≡ W = extension-space k W E in
       let r = first-some (space S gens targets) (fits S gens k) (sameBasis S) (sameBasis-yes S) (sameBasis-no S) (risingLists (length gens) 0
       (k - dim S targets)) []
-      (extension W) (extension-rising k W E)
+      (extension S gens targets W) (extension-rising k W E)
       (ap (fits S gens k) q ∙ yes-fits S gens k W (E .reduced) (E .size) (E .spanned)) (λ y m. absurd (List·Memᴰ·not-nil m)) in
       (r .0, r .1, r .2 ∙ q)
-
-  pub entries-unique : (k : ℕ) (es fs : List ℕ) → List·Memᴰ es (entries S gens targets k) → List·Memᴰ fs (entries S gens targets k)
-      → space S gens targets es ≡ space S gens targets fs → es ≡ fs
-  entries-unique k = once-eq (space S gens targets) (fits S gens k) (sameBasis S) (sameBasis-yes S) (sameBasis-no S) (entries S gens targets k)
-      (entries-once S gens targets k)
 
   -- ---- an entry is the first of all rising lists with its space
   pub entries-first : (k : ℕ) (es fs : List ℕ) → List·Memᴰ es (entries S gens targets k) → length fs ≡ k - dim S targets → Rising 0 (length gens) fs
@@ -129,7 +121,7 @@ module _ (S : Space) (gens targets : List (S .Vec)) where
       (rising-ordered (length gens) 0 (k - dim S targets)) es m fs (rising-complete (length gens) 0 (k - dim S targets) (length gens) (omega arith) fs l r) e
 
   -- ---- the extension listed is the greedy one
-  pub entries-greedy : (k : ℕ) (es : List ℕ) → List·Memᴰ es (entries S gens targets k) → extension (space S gens targets es) ≡ es
+  pub entries-greedy : (k : ℕ) (es : List ℕ) → List·Memᴰ es (entries S gens targets k) → extension S gens targets (space S gens targets es) ≡ es
   unfolding entries
   entries-greedy k es m = go first second
     where
@@ -147,36 +139,36 @@ module _ (S : Space) (gens targets : List (S .Vec)) where
       combo : RisingList (k - dim S targets) 0 (length gens) es
       combo = rising-sound (length gens) 0 (k - dim S targets) (length gens) (omega arith) es (picked .0)
 
-      first : (es ≡ extension W) ⊎ Before es (extension W)
+      first : (es ≡ extension S gens targets W) ⊎ Before es (extension S gens targets W)
       first =
           first-first (space S gens targets) (fits S gens k) (sameBasis S) (sameBasis-yes S) (sameBasis-no S) Before (risingLists (length gens) 0
           (k - dim S targets)) []
-          (rising-ordered (length gens) 0 (k - dim S targets)) es m (extension W) (extension-rising k W E) (extension-space k W E)
+          (rising-ordered (length gens) 0 (k - dim S targets)) es m (extension S gens targets W) (extension-rising k W E) (extension-space k W E)
 
-      el : dim S targets + length (extension W) ≡ k
+      el : dim S targets + length (extension S gens targets W) ≡ k
       el = extension-length k W E
 
       fresh : Fresh S (basisOf S targets) (gensAt es)
       fresh = unfold space dim in
           fresh-of-length S (gensAt es) (basisOf S targets) (basisOf-reduced S targets) (omega (arith, E .size, el, combo .0, chosen-length es))
 
-      second : (extension W ≡ es) ⊎ Before (extension W) es
+      second : (extension S gens targets W ≡ es) ⊎ Before (extension S gens targets W) es
       second = unfold extension space in
           greedy-first S gens W (E .reduced) (length gens) 0 (length gens) (basisOf S targets) (omega arith) (basisOf-reduced S targets) es (combo .1) fresh
           (λ x k. inserts-span S (gensAt es) (basisOf S targets) x .1 (span-mem S (Memᴰ·append-left (basisOf S targets) k)))
           (omega (arith, el, combo .0))
 
-      go : (es ≡ extension W) ⊎ Before es (extension W) → (extension W ≡ es) ⊎ Before (extension W) es → extension W ≡ es
+      go : (es ≡ extension S gens targets W) ⊎ Before es (extension S gens targets W) → (extension S gens targets W ≡ es) ⊎ Before (extension S gens targets W) es → extension S gens targets W ≡ es
       go (inl a) b = sym a
       go (inr a) (inl b) = b
-      go (inr a) (inr b) = absurd (before-asym es (extension W) a b)
+      go (inr a) (inr b) = absurd (before-asym es (extension S gens targets W) a b)
 
   -- and back: a combination that spans an entry and is its greedy extension is listed
-  pub greedy-listed : (k : ℕ) (es : List ℕ) → Solution S gens targets k (space S gens targets es) → extension (space S gens targets es) ≡ es
+  pub greedy-listed : (k : ℕ) (es : List ℕ) → Solution S gens targets k (space S gens targets es) → extension S gens targets (space S gens targets es) ≡ es
       → List·Memᴰ es (entries S gens targets k)
   greedy-listed k es E q =
       let r = entries-complete k (space S gens targets es) E in
-      let e : r .0 ≡ es = sym (entries-greedy k (r .0) (r .1)) ∙ ap extension (r .2) ∙ q in
+      let e : r .0 ≡ es = sym (entries-greedy k (r .0) (r .1)) ∙ ap (extension S gens targets) (r .2) ∙ q in
       subst (λ x. List·Memᴰ x (entries S gens targets k)) e (r .1)
 
   -- ---- what prunes: after a prefix p no entry goes on with e if some j < e was left out that e would bring in

@@ -21,14 +21,15 @@ use Rattle.linear.specs.Basis.{basisOf, dim}
 use Rattle.linear.specs.Order.{Rising}
 use Rattle.linear.specs.Entry.{inside, chosen, Solution, space, entries}
 use Rattle.linear.specs.Rank.{Chosen, Computes, Rank}
-use Rattle.linear.specs.Formulae.{first, orElse, Fewest, formula, above, beyond, formulae, leastFrom, missed, firstFormula, ofEntry, fewest}
+use Rattle.linear.specs.Formulae.{first, orElse, Fewest, formula, above, beyond, formulae, leastFrom, missed, firstFormula, ofEntry, fewest, Formula, RankFormula}
 use Rattle.linear.specs.laws.Span.{span-mem, span-bind, span-mono}
 use Rattle.linear.specs.laws.Insert.{basisOf-reduced, basisOf-span}
 use Rattle.linear.specs.laws.Dimension.{dim-le, dim-length}
 use Rattle.linear.specs.laws.Select.{anyOf-no, no-anyOf}
 use Rattle.linear.specs.laws.Entry.{inside-yes, yes-inside, entries-sound}
-use Rattle.linear.specs.laws.Extension.{chosen-length, extension, entries-complete}
-use Rattle.linear.specs.laws.Formulae.{first-none, first-some, Formula, formulae-are, first-formula}
+use Rattle.linear.specs.Extension.{extension}
+use Rattle.linear.specs.laws.Extension.{chosen-length, entries-complete}
+use Rattle.linear.specs.laws.Formulae.{first-none, first-some, formulae-are, first-formula}
 use Rattle.linear.specs.laws.Rank.{chosen-gens, generatorsIn-mem, solution-from, rank-is}
 
 module _ (S : Space) (gens targets : List (S .Vec)) where
@@ -183,18 +184,7 @@ module _ (S : Space) (gens targets : List (S .Vec)) where
       go false q none e = subst Came (sym (fewest-none q e)) (high q e)
       go false q (some es) e = subst Came (sym (fewest-entry es q e)) (here es q e)
 
-  -- a formula that Rank says
-  pub record RankFormula (fs : List ℕ) : Type 0 where
-    pub entry : List ℕ
-    pub first-entry : first (entries S gens targets (length fs)) ≡ some entry
-    pub first-formula-of : first (formulae S gens (space S gens targets entry)) ≡ some fs
-    pub rising : Rising 0 (length gens) fs
-    pub independent : Independent S (chosen S gens fs)
-    pub computes : Computes S targets (chosen S gens fs)
-    pub near : length fs ≤ dim S targets + 6
-    pub rank : Rank S gens targets (length fs)
-
-  rank-formula : (es : List ℕ) → leastFrom S gens targets 7 (dim S targets) ≡ some es → RankFormula (extension S gens [] (space S gens targets es))
+  rank-formula : (es : List ℕ) → leastFrom S gens targets 7 (dim S targets) ≡ some es → RankFormula S gens targets (extension S gens [] (space S gens targets es))
   rank-formula es e =
       record {
         entry = es;
@@ -229,20 +219,20 @@ module _ (S : Space) (gens targets : List (S .Vec)) where
       member : List·Memᴰ es (entries S gens targets (L .dims))
       member = let r = first-some (entries S gens targets (L .dims)) es (L .is) in subst (List·Memᴰ es) (sym (r .1)) (List·Memᴰ·head refl)
 
-  pub fewest-formula : (fs : List ℕ) → fewest S gens targets ≡ formula fs → RankFormula fs
+  pub fewest-formula : (fs : List ℕ) → fewest S gens targets ≡ formula fs → RankFormula S gens targets fs
   fewest-formula fs e = go (fewest S gens targets) came e
     where
-      go : (a : Fewest) → Came a → a ≡ formula fs → RankFormula fs
+      go : (a : Fewest) → Came a → a ≡ formula fs → RankFormula S gens targets fs
       go beyond (far q) e = absurd (let z : _≡_ {A = ℕ} 0 1 = cc in omega arith)
       go above (high q r) e = absurd (let z : _≡_ {A = ℕ} 0 1 = cc in omega arith)
-      go (formula gs) (here es q r) e = subst RankFormula (let z : extension S gens [] (space S gens targets es) ≡ fs = cc in z) (rank-formula es r)
+      go (formula gs) (here es q r) e = subst (RankFormula S gens targets) (let z : extension S gens [] (space S gens targets es) ≡ fs = cc in z) (rank-formula es r)
 
   -- it is said exactly if ℓ + 6 or fewer generators compute the targets
   pub fewest-exactly : ((fs : List ℕ) × (fewest S gens targets ≡ formula fs)) ↔ ((xs : List Vec) × Chosen S gens xs ×
       (length xs ≤ dim S targets + 6) × Computes S targets xs)
   fewest-exactly = (λ (fs, e). from fs (fewest-formula fs e), λ (xs, h, l, c). to xs h l c)
     where
-      from : (fs : List ℕ) → RankFormula fs → (xs : List Vec) × Chosen S gens xs × (length xs ≤ dim S targets + 6) × Computes S targets xs
+      from : (fs : List ℕ) → RankFormula S gens targets fs → (xs : List Vec) × Chosen S gens xs × (length xs ≤ dim S targets + 6) × Computes S targets xs
       from fs R = (
         chosen S gens fs,
         chosen-gens S gens targets 0 fs (R .rising),

@@ -17,14 +17,15 @@ use Rattle.linear.specs.Basis.{basisOf, inserts, Reduced, dim}
 use Rattle.linear.specs.Order.{Before, Rising, risingLists, Ordered}
 use Rattle.linear.specs.Select.{only}
 use Rattle.linear.specs.Entry.{sameBasis, chosen, Solution, space, entries}
-use Rattle.linear.specs.Formulae.{first, formulae}
+use Rattle.linear.specs.Formulae.{first, formulae, Formula}
 use Rattle.linear.specs.laws.Insert.{basisOf-span}
 use Rattle.linear.specs.laws.Dimension.{basisOf-is, fresh-of-length}
 use Rattle.linear.specs.laws.Independent.{independent-fresh}
 use Rattle.linear.specs.laws.Order.{before-asym, rising-sound, rising-complete, rising-ordered}
 use Rattle.linear.specs.laws.Select.{only-mem, mem-only}
 use Rattle.linear.specs.laws.Entry.{sameBasis-yes, same-yes}
-use Rattle.linear.specs.laws.Extension.{chosen-length, extension, extension-space, extension-rising, extension-length, entries-first, greedy-listed}
+use Rattle.linear.specs.Extension.{extension}
+use Rattle.linear.specs.laws.Extension.{chosen-length, extension-space, extension-rising, extension-length, entries-first, greedy-listed}
 
 -- ---- the first of a list
 pub first-none : {A : Type 0} (l : List A) → first l ≡ none → l ≡ []
@@ -65,20 +66,14 @@ module _ (S : Space) (gens : List (S .Vec)) where
       (fresh-of-length S (chosen S gens es) [] tt (omega (arith, ap length e, l, chosen-length S gens [] es)))
 
   -- ---- the formulae of a space
-  pub record Formula (W : List Vec) (es : List ℕ) : Type 0 where
-    pub number : length es ≡ length W
-    pub rising : Rising 0 (length gens) es
-    pub independent : Independent S (chosen S gens es)
-    pub spanning : SameSpan S (chosen S gens es) W
-
-  pub formulae-are : (W : List Vec) → Reduced S W → (es : List ℕ) → List·Memᴰ es (formulae S gens W) ↔ Formula W es
+  pub formulae-are : (W : List Vec) → Reduced S W → (es : List ℕ) → List·Memᴰ es (formulae S gens W) ↔ Formula S gens W es
   unfolding formulae
   formulae-are W ρ es = (sound, complete)
     where
       test : List ℕ → Bool
       test fs = sameBasis S (basisOf S (chosen S gens fs)) W
 
-      sound : List·Memᴰ es (only test (risingLists (length gens) 0 (length W))) → Formula W es
+      sound : List·Memᴰ es (only test (risingLists (length gens) 0 (length W))) → Formula S gens W es
       sound m =
           let a = only-mem test (risingLists (length gens) 0 (length W)) es m in
           let r = rising-sound (length gens) 0 (length W) (length gens) (omega arith) es (a .0) in
@@ -93,7 +88,7 @@ module _ (S : Space) (gens : List (S .Vec)) where
             );
           }
 
-      complete : Formula W es → List·Memᴰ es (only test (risingLists (length gens) 0 (length W)))
+      complete : Formula S gens W es → List·Memᴰ es (only test (risingLists (length gens) 0 (length W)))
       complete F =
           mem-only test (risingLists (length gens) 0 (length W)) es
           (rising-complete (length gens) 0 (length W) (length gens) (omega arith) es (F .number) (F .rising))
@@ -129,7 +124,7 @@ module _ (S : Space) (gens : List (S .Vec)) where
         e : basisOf S (chosen S gens x) ≡ W
         e = sym (spaces x) ∙ extension-space S gens [] k W F
 
-        here : Formula W x
+        here : Formula S gens W x
         here =
             let r = rising-sound (length gens) 0 (k - dim S []) (length gens) (omega arith) x (extension-rising S gens [] k W F) in
             let l : length x ≡ length W = omega (arith, extension-length S gens [] k W F, none-dim, E .size) in

@@ -2,13 +2,12 @@
 --   independent-fresh     xs are independent exactly if each is outside the span of those before it
 --   dim-independent       n independent vectors span n dimensions
 --   dimension             independent lists with one span are equally long, and that is its dimension
---   steinitz              independent vectors in the span of n vectors are at most n
 --   reduced-independent   the rows of a reduced basis are independent
 -- Assumes nothing.
 use mathlib.Core.Path.{_≡_, refl, sym, ap, ap₂, _∙_}
 use mathlib.Core.Logic.{_≢_, _↔_}
-use mathlib.Core.List.{List, [], _∷_, List·Memᴰ, List·Memᴰ·head, List·Memᴰ·tail, List·Memᴰ·not-nil}
-use Prim.Native.Nat.{suc, _≤_}
+use mathlib.Core.List.{List, [], _∷_, List·Memᴰ·head, List·Memᴰ·tail, List·Memᴰ·not-nil}
+use Prim.Native.Nat.{suc}
 use native.Mathlib.Nat.{suc-inj}
 use native.Mathlib.Omega.{arith}
 use lib.ListN.{length}
@@ -16,9 +15,9 @@ use Rattle.linear.specs.Space.{Field, Space}
 use Rattle.linear.specs.Span.{combination, Span, SameSpan, AllZero, Independent}
 use Rattle.linear.specs.Basis.{basisOf, Reduced, dim}
 use Rattle.linear.specs.laws.Space.{add-comm, add-assoc, add-nul, nul-add, add-left-comm, zero-scale, one-scale, scale-scale, put-take, no-divisor}
-use Rattle.linear.specs.laws.Span.{mem-cons, cast, span-nul, span-none, span-scale, span-bind, span-nil, span-uncons, span-cons, span-rest}
+use Rattle.linear.specs.laws.Span.{mem-cons, cast, span-nul, span-none, span-scale, span-nil, span-uncons, span-cons, span-rest}
 use Rattle.linear.specs.laws.Insert.{decNul}
-use Rattle.linear.specs.laws.Dimension.{Fresh, dim-fresh, dim-length, dim-le, dim-same, fresh-of-length, basisOf-is}
+use Rattle.linear.specs.laws.Dimension.{Fresh, dim-fresh, dim-same, fresh-of-length, basisOf-is}
 
 module _ (S : Space) where
   open Space S using (fld, Vec, nul, add, scale, coord, lead, coord-nul, coord-add, coord-scale, lead-above, lead-ne)
@@ -107,9 +106,6 @@ module _ (S : Space) where
   -- ---- as many independent vectors as dimensions
   pub dim-independent : (xs : List Vec) → Independent S xs → dim S xs ≡ length xs
   dim-independent xs h = dim-fresh S xs (independent-fresh xs .0 h)
-
-  pub steinitz : (xs ys : List Vec) → Independent S xs → ((x : Vec) → List·Memᴰ x xs → Span S ys x) → length xs ≤ length ys
-  steinitz xs ys i h = omega (arith, dim-independent xs i, dim-length S ys, dim-le S xs ys (λ v s. span-bind S h s))
 
   -- independent lists with one span are equally long, and that is its dimension
   pub dimension : (xs ys : List Vec) → Independent S xs → SameSpan S xs ys → length xs ≡ dim S ys

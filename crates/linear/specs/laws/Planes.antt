@@ -8,11 +8,11 @@ use mathlib.Core.List.{List, [], _∷_, List·Memᴰ, List·Memᴰ·head, List·
 use Prim.Native.Nat.{ℕ, zero, suc, _<_}
 use native.Mathlib.Nat.{ℕ-set}
 use lib.Bits.{bitXor, bitAnd, and-zero-l}
-use Rattle.linear.specs.Bit.{bit, top}
-use Rattle.linear.specs.Planes.{Three, n0, n1, n2, plus3, neg3, times3, digit, Planes, coord3, nul3, sumNonzero, sumTwos}
+use Rattle.linear.specs.Bit.{bit, top, xorB}
+use Rattle.linear.specs.Planes.{Three, n0, n1, n2, plus3, neg3, times3, trit, Planes, coord3, nul3, sumNonzero, sumTwos}
 use Rattle.linear.specs.Word.{isZero}
 use Rattle.linear.specs.laws.Finite.{everywhere, by-cases, equal-by-cases, bits, bits-all, sameBit, sameBit-yes}
-use Rattle.linear.specs.laws.Bit.{xorB, bit-xor, bit-and, bit-or, bit-zero, bit-ext, top-above, top-one}
+use Rattle.linear.specs.laws.Bit.{bit-xor, bit-and, bit-or, bit-zero, bit-ext, top-above, top-one}
 
 -- ---- the elements
 abbrev pub trits3 : List Three
@@ -145,33 +145,33 @@ scale3 n2 v = ((v .0 .0, bitXor (v .0 .0) (v .0 .1)), double-within v)
 
 -- ---- coordinates
 pub at-nul : (i : ℕ) → coord3 nul3 i ≡ n0
-at-nul i = ap₂ digit (bit-zero i) (bit-zero i)
+at-nul i = ap₂ trit (bit-zero i) (bit-zero i)
 
 pub at-add : (u v : Planes) (i : ℕ) → coord3 (add3 u v) i ≡ plus3 (coord3 u i) (coord3 v i)
 at-add u v i =
-    ap₂ digit (bit-nonzero (u .0 .0) (u .0 .1) (v .0 .0) (v .0 .1) i) (bit-twos (u .0 .0) (u .0 .1) (v .0 .0) (v .0 .1) i)
+    ap₂ trit (bit-nonzero (u .0 .0) (u .0 .1) (v .0 .0) (v .0 .1) i) (bit-twos (u .0 .0) (u .0 .1) (v .0 .0) (v .0 .1) i)
     ∙ same3-yes _ _
-    (valid-law (λ a b c d. same3 (digit (nonzeroB a b c d) (twosB a b c d)) (plus3 (digit a b) (digit c d))) refl
+    (valid-law (λ a b c d. same3 (trit (nonzeroB a b c d) (twosB a b c d)) (plus3 (trit a b) (trit c d))) refl
     (bit (u .0 .0) i) (bit (u .0 .1) i) (bit (v .0 .0) i) (bit (v .0 .1) i) (within u i) (within v i))
 
 pub at-scale : (c : Three) (v : Planes) (i : ℕ) → coord3 (scale3 c v) i ≡ times3 c (coord3 v i)
 at-scale n0 v i = at-nul i
 at-scale n1 v i = refl
 at-scale n2 v i =
-    ap (digit (bit (v .0 .0) i)) (bit-xor (v .0 .0) (v .0 .1) i)
-    ∙ equal-by-cases bits bits-all same3 same3-yes (λ a b c. digit a (xorB a b)) (λ a b c. neg3 (digit a b)) refl (bit (v .0 .0) i) (bit (v .0 .1) i) true
+    ap (trit (bit (v .0 .0) i)) (bit-xor (v .0 .0) (v .0 .1) i)
+    ∙ equal-by-cases bits bits-all same3 same3-yes (λ a b c. trit a (xorB a b)) (λ a b c. neg3 (trit a b)) refl (bit (v .0 .0) i) (bit (v .0 .1) i) true
 
 -- the planes, from the coordinates
 nonzero-bit : (v : Planes) (i : ℕ) → nonzero (coord3 v i) ≡ bit (v .0 .0) i
 nonzero-bit v i =
     sameBit-yes _ _
-    (valid-law (λ a b c d. sameBit (nonzero (digit a b)) a) refl (bit (v .0 .0) i) (bit (v .0 .1) i) (bit (v .0 .0) i) (bit (v .0 .1) i) (within v i)
+    (valid-law (λ a b c d. sameBit (nonzero (trit a b)) a) refl (bit (v .0 .0) i) (bit (v .0 .1) i) (bit (v .0 .0) i) (bit (v .0 .1) i) (within v i)
     (within v i))
 
 two-bit : (v : Planes) (i : ℕ) → isTwo (coord3 v i) ≡ bit (v .0 .1) i
 two-bit v i =
     sameBit-yes _ _
-    (valid-law (λ a b c d. sameBit (isTwo (digit a b)) b) refl (bit (v .0 .0) i) (bit (v .0 .1) i) (bit (v .0 .0) i) (bit (v .0 .1) i) (within v i)
+    (valid-law (λ a b c d. sameBit (isTwo (trit a b)) b) refl (bit (v .0 .0) i) (bit (v .0 .1) i) (bit (v .0 .0) i) (bit (v .0 .1) i) (within v i)
     (within v i))
 
 pub planes-ext : (u v : Planes) → ((i : ℕ) → coord3 u i ≡ coord3 v i) → u ≡ v
@@ -181,7 +181,7 @@ planes-ext u v h =
     (bit-ext (u .0 .1) (v .0 .1) (λ i. sym (two-bit u i) ∙ ap isTwo (h i) ∙ two-bit v i))
 
 pub planes-above : (v : Planes) (i : ℕ) → top (v .0 .0) < i → coord3 v i ≡ n0
-planes-above v i h = ap (λ (x : Bool). digit x (bit (v .0 .1) i)) (top-above (v .0 .0) i h)
+planes-above v i h = ap (λ (x : Bool). trit x (bit (v .0 .1) i)) (top-above (v .0 .0) i h)
 
 pub planes-nul : (v : Planes) → isZero (v .0 .0) ≡ true → v ≡ nul3
 planes-nul v e = planes-path z (sym (v .1) ∙ ap (λ (x : ℕ). bitAnd x (v .0 .1)) z ∙ and-zero-l (v .0 .1))

@@ -28,7 +28,8 @@ use Rattle.linear.specs.laws.Order.{before-asym, rising-ordered}
 use Rattle.linear.specs.laws.Select.{only-mem, mem-only, only-append, only-map, only-none, first-mem}
 use Rattle.linear.specs.laws.Entry.{sameBasis-yes, sameBasis-no, fits-yes, yes-fits, space-reduced, space-holds, entries-sound, entries-ordered}
 use Rattle.linear.specs.laws.Greedy.{greedy-fresh}
-use Rattle.linear.specs.laws.Extension.{extension, entries-greedy, greedy-listed, chosen-append}
+use Rattle.linear.specs.Extension.{extension}
+use Rattle.linear.specs.laws.Extension.{entries-greedy, greedy-listed, chosen-append}
 
 -- ---- lists in order with the same members are equal
 module _ {A : Type 0} (_≺_ : A → A → Type 0) (asym : (x y : A) → _≺_ x y → _≺_ y x → ⊥) where

@@ -25,7 +25,8 @@ use Rattle.linear.specs.laws.Order.{mem-getD}
 use Rattle.linear.specs.laws.Select.{only-mem, mem-only}
 use Rattle.linear.specs.laws.Entry.{yes-inside, generatorsIn-within, entries-sound}
 use Rattle.linear.specs.laws.Greedy.{greedy-rising}
-use Rattle.linear.specs.laws.Extension.{chosen-length, extension, extension-space, extension-length, entries-complete}
+use Rattle.linear.specs.Extension.{extension}
+use Rattle.linear.specs.laws.Extension.{chosen-length, extension-space, extension-length, entries-complete}
 
 module _ (S : Space) (gens targets : List (S .Vec)) where
   open Space S using (Vec, nul)

@@ -17,9 +17,6 @@ module _ (F : Field) where
   pub cancel : (a b : K) → plus (neg a) (plus a b) ≡ b
   cancel a b = sym (plus-assoc (neg a) a b) ∙ ap (λ x. plus x b) (neg-plus a) ∙ zero-plus b
 
-  pub cancel' : (a b : K) → plus a (plus (neg a) b) ≡ b
-  cancel' a b = sym (plus-assoc a (neg a) b) ∙ ap (λ x. plus x b) (plus-neg a) ∙ zero-plus b
-
   pub self-zero : (a : K) → plus a a ≡ a → a ≡ 𝟘
   self-zero a e = sym (cancel a a) ∙ ap (plus (neg a)) e ∙ neg-plus a
 
@@ -39,14 +36,8 @@ module _ (F : Field) where
   pub neg-zero : neg 𝟘 ≡ 𝟘
   neg-zero = sym (neg-unique 𝟘 𝟘 (plus-zero 𝟘))
 
-  pub neg-neg : (a : K) → neg (neg a) ≡ a
-  neg-neg a = sym (neg-unique (neg a) a (neg-plus a))
-
   pub plus-times : (a b c : K) → times (plus a b) c ≡ plus (times a c) (times b c)
   plus-times a b c = times-comm (plus a b) c ∙ times-plus c a b ∙ ap₂ plus (times-comm c a) (times-comm c b)
-
-  pub neg-times : (a b : K) → times (neg a) b ≡ neg (times a b)
-  neg-times a b = neg-unique (times a b) (times (neg a) b) (sym (plus-times a (neg a) b) ∙ ap (λ x. times x b) (plus-neg a) ∙ zero-times b)
 
   -- no divisors of zero
   pub inv-cancel : (a b : K) → a ≢ 𝟘 → times (inv a) (times a b) ≡ b

@@ -18,16 +18,17 @@ use Rattle.linear.specs.Space.{Field, Space}
 use Rattle.linear.specs.Basis.{reduce, insert, inserts, basisOf, Reduced, dim}
 use Rattle.linear.specs.Order.{Rising}
 use Rattle.linear.specs.Entry.{generatorsIn, generator, chosen, space, fits, entries}
-use Rattle.linear.specs.Walk.{Next, spans, walk}
+use Rattle.linear.specs.Walk.{Next, spans, walk, Steps}
 use Rattle.linear.specs.laws.Space.{scale-nul}
 use Rattle.linear.specs.laws.Span.{mem-cons, span-mem}
 use Rattle.linear.specs.laws.Reduce.{member}
 use Rattle.linear.specs.laws.Insert.{insert-reduced, inserts-span, basisOf-reduced}
 use Rattle.linear.specs.laws.Order.{RisingList, rising-from}
 use Rattle.linear.specs.laws.Entry.{space-reduced}
-use Rattle.linear.specs.laws.Extension.{extension, prune, space-append}
+use Rattle.linear.specs.Extension.{extension}
+use Rattle.linear.specs.laws.Extension.{prune, space-append}
 use Rattle.linear.specs.laws.Pruned.{pruned, pruned-is, canonical, canonical-listed, entries-canonical, listed-new, sameNumbers, sameNumbers-refl}
-use Rattle.linear.specs.laws.Canonical.{Steps, steps-more, steps-snoc, steps-length, steps-greedy}
+use Rattle.linear.specs.laws.Canonical.{steps-more, steps-snoc, steps-length, steps-greedy}
 
 -- ---- two prunings whose end tests agree where they come to are equal
 module _ (stop : List ℕ → ℕ → Bool) (q q′ : List ℕ → Bool) (R : List ℕ → ℕ → ℕ → ℕ → Type 0)

@@ -19,7 +19,7 @@ use lib.Dec.{ltb}
 use Rattle.linear.specs.Span.{Span}
 use Rattle.linear.specs.Basis.{clear, reduce, norm, place, insert, inserts, basisOf, Reduced}
 use Rattle.linear.specs.Bit.{bit, top}
-use Rattle.linear.specs.Word.{word, scaleW}
+use Rattle.linear.specs.Word.{word, scaleW, Below}
 use Rattle.linear.specs.laws.Span.{mem-cons, span-nil, span-uncons}
 use Rattle.linear.specs.laws.Insert.{decNul, insert-old, insert-new}
 use Rattle.linear.specs.laws.Bit.{bit-zero, top-one, top-span}
@@ -42,9 +42,6 @@ row-ne (b ∷ C) ρ = mem-cons {P = λ x. x ≢ 0} (λ e. true≢false (sym (ρ 
 
 -- ---- w bits
 module _ (w : ℕ) where
-  abbrev pub Below : List ℕ → Type 0
-  Below C = (x : ℕ) → List·Memᴰ x C → x < 2 ^ w
-
   scale-below : (c : Bool) (v : ℕ) → v < 2 ^ w → scaleW c v < 2 ^ w
   scale-below true v h = h
   scale-below false v h = pow-pos w
@@ -53,37 +50,37 @@ module _ (w : ℕ) where
   unfolding clear
   clear-below b v h k = xor-lt w (scaleW (bit v (top b)) b) v (scale-below (bit v (top b)) b h) k
 
-  pub reduce-below : (C : List ℕ) (v : ℕ) → Below C → v < 2 ^ w → reduce word C v < 2 ^ w
+  pub reduce-below : (C : List ℕ) (v : ℕ) → Below w C → v < 2 ^ w → reduce word C v < 2 ^ w
   unfolding reduce
   reduce-below [] v h k = k
   reduce-below (b ∷ C) v h k = reduce-below C (clear word b v) (λ x m. h x (List·Memᴰ·tail m)) (clear-below b v (h b (List·Memᴰ·head refl)) k)
 
-  pub place-below : (r : ℕ) (C : List ℕ) → r < 2 ^ w → Below C → Below (place word r C)
+  pub place-below : (r : ℕ) (C : List ℕ) → r < 2 ^ w → Below w C → Below w (place word r C)
   unfolding place
   place-below r [] h k = mem-cons {P = λ x. x < 2 ^ w} h k
   place-below r (b ∷ C) h k = go (ltb (top b) (top r)) (place-below r C h (λ x m. k x (List·Memᴰ·tail m)))
     where
-      go : (t : Bool) → Below (place word r C) → Below (cond t (r ∷ b ∷ C) (clear word r b ∷ place word r C))
+      go : (t : Bool) → Below w (place word r C) → Below w (cond t (r ∷ b ∷ C) (clear word r b ∷ place word r C))
       go true ih = mem-cons {P = λ x. x < 2 ^ w} h k
       go false ih = mem-cons {P = λ x. x < 2 ^ w} (clear-below r b h (k b (List·Memᴰ·head refl))) ih
 
-  pub insert-below : (C : List ℕ) (v : ℕ) → Below C → v < 2 ^ w → Below (insert word C v)
+  pub insert-below : (C : List ℕ) (v : ℕ) → Below w C → v < 2 ^ w → Below w (insert word C v)
   insert-below C v h k = go (decNul word (reduce word C v))
     where
-      go : Dec (reduce word C v ≡ 0) → Below (insert word C v)
-      go (yes e) = subst Below (sym (insert-old word C v e)) h
-      go (no n) = subst Below (sym (insert-place C v n)) (place-below (reduce word C v) C (reduce-below C v h k) h)
+      go : Dec (reduce word C v ≡ 0) → Below w (insert word C v)
+      go (yes e) = subst (Below w) (sym (insert-old word C v e)) h
+      go (no n) = subst (Below w) (sym (insert-place C v n)) (place-below (reduce word C v) C (reduce-below C v h k) h)
 
-  pub inserts-below : (xs C : List ℕ) → Below C → Below xs → Below (inserts word C xs)
+  pub inserts-below : (xs C : List ℕ) → Below w C → Below w xs → Below w (inserts word C xs)
   unfolding inserts
   inserts-below [] C h k = h
   inserts-below (x ∷ xs) C h k = inserts-below xs (insert word C x) (insert-below C x h (k x (List·Memᴰ·head refl))) (λ y m. k y (List·Memᴰ·tail m))
 
-  pub basisOf-below : (xs : List ℕ) → Below xs → Below (basisOf word xs)
+  pub basisOf-below : (xs : List ℕ) → Below w xs → Below w (basisOf word xs)
   unfolding basisOf
   basisOf-below xs h = inserts-below xs [] (λ x m. absurd (List·Memᴰ·not-nil m)) h
 
-  pub span-below : {xs : List ℕ} {v : ℕ} → Below xs → Span word xs v → v < 2 ^ w
+  pub span-below : {xs : List ℕ} {v : ℕ} → Below w xs → Span word xs v → v < 2 ^ w
   span-below {xs = []} h s = subst (λ (x : ℕ). x < 2 ^ w) (sym (span-nil word s)) (pow-pos w)
   span-below {xs = x ∷ xs} h s =
       let p = span-uncons word s in

@@ -43,15 +43,4 @@ returns-6 c =
 pub generator-count-spec : {M : Type 1} → statement M
 generator-count-spec =
     tie.close
-    (tie.spec
-    returns
-    returns-2
-    returns-3
-    returns-4
-    (λ c. search needs)
-    sub-c
-    (λ c. search needs)
-    sub-c-2
-    mul-c
-    returns-5
-    returns-6)
+    (tie.spec returns returns-2 returns-3 returns-4 (λ c. search needs) sub-c (λ c. search needs) sub-c-2 mul-c returns-5 returns-6)

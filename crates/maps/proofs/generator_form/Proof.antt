@@ -47,13 +47,4 @@ returns c =
 
 pub generator-form-spec : {M : Type 1} → statement M
 generator-form-spec =
-    tie.close
-    (tie.spec
-    shl-base
-    sub-base
-    div-product
-    add-product
-    rem-product
-    add-product-2
-    (λ c κs. search needs)
-    returns)
+    tie.close (tie.spec shl-base sub-base div-product add-product rem-product add-product-2 (λ c κs. search needs) returns)

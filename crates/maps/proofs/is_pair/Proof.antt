@@ -71,26 +71,6 @@ returns-7 c = let a = c .before .before .args in sym (ap (λ (k : Kind). pair k 
 pub is-pair-spec : {M : Type 1} → statement M
 is-pair-spec =
     tie.close
-    (tie.spec
-    enum-told
-    (λ c. search needs)
-    (λ c. search needs)
-    (λ c. search needs)
-    (λ c. search needs)
-    (λ c. search needs)
-    rem-result
-    (λ c. search needs)
-    div-if1
-    div-if1-2
-    returns
-    rem-if2
-    div-if2
-    returns-2
-    rem-result-2
-    rem-result-3
-    (λ c. search needs)
-    returns-3
-    returns-4
-    returns-5
-    returns-6
-    returns-7)
+    (tie.spec enum-told (λ c. search needs) (λ c. search needs) (λ c. search needs) (λ c. search needs) (λ c. search needs) rem-result
+    (λ c. search needs) div-if1 div-if1-2 returns rem-if2 div-if2 returns-2 rem-result-2 rem-result-3 (λ c. search needs) returns-3 returns-4
+    returns-5 returns-6 returns-7)

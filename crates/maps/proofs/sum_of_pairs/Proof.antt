@@ -74,16 +74,4 @@ returns c =
 pub sum-of-pairs-spec : {M : Type 1} → statement M
 sum-of-pairs-spec =
     tie.close
-    (tie.spec
-    Inv-loop
-    μ-loop
-    mul-end
-    loop-holds
-    div-is-pair
-    rem-is-pair
-    is-pair-requires
-    shl-form
-    add-s
-    (λ c. omega arith)
-    loop-again
-    returns)
+    (tie.spec Inv-loop μ-loop mul-end loop-holds div-is-pair rem-is-pair is-pair-requires shl-form add-s (λ c. omega arith) loop-again returns)

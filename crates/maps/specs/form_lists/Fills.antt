@@ -10,12 +10,13 @@ use lib.ListN.{length}
 use Rattle.kinds.specs.Sizes.{sizes}
 use Rattle.kinds.specs.declared.Kind.{Kind}
 use Rattle.maps.specs.Generators.{generatorCount}
+use Rattle.kinds.specs.Limits.{mostGenerators, mostTargets}
 
 pub record Made (n m c : ℕ) (g : List ℕ) : Type 0 where
   pub count : generatorCount n m ≡ c
-  pub few : c ≤ 4095
+  pub few : c ≤ mostGenerators
   pub room : c ≤ length g
 
 pub record Mapping (kd : Kind) (p q r n m u : ℕ) (t : List ℕ) : Type 0 where
   pub sized : sizes kd p q r ≡ some (n, m, u)
-  pub room : 64 ≤ length t
+  pub room : mostTargets ≤ length t

@@ -10,7 +10,8 @@ use lib.ListN.{getD}
 use Rattle.linear.specs.Bit.{bit, top}
 use Rattle.linear.specs.laws.Bit.{bit-zero, bit-ext, bit-below, top-one}
 use Rattle.linear.specs.laws.Word.{top-below}
-use Rattle.forms.specs.products.Product.{productForm, product-coordinate}
+use Rattle.forms.specs.products.Product.{productForm}
+use Rattle.forms.specs.products.laws.Product.{product-coordinate}
 use Rattle.maps.specs.Textbook.{sumTo}
 use Rattle.maps.specs.Target.{value}
 use Rattle.maps.specs.Generators.{generatorCount, firstMask, secondMask, numbered, generatorForm, generatorForms, Masks}

@@ -14,7 +14,7 @@ use Prim.Native.Nat.{ℕ, zero, suc, _+_, _*_, _<_}
 use native.Mathlib.Nat.{zero-mul, suc-mul, add-zero, add-suc}
 use native.Mathlib.Decide.{decLt}
 use native.Mathlib.Omega.{arith}
-use Rattle.linear.specs.laws.Bit.{xorB}
+use Rattle.linear.specs.Bit.{xorB}
 use Rattle.linear.specs.laws.Finite.{bits, bits-all, by-cases, sameBit, sameBit-yes, bit-law}
 use Rattle.maps.specs.Textbook.{sumTo}
 

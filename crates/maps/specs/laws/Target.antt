@@ -15,8 +15,8 @@ use Rattle.linear.specs.Bit.{bit}
 use Rattle.kinds.specs.declared.Kind.{Kind}
 use Rattle.kinds.specs.declared.Kind.the-variants as kind
 use Rattle.kinds.specs.Sizes.{sizes, within, polySizes, squareSizes, matSizes}
-use Rattle.kinds.specs.SizeLaws.{given-some, MatWithin, mat-within}
-use Rattle.forms.specs.products.Product.{bit-formOf, formOf-below}
+use Rattle.kinds.specs.laws.Sizes.{given-some, MatWithin, mat-within}
+use Rattle.forms.specs.products.laws.Product.{bit-formOf, formOf-below}
 use Rattle.maps.specs.Textbook.{sumTo, output}
 use Rattle.maps.specs.Target.{value, pair, targetForm}
 use Rattle.maps.specs.laws.Sum.{sum-same, sum-one, sum-times, sum-blocks}

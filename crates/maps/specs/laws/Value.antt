@@ -9,10 +9,11 @@ use native.Mathlib.Decide.{decLt}
 use native.Mathlib.Omega.{arith}
 use lib.Bits.{bitXor}
 use lib.Pow.{pow-lt}
-use Rattle.linear.specs.Bit.{bit}
-use Rattle.linear.specs.laws.Bit.{xorB, bit-xor, bit-zero, bit-ext, bit-below}
+use Rattle.linear.specs.Bit.{bit, xorB}
+use Rattle.linear.specs.laws.Bit.{bit-xor, bit-zero, bit-ext, bit-below}
 use Rattle.linear.specs.laws.Shift.{bit-shift, bit-shift-low}
-use Rattle.forms.specs.products.Product.{productForm, product-coordinate}
+use Rattle.forms.specs.products.Product.{productForm}
+use Rattle.forms.specs.products.laws.Product.{product-coordinate}
 use Rattle.maps.specs.Textbook.{sumTo}
 use Rattle.maps.specs.Target.{value}
 use Rattle.maps.specs.laws.Sum.{xor-and, and-swap, sum-same, sum-none, sum-xor, sum-times, sum-times-right, sum-one}

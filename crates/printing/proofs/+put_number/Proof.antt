@@ -1,4 +1,4 @@
--- `print::put_number` meets its contract. By induction on the digits that are left. Assumes nothing.
+-- `printing::put_number` meets its contract. By induction on the digits that are left. Assumes nothing.
 use Prim.Native.Nat.{ℕ, _<_, _-_, _/_}
 use mathlib.Core.Path.{_∙_}
 use native.Mathlib.Omega.{arith}
@@ -30,176 +30,9 @@ put-number-below t =
     (falls 1 put-number-kinds.ps _<_ μ-put-number t)
     put-number.Pre
 
-put-number-returns : (t : ℕ) → put-number-lts.Need-returns (
-  digit-byte-reads.Asked,
-  digit-byte-reads.Learnt,
-  put-byte-reads.Asked,
-  put-byte-reads.Learnt,
-  put-number-below t,
-  put-number.Post,
-) (put-number-at t) put-number.Post
-put-number-returns t c = print-none _ _ _ _ _ (c .if1 .taken)
-
-put-number-digit-byte-requires : (t : ℕ) → put-number-lts.Need-digit-byte-requires (
-  digit-byte-reads.Asked,
-  digit-byte-reads.Learnt,
-  put-byte-reads.Asked,
-  put-byte-reads.Learnt,
-  put-number-below t,
-  put-number.Post,
-) (put-number-at t) put-number.Post
-put-number-digit-byte-requires t c κs = omega arith
-
-put-number-put-byte-requires : (t : ℕ) → put-number-lts.Need-put-byte-requires (
-  digit-byte-reads.Asked,
-  digit-byte-reads.Learnt,
-  put-byte-reads.Asked,
-  put-byte-reads.Learnt,
-  put-number-below t,
-  put-number.Post,
-) (put-number-at t) put-number.Post
-put-number-put-byte-requires t c κs = search needs
-
-put-number-add-result : (t : ℕ) → put-number-lts.Need-add-result (
-  digit-byte-reads.Asked,
-  digit-byte-reads.Learnt,
-  put-byte-reads.Asked,
-  put-byte-reads.Learnt,
-  put-number-below t,
-  put-number.Post,
-) (put-number-at t) put-number.Post
-put-number-add-result t c = omega (arith, c .before .before .before .before .before .before .before .before .pre, c .before .before .before .before .before .before .if1)
-
-put-number-same-length : (t : ℕ) → put-number-lts.Need-same-length (
-  digit-byte-reads.Asked,
-  digit-byte-reads.Learnt,
-  put-byte-reads.Asked,
-  put-byte-reads.Learnt,
-  put-number-below t,
-  put-number.Post,
-) (put-number-at t) put-number.Post
-put-number-same-length t c = c .before .before .put-byte .kept .0
-
-put-number-returns-2 : (t : ℕ) → put-number-lts.Need-returns-2 (
-  digit-byte-reads.Asked,
-  digit-byte-reads.Learnt,
-  put-byte-reads.Asked,
-  put-byte-reads.Learnt,
-  put-number-below t,
-  put-number.Post,
-) (put-number-at t) put-number.Post
-put-number-returns-2 t c =
-    let if1 = c .before .before .before .before .before .before .if1 in
-    let if2 = c .before .before .before .before .before .if2 in
-    let digit-byte = c .before .before .before .digit-byte in
-    print-one _ _ _ _ _ _ _ (if1 .left) (if2 .taken) (digit-byte .ensures) (c .before .before .put-byte .ensures)
-
-put-number-div-put-number : (t : ℕ) → put-number-lts.Need-div-put-number (
-  digit-byte-reads.Asked,
-  digit-byte-reads.Learnt,
-  put-byte-reads.Asked,
-  put-byte-reads.Learnt,
-  put-number-below t,
-  put-number.Post,
-) (put-number-at t) put-number.Post
-put-number-div-put-number t c = omega (arith, c .before .before .before .pre)
-
-put-number-sub-put-number : (t : ℕ) → put-number-lts.Need-sub-put-number (
-  digit-byte-reads.Asked,
-  digit-byte-reads.Learnt,
-  put-byte-reads.Asked,
-  put-byte-reads.Learnt,
-  put-number-below t,
-  put-number.Post,
-) (put-number-at t) put-number.Post
-put-number-sub-put-number t c = omega (arith, c .before .if1)
-
-put-number-put-number-requires : (t : ℕ) → put-number-lts.Need-put-number-requires (
-  digit-byte-reads.Asked,
-  digit-byte-reads.Learnt,
-  put-byte-reads.Asked,
-  put-byte-reads.Learnt,
-  put-number-below t,
-  put-number.Post,
-) (put-number-at t) put-number.Post
-put-number-put-number-requires t c κs = omega (arith, c .before .before .before .before .pre, c .before .before .if1)
-
-put-number-rem-digit-byte : (t : ℕ) → put-number-lts.Need-rem-digit-byte (
-  digit-byte-reads.Asked,
-  digit-byte-reads.Learnt,
-  put-byte-reads.Asked,
-  put-byte-reads.Learnt,
-  put-number-below t,
-  put-number.Post,
-) (put-number-at t) put-number.Post
-put-number-rem-digit-byte t c = omega (arith, c .before .before .before .before .before .before .before .before .pre)
-
-put-number-digit-byte-requires-2 : (t : ℕ) → put-number-lts.Need-digit-byte-requires-2 (
-  digit-byte-reads.Asked,
-  digit-byte-reads.Learnt,
-  put-byte-reads.Asked,
-  put-byte-reads.Learnt,
-  put-number-below t,
-  put-number.Post,
-) (put-number-at t) put-number.Post
-put-number-digit-byte-requires-2 t c κs =
-    let args = c .before .before .before .before .before .before .before .before .args in
-    let pre = c .before .before .before .before .before .before .before .before .pre in
-    omega (arith, pre, mod-lt (args .n) {m = args .base} (omega (arith, pre)))
-
-put-number-put-byte-requires-2 : (t : ℕ) → put-number-lts.Need-put-byte-requires-2 (
-  digit-byte-reads.Asked,
-  digit-byte-reads.Learnt,
-  put-byte-reads.Asked,
-  put-byte-reads.Learnt,
-  put-number-below t,
-  put-number.Post,
-) (put-number-at t) put-number.Post
-put-number-put-byte-requires-2 t c κs = search needs
-
-put-number-add-result-2 : (t : ℕ) → put-number-lts.Need-add-result-2 (
-  digit-byte-reads.Asked,
-  digit-byte-reads.Learnt,
-  put-byte-reads.Asked,
-  put-byte-reads.Learnt,
-  put-number-below t,
-  put-number.Post,
-) (put-number-at t) put-number.Post
-put-number-add-result-2 t c =
-    let args = c .before .before .before .before .before .before .before .before .before .before .before .before .args in
-    let pre = c .before .before .before .before .before .before .before .before .before .before .before .before .pre in
-    let if1 = c .before .before .before .before .before .before .before .before .before .before .if1 in
-    let the-put-number = c .before .before .before .before .before .before .before .put-number in
-    omega (arith, pre, if1, the-put-number .ensures .0, printed-fits (args .base) (args .f - 1) (args .n / args .base))
-
-put-number-same-length-2 : (t : ℕ) → put-number-lts.Need-same-length-2 (
-  digit-byte-reads.Asked,
-  digit-byte-reads.Learnt,
-  put-byte-reads.Asked,
-  put-byte-reads.Learnt,
-  put-number-below t,
-  put-number.Post,
-) (put-number-at t) put-number.Post
-put-number-same-length-2 t c = c .before .before .put-byte2 .kept .0 ∙ c .before .before .before .before .before .before .before .put-number .kept .1 .1 .1 .0
-
-put-number-returns-3 : (t : ℕ) → put-number-lts.Need-returns-3 (
-  digit-byte-reads.Asked,
-  digit-byte-reads.Learnt,
-  put-byte-reads.Asked,
-  put-byte-reads.Learnt,
-  put-number-below t,
-  put-number.Post,
-) (put-number-at t) put-number.Post
-put-number-returns-3 t c =
-    let if1 = c .before .before .before .before .before .before .before .before .before .before .if1 in
-    let if2 = c .before .before .before .before .before .before .before .before .before .if2 in
-    let the-put-number = c .before .before .before .before .before .before .before .put-number in
-    let digit-byte2 = c .before .before .before .digit-byte2 in
-    print-more _ _ _ _ _ _ _ _ _ (if1 .left) (if2 .left) (the-put-number .ensures .0) (the-put-number .ensures .1) (digit-byte2 .ensures)
-    (c .before .before .put-byte2 .ensures)
-
-pub +put-number-spec : {M : Type 1} → statement M
-+put-number-spec = close μ-put-number λ t. put-number-lts.spec (
+-- what the calls ask and promise; the own call is for fewer digits
+abbrev claims : ℕ → put-number-lts.Claims
+claims t = (
   digit-byte-reads.Asked,
   digit-byte-reads.Learnt,
   put-byte-reads.Asked,
@@ -207,20 +40,48 @@ pub +put-number-spec : {M : Type 1} → statement M
   put-number-below t,
   put-number.Post,
 )
+
+digit-byte-requires-2 : (t : ℕ) → put-number-lts.Need-digit-byte-requires-2 (claims t) (put-number-at t) put-number.Post
+digit-byte-requires-2 t c κs =
+    let start = c .before .before .before .before .before .before .before .before in
+    omega (arith, start .pre, mod-lt (start .args .n) {m = start .args .base} (omega (arith, start .pre)))
+
+add-result-2 : (t : ℕ) → put-number-lts.Need-add-result-2 (claims t) (put-number-at t) put-number.Post
+add-result-2 t c =
+    let start = c .before .before .before .before .before .before .before .before .before .before .before .before in
+    omega (
+      arith,
+      start .pre,
+      c .before .before .before .before .before .before .before .before .before .before .if1,
+      c .before .before .before .before .before .before .before .put-number .ensures .0,
+      printed-fits (start .args .base) (start .args .f - 1) (start .args .n / start .args .base),
+    )
+
+returns-3 : (t : ℕ) → put-number-lts.Need-returns-3 (claims t) (put-number-at t) put-number.Post
+returns-3 t c =
+    let the-rest = c .before .before .before .before .before .before .before .put-number .ensures in
+    print-more _ _ _ _ _ _ _ _ _ (c .before .before .before .before .before .before .before .before .before .before .if1 .left)
+    (c .before .before .before .before .before .before .before .before .before .if2 .left) (the-rest .0) (the-rest .1)
+    (c .before .before .before .digit-byte2 .ensures) (c .before .before .put-byte2 .ensures)
+
+pub +put-number-spec : {M : Type 1} → statement M
++put-number-spec = close μ-put-number λ t. put-number-lts.spec
+    (claims t)
     (put-number-at t)
     put-number.Post
-    (put-number-returns t)
-    (put-number-digit-byte-requires t)
-    (put-number-put-byte-requires t)
-    (put-number-add-result t)
-    (put-number-same-length t)
-    (put-number-returns-2 t)
-    (put-number-div-put-number t)
-    (put-number-sub-put-number t)
-    (put-number-put-number-requires t)
-    (put-number-rem-digit-byte t)
-    (put-number-digit-byte-requires-2 t)
-    (put-number-put-byte-requires-2 t)
-    (put-number-add-result-2 t)
-    (put-number-same-length-2 t)
-    (put-number-returns-3 t)
+    (λ c. print-none _ _ _ _ _ (c .if1 .taken))
+    (λ c κs. omega arith)
+    (λ c κs. search needs)
+    (λ c. omega (arith, c .before .before .before .before .before .before .before .before .pre, c .before .before .before .before .before .before .if1))
+    (λ c. c .before .before .put-byte .kept .0)
+    (λ c. print-one _ _ _ _ _ _ _ (c .before .before .before .before .before .before .if1 .left) (c .before .before .before .before .before .if2 .taken)
+    (c .before .before .before .digit-byte .ensures) (c .before .before .put-byte .ensures))
+    (λ c. omega (arith, c .before .before .before .pre))
+    (λ c. omega (arith, c .before .if1))
+    (λ c κs. omega (arith, c .before .before .before .before .pre, c .before .before .if1))
+    (λ c. omega (arith, c .before .before .before .before .before .before .before .before .pre))
+    (digit-byte-requires-2 t)
+    (λ c κs. search needs)
+    (add-result-2 t)
+    (λ c. c .before .before .put-byte2 .kept .0 ∙ c .before .before .before .before .before .before .before .put-number .kept .1 .1 .1 .0)
+    (returns-3 t)

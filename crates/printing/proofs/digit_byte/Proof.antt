@@ -1,4 +1,4 @@
--- `print::digit_byte` meets its contract. Assumes nothing.
+-- `printing::digit_byte` meets its contract. Assumes nothing.
 use borrow.Author.Needs.{needs}
 use borrow.Author.Tests.{lt-ltb, le-ltb}
 use Rattle.printing.proofs.digit_byte.Statement.{statement}

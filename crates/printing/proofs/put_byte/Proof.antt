@@ -1,4 +1,4 @@
--- `print::put_byte` meets its contract. Assumes nothing.
+-- `printing::put_byte` meets its contract. Assumes nothing.
 use mathlib.Core.Path.{sym}
 use borrow.Author.Needs.{needs}
 use lib.Seq.{set-out}

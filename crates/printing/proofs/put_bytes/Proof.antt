@@ -1,4 +1,4 @@
--- `print::put_bytes` meets its contract. The invariant: writing what is left leaves what writing the whole does. Assumes nothing.
+-- `printing::put_bytes` meets its contract. The invariant: writing what is left leaves what writing the whole does. Assumes nothing.
 use mathlib.Core.Path.{_≡_, refl, ap, _∙_}
 use Prim.Native.Nat.{ℕ, _≤_, _-_, _+_}
 use native.Mathlib.Omega.{arith}
@@ -28,9 +28,6 @@ loop-again c =
     let args = c .before .before .before .before .before .before .before .before .before .args in
     (omega arith, put-byte .kept .0 ∙ loop .inv .1, bytes-step (args .s .now) _ _ _ (loop .i) _ _ (omega arith) refl (put-byte .ensures) (loop .inv .2))
 
-same-length : tie.Need-same-length Inv-loop μ-loop
-same-length c = c .before .loop .inv .1
-
 returns : tie.Need-returns Inv-loop μ-loop
 returns c =
     let args = c .before .before .before .before .args in
@@ -40,16 +37,5 @@ returns c =
 pub put-bytes-spec : {M : Type 1} → statement M
 put-bytes-spec =
     tie.close
-    (tie.spec
-    Inv-loop
-    μ-loop
-    loop-holds
-    (λ c. omega arith)
-    (λ c. omega arith)
-    (λ c κs. search needs)
-    (λ c. omega arith)
-    (λ c. omega arith)
-    loop-again
-    (λ c. omega arith)
-    same-length
-    returns)
+    (tie.spec Inv-loop μ-loop loop-holds (λ c. omega arith) (λ c. omega arith) (λ c κs. search needs) (λ c. omega arith) (λ c. omega arith)
+    loop-again (λ c. omega arith) (λ c. c .before .loop .inv .1) returns)

@@ -16,15 +16,15 @@ use lib.ListN.{length, getD, set, drop, length-append}
 use lib.Seq.{sets, drop-cons, drop-length}
 use lib.Dec.{ltb}
 use borrow.Author.Tests.{lt-ltb, le-ltb}
-use Rattle.printing.specs.Print.{digitByte, printed}
+use Rattle.printing.specs.Print.{digitByte, numeralText}
 
 -- ---- printing, in its cases
-pub printed-one : (base f n : ℕ) → n < base → printed base (suc f) n ≡ digitByte n ∷ []
-unfolding printed
+pub printed-one : (base f n : ℕ) → n < base → numeralText base (suc f) n ≡ digitByte n ∷ []
+unfolding numeralText
 printed-one base f n h = rw (lt-ltb n base h)
 
-pub printed-more : (base f n : ℕ) → base ≤ n → printed base (suc f) n ≡ printed base f (n / base) ++ (digitByte (n % base) ∷ [])
-unfolding printed
+pub printed-more : (base f n : ℕ) → base ≤ n → numeralText base (suc f) n ≡ numeralText base f (n / base) ++ (digitByte (n % base) ∷ [])
+unfolding numeralText
 printed-more base f n h = rw (le-ltb n base h)
 
 -- ---- writing two parts
@@ -33,44 +33,49 @@ sets-append [] ys d i = rw add-zero
 sets-append (x ∷ xs) ys d i = sets-append xs ys (set d i x) (suc i) ∙ ap (λ (n : ℕ). sets (sets (set d i x) (suc i) xs) n ys) (omega arith)
 
 -- ---- what the code does at a place
-pub print-none : (base f n at : ℕ) (out : List ℕ) → f ≡ 0 → (at ≡ at + length (printed base f n)) × (out ≡ sets out at (printed base f n))
-unfolding printed
+pub print-none : (base f n at : ℕ) (out : List ℕ) → f ≡ 0 → (at ≡ at + length (numeralText base f n)) × (out ≡ sets out at (numeralText base f n))
+unfolding numeralText
 print-none base f n at out h = rw h (omega arith, refl)
 
-print-one′ : (base f n at x : ℕ) (out o₁ : List ℕ) → n < base → x ≡ digitByte n → o₁ ≡ set out at x → (at + 1 ≡ at + length (printed base (suc f) n)) × (o₁ ≡ sets out at (printed base (suc f) n))
+print-one′ : (base f n at x : ℕ) (out o₁ : List ℕ) → n < base → x ≡ digitByte n → o₁ ≡ set out at x
+    → (at + 1 ≡ at + length (numeralText base (suc f) n)) × (o₁ ≡ sets out at (numeralText base (suc f) n))
 print-one′ base f n at x out o₁ h e o = rw (printed-one base f n h) (omega arith, o ∙ ap (set out at) e)
 
-pub print-one : (base f n at x : ℕ) (out o₁ : List ℕ) → (f ≡ 0 → ⊥) → n < base → x ≡ digitByte n → o₁ ≡ set out at x → (at + 1 ≡ at + length (printed base f n)) × (o₁ ≡ sets out at (printed base f n))
+pub print-one : (base f n at x : ℕ) (out o₁ : List ℕ) → (f ≡ 0 → ⊥) → n < base → x ≡ digitByte n → o₁ ≡ set out at x
+    → (at + 1 ≡ at + length (numeralText base f n)) × (o₁ ≡ sets out at (numeralText base f n))
 print-one base f n at x out o₁ nz h e o =
     let g : suc (f - 1) ≡ f = omega arith in
     rw g at (print-one′ base (f - 1) n at x out o₁ h e o)
 
-print-more′ : (base f n at x e : ℕ) (out o₁ o₂ : List ℕ) → base ≤ n → e ≡ at + length (printed base f (n / base)) → o₁ ≡ sets out at (printed base f (n / base)) → x ≡ digitByte (n % base) → o₂ ≡ set o₁ e x
-    → (e + 1 ≡ at + length (printed base (suc f) n)) × (o₂ ≡ sets out at (printed base (suc f) n))
+print-more′ : (base f n at x e : ℕ) (out o₁ o₂ : List ℕ) → base ≤ n → e ≡ at + length (numeralText base f (n / base))
+    → o₁ ≡ sets out at (numeralText base f (n / base)) → x ≡ digitByte (n % base) → o₂ ≡ set o₁ e x
+    → (e + 1 ≡ at + length (numeralText base (suc f) n)) × (o₂ ≡ sets out at (numeralText base (suc f) n))
 print-more′ base f n at x e out o₁ o₂ h he ho hx hs =
     rw (printed-more base f n h) (
-      omega (arith, length-append (printed base f (n / base)) (digitByte (n % base) ∷ [])),
-      hs ∙ rw (hx, ho, he) (sym (sets-append (printed base f (n / base)) (digitByte (n % base) ∷ []) out at)),
+      omega (arith, length-append (numeralText base f (n / base)) (digitByte (n % base) ∷ [])),
+      hs ∙ rw (hx, ho, he) (sym (sets-append (numeralText base f (n / base)) (digitByte (n % base) ∷ []) out at)),
     )
 
-pub print-more : (base f n at x e : ℕ) (out o₁ o₂ : List ℕ) → (f ≡ 0 → ⊥) → base ≤ n → e ≡ at + length (printed base (f - 1) (n / base)) → o₁ ≡ sets out at (printed base (f - 1) (n / base)) → x ≡ digitByte (n % base) → o₂ ≡ set o₁ e x
-    → (e + 1 ≡ at + length (printed base f n)) × (o₂ ≡ sets out at (printed base f n))
+pub print-more : (base f n at x e : ℕ) (out o₁ o₂ : List ℕ) → (f ≡ 0 → ⊥) → base ≤ n → e ≡ at + length (numeralText base (f - 1) (n / base))
+    → o₁ ≡ sets out at (numeralText base (f - 1) (n / base)) → x ≡ digitByte (n % base) → o₂ ≡ set o₁ e x
+    → (e + 1 ≡ at + length (numeralText base f n)) × (o₂ ≡ sets out at (numeralText base f n))
 print-more base f n at x e out o₁ o₂ nz h he ho hx hs =
     let g : suc (f - 1) ≡ f = omega arith in
     rw g at (print-more′ base (f - 1) n at x e out o₁ o₂ h he ho hx hs)
 
-pub printed-fits : (base f n : ℕ) → length (printed base f n) ≤ f
-unfolding printed
+pub printed-fits : (base f n : ℕ) → length (numeralText base f n) ≤ f
+unfolding numeralText
 printed-fits base zero n = omega arith
 printed-fits base (suc f) n = go (ltb n base) (printed-fits base f (n / base))
   where
-    go : (t : Bool) → length (printed base f (n / base)) ≤ f → length (cond t (digitByte n ∷ []) (printed base f (n / base) ++ (digitByte (n % base) ∷ []))) ≤ suc f
+    go : (t : Bool) → length (numeralText base f (n / base)) ≤ f → length (cond t (digitByte n ∷ []) (numeralText base f (n / base) ++ (digitByte (n % base) ∷ []))) ≤ suc f
     go true ih = omega arith
-    go false ih = omega (arith, length-append (printed base f (n / base)) (digitByte (n % base) ∷ []))
+    go false ih = omega (arith, length-append (numeralText base f (n / base)) (digitByte (n % base) ∷ []))
 
 -- ---- copying
 -- writing what is left leaves what writing the whole does
-pub bytes-step : (s out o₁ : List ℕ) (at i x : ℕ) (w : List ℕ) → i < length s → x ≡ getD s i 0 → o₁ ≡ set out (at + i) x → sets out (at + i) (drop i s) ≡ w → sets o₁ (at + (i + 1)) (drop (i + 1) s) ≡ w
+pub bytes-step : (s out o₁ : List ℕ) (at i x : ℕ) (w : List ℕ) → i < length s → x ≡ getD s i 0 → o₁ ≡ set out (at + i) x
+    → sets out (at + i) (drop i s) ≡ w → sets o₁ (at + (i + 1)) (drop (i + 1) s) ≡ w
 bytes-step s out o₁ at i x w h e o inv =
     let a : sets out (at + i) (getD s i 0 ∷ drop (suc i) s) ≡ w = rw (drop-cons s i 0 h) at inv in
     let b : at + (i + 1) ≡ suc (at + i) = omega arith in

@@ -1,9 +1,10 @@
 -- The lines of records: a record has numbers and forms.
---   listsText xs ys        == two inner lists, numbers and forms, and the line's end
---   entryText i xs ys      == the line of entry i: its number, extension and basis
+--   leadText n                       == a number and a comma
+--   listsText xs ys                  == two inner lists, numbers and forms, and the line's end
+--   entryText i xs ys                == the line of entry i: its number, extension and basis
 --   recordLines line d k i n listing == the lines of n records from number i on; a record has d numbers and k rows, `line` makes its line
---   Short xs ys at top        == lists of at most 1,000,000 numbers, and a place of at most `top`
---   Records listing d k n at  == n records of d numbers and k rows stand in the listing
+--   Short xs ys at top               == lists of at most 1,000,000 numbers, and a place of at most `top`
+--   Records listing d k n at         == n records of d numbers and k rows stand in the listing
 -- Document 01: "`entry` counts from 0". Assumes nothing.
 use Prim.Native.Nat.{ℕ, zero, suc, _+_, _*_, _≤_}
 use mathlib.Core.List.{List, [], _∷_, _++_}
@@ -11,6 +12,9 @@ use lib.ListN.{length, take, drop}
 use Rattle.text.specs.Line.{LF, comma}
 use Rattle.printing.specs.Print.{numberText}
 use Rattle.printing.specs.field_lists.Inner.{numbersText, formsText}
+
+abbrev pub leadText : ℕ → List ℕ
+leadText n = numberText n ++ (comma ∷ [])
 
 unfoldable pub listsText : List ℕ → List ℕ → List ℕ
 listsText xs ys = numbersText xs ++ (comma ∷ formsText ys) ++ (LF ∷ [])

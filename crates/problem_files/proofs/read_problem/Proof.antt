@@ -1,4 +1,5 @@
 -- `problem_files::read_problem` meets its contract. Assumes nothing.
+use Prim.Native.Nat.{_≤_}
 use mathlib.Core.Path.{sym}
 use native.Mathlib.Omega.{arith}
 use borrow.Author.Needs.{needs}
@@ -9,95 +10,33 @@ use Rattle.problem_files.specs.laws.Accepted.{answer-room, final-refused
 use Rattle.problem_files.proofs.read_problem.Statement.{statement}
 use Rattle.problem_files.proofs.read_problem.Tie as tie
 
-array-share-prefix-g : tie.Need-array-share-prefix-g
-array-share-prefix-g c =
-    let far = c .before .before .before .before .before .before .before .before .before .before .before .before in
-    let args = far .before .args in
-    let read-parts = c .before .before .before .before .before .before .before .read-parts in
-    let kind = c .before .before .before .kind in
-    let R = answer-room (args .purpose) (args .file .now) _ _ _ _ (read-parts .result) _ _ _ _ _ (read-parts .ensures) (kind .given .1) in
-    let h = c .before .handed .ensures in
-    let l = read-parts .kept .1 .1 .1 .1 .0 in
-    let f = R .few-generators in
-    let w = R .for-generators in
-    omega arith
-
-slice-aggregate-copy : tie.Need-slice-aggregate-copy
-slice-aggregate-copy c =
-    let far = c .before .before .before .before .before .before .before .before .before .before .before .before in
-    let args = far .before .before .args in
-    let read-parts = c .before .before .before .before .before .before .before .before .read-parts in
-    let kind = c .before .before .before .before .kind in
-    let R = answer-room (args .purpose) (args .file .now) _ _ _ _ (read-parts .result) _ _ _ _ _ (read-parts .ensures) (kind .given .1) in
-    let h = c .before .before .handed .ensures in
-    let l = read-parts .kept .1 .1 .1 .1 .0 in
-    let f = R .few-generators in
-    let w = R .for-generators in
-    sym (length-take-le _ _ (omega arith))
+-- the forms handed in, as many as there are: within the buffers that were read to, and within the lent ones
+room : (c : tie.After-handed2) →
+    let args = c .before .before .before .before .before .before .before .before .before .before .before .before .before .args in
+    let read = c .before .before .before .before .before .before .before .read-parts .last .1 .1 .1 .1 in
+    (c .before .handed .result ≤ length (read .0)) × (c .before .handed .result ≤ length (args .gs .now))
+    × (c .handed2 .result ≤ length (read .1 .0)) × (c .handed2 .result ≤ length (args .ts .now))
+room c =
+    let args = c .before .before .before .before .before .before .before .before .before .before .before .before .before .args in
+    let read = c .before .before .before .before .before .before .before .read-parts in
+    let R = answer-room (args .purpose) (args .file .now) _ _ _ _ (read .result) _ _ _ _ _ (read .ensures) (c .before .before .before .kind .given .1) in
+    let g = c .before .handed .ensures in
+    let t = c .handed2 .ensures in
+    let lg = read .kept .1 .1 .1 .1 .0 in
+    let lt = read .kept .1 .1 .1 .1 .1 .0 in
+    (omega (arith, R .few-generators), omega (arith, R .for-generators), omega (arith, R .few-targets), omega (arith, R .for-targets))
 
 copy-requires : tie.Need-copy-requires
 copy-requires c κs =
-    let far = c .before .before .before .before .before .before .before .before .before .before .before .before in
-    let args = far .before .before .before .args in
-    let read-parts = c .before .before .before .before .before .before .before .before .before .read-parts in
-    let kind = c .before .before .before .before .before .kind in
-    let handed = c .before .before .before .handed in
-    let R = answer-room (args .purpose) (args .file .now) _ _ _ _ (read-parts .result) _ _ _ _ _ (read-parts .ensures) (kind .given .1) in
-    let h = handed .ensures in
-    let l = read-parts .kept .1 .1 .1 .1 .0 in
-    let f = R .few-generators in
-    let w = R .for-generators in
-    let z = length-take-le (handed .result) (read-parts .last .1 .1 .1 .1 .0) (omega arith) in
-    omega arith
-
-array-share-prefix-t : tie.Need-array-share-prefix-t
-array-share-prefix-t c =
-    let far = c .before .before .before .before .before .before .before .before .before .before .before .before in
-    let args = far .before .before .before .before .before .before .args in
-    let read-parts = c .before .before .before .before .before .before .before .before .before .before .before .before .read-parts in
-    let kind = c .before .before .before .before .before .before .before .before .kind in
-    let handed2 = c .before .before .before .before .before .handed2 in
-    let R = answer-room (args .purpose) (args .file .now) _ _ _ _ (read-parts .result) _ _ _ _ _ (read-parts .ensures) (kind .given .1) in
-    let h = handed2 .ensures in
-    let l = read-parts .kept .1 .1 .1 .1 .1 .0 in
-    let f = R .few-targets in
-    let w = R .for-targets in
-    omega arith
-
-slice-aggregate-copy-2 : tie.Need-slice-aggregate-copy-2
-slice-aggregate-copy-2 c =
-    let far = c .before .before .before .before .before .before .before .before .before .before .before .before in
-    let args = far .before .before .before .before .before .before .before .args in
-    let read-parts = far .before .read-parts in
-    let kind = c .before .before .before .before .before .before .before .before .before .kind in
-    let handed2 = c .before .before .before .before .before .before .handed2 in
-    let R = answer-room (args .purpose) (args .file .now) _ _ _ _ (read-parts .result) _ _ _ _ _ (read-parts .ensures) (kind .given .1) in
-    let h = handed2 .ensures in
-    let l = read-parts .kept .1 .1 .1 .1 .1 .0 in
-    let f = R .few-targets in
-    let w = R .for-targets in
-    sym (length-take-le _ _ (omega arith))
+    let h = c .before .before in
+    let r = room h in
+    omega (arith, length-take-le (h .before .handed .result) (h .before .before .before .before .before .before .before .read-parts .last .1 .1 .1 .1 .0) (r .0), r .1)
 
 copy-requires-2 : tie.Need-copy-requires-2
 copy-requires-2 c κs =
-    let far = c .before .before .before .before .before .before .before .before .before .before .before .before in
-    let args = far .before .before .before .before .before .before .before .before .args in
-    let read-parts = far .before .before .read-parts in
-    let kind = c .before .before .before .before .before .before .before .before .before .before .kind in
-    let handed2 = c .before .before .before .before .before .before .before .handed2 in
-    let R = answer-room (args .purpose) (args .file .now) _ _ _ _ (read-parts .result) _ _ _ _ _ (read-parts .ensures) (kind .given .1) in
-    let h = handed2 .ensures in
-    let l = read-parts .kept .1 .1 .1 .1 .1 .0 in
-    let f = R .few-targets in
-    let w = R .for-targets in
-    let z = length-take-le (handed2 .result) (read-parts .last .1 .1 .1 .1 .1 .0) (omega arith) in
-    omega arith
-
-same-length : tie.Need-same-length
-same-length c = c .before .before .before .before .before .before .clear .kept .0
-
-same-length-2 : tie.Need-same-length-2
-same-length-2 c = c .before .before .clear2 .kept .0
+    let h = c .before .before .before .before .before .before .before in
+    let r = room h in
+    omega (arith, length-take-le (h .handed2 .result) (h .before .before .before .before .before .before .before .read-parts .last .1 .1 .1 .1 .1 .0) (r .2), r .3)
 
 returns : tie.Need-returns
 returns c =
@@ -109,12 +48,6 @@ returns c =
     final-refused (problemFile (args .purpose) (args .file .now) (length (args .gs .now)) (length (args .ts .now))) _ _ (args .gs .now)
     (args .ts .now) _ _ (read-parts .result) (e .given .0 .0) (read-parts .ensures) (e .given .1) (clear .ensures)
     (c .before .before .clear2 .ensures)
-
-same-length-3 : tie.Need-same-length-3
-same-length-3 c = c .before .before .before .before .before .before .before .copy .kept .1 .0
-
-same-length-4 : tie.Need-same-length-4
-same-length-4 c = c .before .before .copy2 .kept .1 .0
 
 returns-2 : tie.Need-returns-2
 returns-2 c =
@@ -132,25 +65,9 @@ returns-2 c =
 pub read-problem-spec : {M : Type 1} → statement M
 read-problem-spec =
     tie.close
-    (tie.spec
-    (λ c. search needs)
-    (λ c. search needs)
-    (λ c κs. search needs)
-    (λ c. search needs)
-    (λ c κs. search needs)
-    (λ c κs. search needs)
-    (λ c. search needs)
-    (λ c κs. search needs)
-    (λ c κs. search needs)
-    array-share-prefix-g
-    slice-aggregate-copy
-    copy-requires
-    array-share-prefix-t
-    slice-aggregate-copy-2
-    copy-requires-2
-    same-length
-    same-length-2
-    returns
-    same-length-3
-    same-length-4
-    returns-2)
+    (tie.spec (λ c. search needs) (λ c. search needs) (λ c κs. search needs) (λ c. search needs) (λ c κs. search needs) (λ c κs. search needs)
+    (λ c. search needs) (λ c κs. search needs) (λ c κs. search needs) (λ c. room c .0) (λ c. sym (length-take-le _ _ (room (c .before) .0)))
+    copy-requires (λ c. room (c .before .before .before .before .before) .2)
+    (λ c. sym (length-take-le _ _ (room (c .before .before .before .before .before .before) .2))) copy-requires-2
+    (λ c. c .before .before .before .before .before .before .clear .kept .0) (λ c. c .before .before .clear2 .kept .0) returns
+    (λ c. c .before .before .before .before .before .before .before .copy .kept .1 .0) (λ c. c .before .before .copy2 .kept .1 .0) returns-2)

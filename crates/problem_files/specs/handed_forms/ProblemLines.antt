@@ -1,7 +1,7 @@
 -- The lines of a problem's file under the first two: the first refusal that applies, or the forms that the file hands in.
---   handed kd c            == how many forms a file hands in where a list hands in c: none for the other kinds
+--   handed kd c                                          == how many forms a file hands in where a list hands in c: none for the other kinds
 --   listLines q r s, mapLines n m s, bodyOf kd q r n m s == refusals 4 and 5 of the lines s under the first two, or the forms handed in
---   Ready kd r g t         == g and t have room for any forms that a file hands in, and it hands in at most 64 targets
+--   FormRoom kd r g t                                    == g and t have room for any forms that a file hands in, and it hands in at most 64 targets
 -- Document 01, "Refused, in this order":
 --   4. "The menu of a Rank, of a Catalogue [..] has more than 4,095 forms"
 --   5. "The remaining lines are too few, too many, out of order or misshapen"
@@ -17,12 +17,13 @@ use Rattle.maps.specs.Generators.{countOf}
 use Rattle.formula_files.specs.lines.Formula.{ended}
 use Rattle.formula_files.specs.Outcome.{isList}
 use Rattle.problem_files.specs.list_lines.Roles.{listBody}
+use Rattle.kinds.specs.Limits.{mostGenerators, mostTargets}
 
 abbrev pub handed : Kind → ℕ → ℕ
 handed kd c = cond (isList kd) c 0
 
 unfoldable pub listLines : (q r : ℕ) → List ℕ → Answer (List ℕ × List ℕ)
-listLines q r s = refuse 4 (ltb 4095 q) (need 5 (listBody q r s) accepted)
+listLines q r s = refuse 4 (ltb mostGenerators q) (need 5 (listBody q r s) accepted)
 
 -- nothing follows
 unfoldable pub mapLines : (n m : ℕ) → List ℕ → Answer (List ℕ × List ℕ)
@@ -31,7 +32,7 @@ mapLines n m s = need 4 (countOf n m) λ c. refuse 5 (not (ended s)) (accepted (
 abbrev pub bodyOf : Kind → (q r n m : ℕ) → List ℕ → Answer (List ℕ × List ℕ)
 bodyOf kd q r n m s = cond (isList kd) (listLines q r s) (mapLines n m s)
 
-pub record Ready (kd : Kind) (r : ℕ) (g t : List ℕ) : Type 0 where
-  pub generators : 4095 ≤ length g
-  pub targets : 64 ≤ length t
-  pub few : handed kd r ≤ 64
+pub record FormRoom (kd : Kind) (r : ℕ) (g t : List ℕ) : Type 0 where
+  pub generators : mostGenerators ≤ length g
+  pub targets : mostTargets ≤ length t
+  pub few : handed kd r ≤ mostTargets

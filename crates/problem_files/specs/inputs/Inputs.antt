@@ -1,7 +1,7 @@
 -- The input of a program that answers a problem.
---   inputOf a s       == the problem of the input s where a is asked, or its refusal; the buffers for a list's forms have 4,096 words
---   Fits x            == of the code's answer x: the forms handed in fit these buffers
---   Input a s x g t   == the code's answer x to the input s, where a is asked, with the buffers g and t after it
+--   inputOf a s     == the problem of the input s where a is asked, or its refusal; the buffers for a list's forms have 4,096 words
+--   InputFits x     == of the code's answer x: the forms handed in fit these buffers
+--   Input a s x g t == the code's answer x to the input s, where a is asked, with the buffers g and t after it
 -- Document 01, refusal 1: "in a program, also an input of more than 65,536 bytes". Assumes nothing.
 use Prim.Native.Nat.{ℕ, _≤_}
 use mathlib.Core.Path.{_≡_}
@@ -16,14 +16,15 @@ use Rattle.problem_files.specs.Lent.{seenRead}
 use Rattle.problem_files.specs.declared.judging.Purpose.{Purpose}
 use Rattle.problem_files.specs.declared.judging.ProblemRead.{ProblemRead}
 use Rattle.problem_files.specs.declared.judging.ProblemRead.the-variants as read
+use Rattle.text.specs.Limits.{programWords, mostBytes}
 
 unfoldable pub inputOf : Purpose → List ℕ → Answer ProblemFile
-inputOf a s = refuse 1 (ltb 65536 (length s)) (problemFile a s 4096 4096)
+inputOf a s = refuse 1 (ltb mostBytes (length s)) (problemFile a s programWords programWords)
 
-abbrev pub Fits : ProblemRead → Type 0
-Fits (read.Refused e) = Unit {0}
-Fits (read.Problem kd p q r k) = (handed kd q ≤ 4096) × (handed kd r ≤ 4096)
+abbrev pub InputFits : ProblemRead → Type 0
+InputFits (read.Refused e) = Unit {0}
+InputFits (read.Problem kd p q r k) = (handed kd q ≤ programWords) × (handed kd r ≤ programWords)
 
 pub record Input (a : Purpose) (s : List ℕ) (x : ProblemRead) (g t : List ℕ) : Type 0 where
   pub answer : inputOf a s ≡ seenRead g t x
-  pub room : Fits x
+  pub room : InputFits x

@@ -1,11 +1,11 @@
 -- The forms that a problem's file hands in, judged: the first refusal of 6 to 9 that applies, or the problem.
---   ProblemFile            == the kind, the four counts, and the forms that the file hands in
---   beyond a k ts          == refusal 8: k exceeds ℓ + 6 in a Catalogue, or is not 0 in a Rank
---   short kd q r u v       == refusal 9: buffers of u and v words don't take the forms
---   settled ..             == 8 and 9 of a problem with known targets
---   judged ..              == 6 to 9 of the forms handed in
---   seenProblem gs ts x    == what the code's answer x says of a file that hands in the forms gs and ts
---   Settled ..             == the answer x to refusals 8 and 9, whatever forms were handed in
+--   ProblemFile         == the kind, the four counts, and the forms that the file hands in
+--   beyond a k ts       == refusal 8: k exceeds ℓ + 6 in a Catalogue, or is not 0 in a Rank
+--   short kd q r u v    == refusal 9: buffers of u and v words don't take the forms
+--   settled ..          == 8 and 9 of a problem with known targets
+--   problemJudged ..    == 6 to 9 of the forms handed in
+--   seenProblem gs ts x == what the code's answer x says of a file that hands in the forms gs and ts
+--   Settled ..          == the answer x to refusals 8 and 9, whatever forms were handed in
 -- Document 01, "Refused, in this order":
 --   6. "A form [..] has a bit outside its width"     7. "A menu form is zero or repeats an earlier one"
 --   8. "k exceeds ℓ + 6 in a Catalogue [..] or is not 0 in a Rank"
@@ -53,8 +53,8 @@ settled a kd p q r k u v targets gs ts =
     (refuse 9 (short kd q r u v)
     (accepted (problemOf kd p q r k gs ts)))
 
-unfoldable pub judged : Purpose → Kind → (p q r k u v : ℕ) (gs ts : List ℕ) → Answer ProblemFile
-judged a kd p q r k u v gs ts = follow (posed (numberOf kd) p q r gs ts []) λ x. settled a kd p q r k u v (x .targets) gs ts
+unfoldable pub problemJudged : Purpose → Kind → (p q r k u v : ℕ) (gs ts : List ℕ) → Answer ProblemFile
+problemJudged a kd p q r k u v gs ts = follow (posed (numberOf kd) p q r gs ts []) λ x. settled a kd p q r k u v (x .targets) gs ts
 
 -- ---- the answer of the code
 abbrev pub seenProblem : List ℕ → List ℕ → ProblemRead → Answer ProblemFile

@@ -1,5 +1,5 @@
 -- What a problem's file that is accepted has been through.
---   Went a s u v P    == its first two lines, its kind and sizes, its lines, and that the lent buffers take its forms
+--   ProblemWent a s u v P    == its first two lines, its kind and sizes, its lines, and that the lent buffers take its forms
 --   problem-went      an accepted file has been through that
 --   final-refused, final-problem   the reply and both buffers at exit
 --   room, answer-room the forms handed in fit both the lent buffers and buffers of 4,095 and 64 words
@@ -17,20 +17,21 @@ use borrow.Author.Tests.{ltb-false}
 use Rattle.kinds.specs.declared.Kind.{Kind}
 use Rattle.kinds.specs.Sizes.{sizes}
 use Rattle.kinds.specs.Refusal.{Answer, accepted, need}
-use Rattle.kinds.specs.RefusalLaws.{need-inv, follow-inv}
+use Rattle.kinds.specs.laws.Refusal.{need-inv, follow-inv}
 use Rattle.text.specs.heads.Head.{Head, headLines}
 use Rattle.problem_files.specs.handed_forms.ProblemLines.{handed, bodyOf}
-use Rattle.problem_files.specs.judging.Judged.{ProblemFile, problemOf, short, judged}
-use Rattle.problem_files.specs.ProblemFile.{formsOf, problemFile}
+use Rattle.problem_files.specs.judging.Judged.{ProblemFile, problemOf, short, problemJudged}
+use Rattle.problem_files.specs.ProblemFile.{formsRead, problemFile}
 use Rattle.problem_files.specs.handed_forms.laws.Lines.{body-few, body-targets}
 use Rattle.problem_files.specs.judging.laws.Judging.{judged-is}
 use Rattle.words.specs.Buffers.{filled, zeros}
-use Rattle.problem_files.specs.Lent.{seenRead, reply, generatorsOf, targetsOf}
+use Rattle.problem_files.specs.Lent.{seenRead, problemReply, generatorsOf, targetsOf}
 use Rattle.problem_files.specs.declared.judging.Purpose.{Purpose}
 use Rattle.problem_files.specs.declared.judging.ProblemRead.{ProblemRead}
 use Rattle.problem_files.specs.declared.judging.ProblemRead.the-variants as read
+use Rattle.kinds.specs.Limits.{mostGenerators, mostTargets}
 
-pub record Went (a : Purpose) (s : List ℕ) (u v : ℕ) (P : ProblemFile) : Type 0 where
+pub record ProblemWent (a : Purpose) (s : List ℕ) (u v : ℕ) (P : ProblemFile) : Type 0 where
   pub head : Head
   pub text : List ℕ
   pub lines : headLines s ≡ some (head, text)
@@ -40,20 +41,21 @@ pub record Went (a : Purpose) (s : List ℕ) (u v : ℕ) (P : ProblemFile) : Typ
   pub sized : sizes kd (head .p) (head .q) (head .r) ≡ some z
   pub forms : List ℕ × List ℕ
   pub body : bodyOf kd (head .q) (head .r) (z .0) (z .1) text ≡ accepted forms
-  pub judge : judged a kd (head .p) (head .q) (head .r) (head .k) u v (forms .0) (forms .1) ≡ accepted P
+  pub judge : problemJudged a kd (head .p) (head .q) (head .r) (head .k) u v (forms .0) (forms .1) ≡ accepted P
   pub is : problemOf kd (head .p) (head .q) (head .r) (head .k) (forms .0) (forms .1) ≡ P
   pub wide : short kd (head .q) (head .r) u v ≡ false
 
 module _ (a : Purpose) (s : List ℕ) (u v : ℕ) (P : ProblemFile) where
-  pub problem-went : problemFile a s u v ≡ accepted P → Went a s u v P
-  unfolding problemFile formsOf
+  pub problem-went : problemFile a s u v ≡ accepted P → ProblemWent a s u v P
+  unfolding problemFile formsRead
   problem-went e =
-      let three : Head × List ℕ → Kind → ℕ × ℕ × ℕ → Answer ProblemFile = λ h kd z. formsOf a kd (h .0 .p) (h .0 .q) (h .0 .r) (h .0 .k) (z .0) (z .1) u v (h .1) in
+      let three : Head × List ℕ → Kind → ℕ × ℕ × ℕ → Answer ProblemFile = λ h kd z. formsRead a kd (h .0 .p) (h .0 .q) (h .0 .r) (h .0 .k) (z .0) (z .1) u v (h .1) in
       let two : Head × List ℕ → Kind → Answer ProblemFile = λ h kd. need 3 (sizes kd (h .0 .p) (h .0 .q) (h .0 .r)) (three h kd) in
       let b = need-inv 1 (headLines s) (λ h. need 2 (h .0 .kind) (two h)) P e in
       let c = need-inv 2 (b .0 .0 .kind) (two (b .0)) P (b .2) in
       let d = need-inv 3 (sizes (c .0) (b .0 .0 .p) (b .0 .0 .q) (b .0 .0 .r)) (three (b .0) (c .0)) P (c .2) in
-      let f = follow-inv (bodyOf (c .0) (b .0 .0 .q) (b .0 .0 .r) (d .0 .0) (d .0 .1) (b .0 .1)) (λ x. judged a (c .0) (b .0 .0 .p) (b .0 .0 .q) (b .0 .0 .r) (b .0 .0 .k) u v (x .0) (x .1)) P (d .2) in
+      let f = follow-inv (bodyOf (c .0) (b .0 .0 .q) (b .0 .0 .r) (d .0 .0) (d .0 .1) (b .0 .1))
+      (λ x. problemJudged a (c .0) (b .0 .0 .p) (b .0 .0 .q) (b .0 .0 .r) (b .0 .0 .k) u v (x .0) (x .1)) P (d .2) in
       let j = judged-is a (c .0) (b .0 .0 .p) (b .0 .0 .q) (b .0 .0 .r) (b .0 .0 .k) u v (f .0 .0) (f .0 .1) P (f .2) in
       record {
         head = b .0 .0;
@@ -73,8 +75,8 @@ module _ (a : Purpose) (s : List ℕ) (u v : ℕ) (P : ProblemFile) where
 pub record Taken (u v : ℕ) (P : ProblemFile) : Type 0 where
   pub for-generators : handed (P .kind) (P .q) ≤ u
   pub for-targets : handed (P .kind) (P .r) ≤ v
-  pub few-generators : handed (P .kind) (P .q) ≤ 4095
-  pub few-targets : handed (P .kind) (P .r) ≤ 64
+  pub few-generators : handed (P .kind) (P .q) ≤ mostGenerators
+  pub few-targets : handed (P .kind) (P .r) ≤ mostTargets
 
 neither : (a b : Bool) → a || b ≡ false → (a ≡ false) × (b ≡ false)
 neither true b e = absurd (true≢false e)
@@ -96,7 +98,7 @@ room a s u v P e =
 
 -- ---- the three equations of the public call
 abbrev pub Final : Answer ProblemFile → ProblemRead → (gs ts gs₁ ts₁ : List ℕ) → Type 0
-Final o x gs ts gs₁ ts₁ = (x ≡ reply o) × (gs₁ ≡ generatorsOf o gs) × (ts₁ ≡ targetsOf o ts)
+Final o x gs ts gs₁ ts₁ = (x ≡ problemReply o) × (gs₁ ≡ generatorsOf o gs) × (ts₁ ≡ targetsOf o ts)
 
 pub final-refused : (o : Answer ProblemFile) (g t gs ts gs₁ ts₁ : List ℕ) (x : ProblemRead) (e : ℕ) → o ≡ seenRead g t x → x ≡ read.Refused e → gs₁ ≡ zeros gs → ts₁ ≡ zeros ts
     → Final o (read.Refused e) gs ts gs₁ ts₁

@@ -1,9 +1,9 @@
 -- The lines of a list under the first two, as readings: each gives what it says and the text after it; `none` is 'misshapen' (refusal 5).
---   roleNames       == `role,form`
+--   roleNames                 == `role,form`
 --   generatorRole, targetRole == the bytes `g` and `t`
---   roleLine c s    == the form of a line: the byte c, a comma, a form in hexadecimal, LF
---   roleLines c n s == the forms of n such lines
---   listBody q r s  == the forms of q generators and of r targets: all of the text
+--   roleLine c s              == the form of a line: the byte c, a comma, a form in hexadecimal, LF
+--   roleLines c n s           == the forms of n such lines
+--   listBody q r s            == the forms of q generators and of r targets: all of the text
 -- Document 01: "For list follow `role,form`, then q lines `g,..` and r lines `t,..`." Assumes nothing.
 use Prim.Native.Nat.{ℕ, zero, suc}
 use mathlib.Core.List.{List, [], _∷_}

@@ -7,7 +7,7 @@ use types.Run.{OneOf, miss}
 use denote.Enum.Declared.{tagOf}
 use Rattle.kinds.specs.Kinds.{seenKind}
 use Rattle.kinds.specs.Sizes.{seenSizes}
-use Rattle.kinds.specs.SizeLaws.{sizes-bounds}
+use Rattle.kinds.specs.laws.Sizes.{sizes-bounds}
 use Rattle.kinds.specs.declared.Kind.{Kind}
 use Rattle.kinds.proofs.Kind.{the-type}
 use Rattle.problems.specs.laws.Laying.{posed-2-laid, posed-3-laid, posed-list-laid, posed-map-laid, list-targets}
@@ -88,21 +88,6 @@ returns-4 c =
 pub pose-spec : {M : Type 1} → statement M
 pose-spec =
     tie.close
-    (tie.spec
-    (λ c κs. search needs)
-    (λ c. search needs)
-    enum-told
-    returns
-    (λ c κs. search needs)
-    (λ c. search needs)
-    (λ c. search needs)
-    returns-2
-    (λ c. search needs)
-    pose-list-requires
-    (λ c. search needs)
-    (λ c. search needs)
-    returns-3
-    pose-map-requires
-    (λ c. search needs)
-    (λ c. search needs)
-    returns-4)
+    (tie.spec (λ c κs. search needs) (λ c. search needs) enum-told returns (λ c κs. search needs) (λ c. search needs) (λ c. search needs) returns-2
+    (λ c. search needs) pose-list-requires (λ c. search needs) (λ c. search needs) returns-3 pose-map-requires (λ c. search needs)
+    (λ c. search needs) returns-4)

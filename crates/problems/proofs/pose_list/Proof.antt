@@ -52,11 +52,4 @@ returns-2 c =
 pub pose-list-spec : {M : Type 1} → statement M
 pose-list-spec =
     tie.close
-    (tie.spec
-    (λ c κs. search needs)
-    returns
-    copy-forms-requires
-    copy-forms-requires-2
-    (λ c. search needs)
-    (λ c. search needs)
-    returns-2)
+    (tie.spec (λ c κs. search needs) returns copy-forms-requires copy-forms-requires-2 (λ c. search needs) (λ c. search needs) returns-2)

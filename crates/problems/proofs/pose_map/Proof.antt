@@ -4,12 +4,13 @@ use borrow.Author.Needs.{needs}
 use mathlib.Core.Path.{_≡_, sym, ap, _∙_}
 use Prim.Native.Nat.{ℕ, _≤_}
 use mathlib.Core.Option.{some}
-use Rattle.kinds.specs.SizeLaws.{sizes-bounds}
+use Rattle.kinds.specs.laws.Sizes.{sizes-bounds}
 use Rattle.maps.specs.Generators.{countOf, seenCount}
 use Rattle.problems.specs.laws.Refusals.{counted}
 use Rattle.problems.specs.laws.Laying.{mapped-4-laid, mapped-by-laid, mapped-laid}
 use Rattle.problems.proofs.pose_map.Statement.{statement}
 use Rattle.problems.proofs.pose_map.Tie as tie
+use Rattle.kinds.specs.Limits.{mostGenerators}
 
 enum-told : tie.Need-enum-told
 enum-told c = search needs
@@ -47,7 +48,7 @@ fill-generators-requires c κs =
     let a = args in
     let C : countOf (a .n) (a .m) ≡ some (the-c .given .0 .0) = generator-count .ensures ∙ ap seenCount (the-c .given .1) in
     let f = counted (a .n) (a .m) (the-c .given .0 .0) C in
-    let l : the-c .given .0 .0 ≤ 4095 = f .1 in
+    let l : the-c .given .0 .0 ≤ mostGenerators = f .1 in
     record { count = f .0; few = l; room = (let g = pre .0 in omega arith) }
 
 returns-3 : tie.Need-returns-3
@@ -68,16 +69,5 @@ returns-3 c =
 pub pose-map-spec : {M : Type 1} → statement M
 pose-map-spec =
     tie.close
-    (tie.spec
-    (λ c κs. search needs)
-    (λ c. search needs)
-    enum-told
-    returns
-    mul-map-refusal
-    (λ c κs. search needs)
-    returns-2
-    fill-generators-requires
-    (λ c κs. search needs)
-    (λ c. search needs)
-    (λ c. search needs)
-    returns-3)
+    (tie.spec (λ c κs. search needs) (λ c. search needs) enum-told returns mul-map-refusal (λ c κs. search needs) returns-2 fill-generators-requires
+    (λ c κs. search needs) (λ c. search needs) (λ c. search needs) returns-3)

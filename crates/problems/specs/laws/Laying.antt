@@ -5,9 +5,8 @@
 --   posed-list-laid, posed-map-laid              of a problem: what is said of its list or map
 --   list-targets                                 a list has between 1 and 64 targets
 --   sorted-map                                   a kind other than list is sorted as a map
---   laid-refused, laid-are                       what a caller of `pose` knows, by the case of the reply
 -- Assumes nothing.
-use mathlib.Core.Path.{_≡_, refl, sym, ap, ap₂, _∙_, subst}
+use mathlib.Core.Path.{_≡_, refl, sym, ap, ap₂, _∙_}
 use mathlib.Core.Logic.{_≢_}
 use mathlib.Core.List.{List}
 use mathlib.Core.Option.{Option, none, some}
@@ -18,8 +17,8 @@ use lib.ListN.{length, take}
 use lib.Dec.{leb}
 use Rattle.kinds.specs.Kinds.{kindNumbered}
 use Rattle.kinds.specs.Sizes.{sizes, within, listSizes}
-use Rattle.kinds.specs.SizeLaws.{given-some, sizes-bounds}
-use Rattle.kinds.specs.Refusal.{Answer, refused, accepted, need}
+use Rattle.kinds.specs.laws.Sizes.{given-some, sizes-bounds}
+use Rattle.kinds.specs.Refusal.{Answer, accepted, need}
 use Rattle.kinds.specs.declared.Kind.{Kind}
 use Rattle.kinds.specs.declared.Kind.the-variants as kind
 use Rattle.words.specs.lists.Lists.{listRefusal, mapRefusal}
@@ -28,9 +27,10 @@ use Rattle.maps.specs.Generators.{listOf, generatorForms, countOf}
 use Rattle.problems.specs.Problem.{Problem, problem, targetForms, listed, mapped, sorted, posed}
 use Rattle.problems.specs.declared.Posed.{Posed}
 use Rattle.problems.specs.declared.Posed.the-variants as reply
-use Rattle.problems.specs.Replies.{refusedBy, seenPosed, Fits, Laid, Room}
+use Rattle.problems.specs.Replies.{refusedBy, Laid}
 use Rattle.problems.specs.laws.Refusals.{listed-by, mapped-by, by-some, by-none, mapped-4, mapped-counted, counted}
 use Rattle.problems.specs.laws.Taken.{listed-taken}
+use Rattle.kinds.specs.Limits.{mostGenerators}
 
 module _ (kd : Kind) (p q r n m u : ℕ) (gs ts others g t : List ℕ) where
   abbrev made : Problem
@@ -65,7 +65,7 @@ module _ (p q r : ℕ) (gs ts others : List ℕ) (e : ℕ) (R : listRefusal p q 
 
   -- the forms of a list that is taken have room in the buffers
   pub record Few : Type 0 where
-    pub generators : length gs ≤ 4095
+    pub generators : length gs ≤ mostGenerators
     pub targets : length ts ≡ r
 
   pub listed-few : e ≡ 0 → Few
@@ -128,11 +128,3 @@ module _ (number p q r : ℕ) (gs ts others g t : List ℕ) where
 
       pub posed-map-laid : kd ≢ kind.List → Laid (mapped kd p q r n m u gs ts others) x g t → Laid (posed number p q r gs ts others) x g t
       posed-map-laid d L = record { answer = of-sizes ∙ sorted-map kd p q r n m u gs ts others d ∙ L .answer; room = L .room }
-
--- ---- for a caller
-module _ (asked : Answer Problem) (x : Posed) (g t : List ℕ) (L : Laid asked x g t) where
-  pub laid-refused : (e : ℕ) → x ≡ reply.Refused e → asked ≡ refused e
-  laid-refused e h = L .answer ∙ ap (seenPosed g t) h
-
-  pub laid-are : (c u : ℕ) → x ≡ reply.Are c u → (asked ≡ accepted (problem (take c g) (take u t))) × Room c u
-  laid-are c u h = (L .answer ∙ ap (seenPosed g t) h, subst Fits h (L .room))

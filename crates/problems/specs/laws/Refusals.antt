@@ -13,7 +13,7 @@ use lib.Dec.{ltb, leb}
 use borrow.Author.Tests.{leb-true}
 use Rattle.kinds.specs.Kinds.{kindNumbered}
 use Rattle.kinds.specs.Sizes.{sizes, given}
-use Rattle.kinds.specs.SizeLaws.{given-some}
+use Rattle.kinds.specs.laws.Sizes.{given-some}
 use Rattle.kinds.specs.Refusal.{Answer, refused, accepted, need, refuse}
 use Rattle.kinds.specs.declared.Kind.{Kind}
 use Rattle.words.specs.Masks.{wide, zeroIn}
@@ -21,11 +21,12 @@ use Rattle.words.specs.lists.Lists.{repeats, unlike, listRefusal, mapRefusal}
 use Rattle.maps.specs.Generators.{generatorForms, generatorCount, countOf}
 use Rattle.problems.specs.Problem.{Problem, problem, targetForms, listed, mapped}
 use Rattle.problems.specs.Replies.{refusedBy}
+use Rattle.kinds.specs.Limits.{mostGenerators}
 
 module _ (p q r : ℕ) (gs ts others : List ℕ) where
   pub listed-by : (e : ℕ) → listRefusal p q r gs ts others ≡ e → listed p q r gs ts others ≡ refusedBy e (problem gs ts)
   unfolding listed listRefusal
-  listed-by e h = go (ltb 4095 q) (unlike q r gs ts) (wide p gs || (wide p ts || wide p others)) (zeroIn gs || repeats gs) ∙ ap (λ (n : ℕ). refusedBy n (problem gs ts)) h
+  listed-by e h = go (ltb mostGenerators q) (unlike q r gs ts) (wide p gs || (wide p ts || wide p others)) (zeroIn gs || repeats gs) ∙ ap (λ (n : ℕ). refusedBy n (problem gs ts)) h
     where
       go : (a b c d : Bool) → refuse 4 a (refuse 5 b (refuse 6 c (refuse 7 d (accepted (problem gs ts))))) ≡ refusedBy (cond a 4 (cond b 5 (cond c 6 (cond d 7 0)))) (problem gs ts)
       go true b c d = refl
@@ -63,10 +64,10 @@ module _ (kd : Kind) (p q r n m u : ℕ) (gs ts others : List ℕ) where
   mapped-counted c e =
       ap (λ (o : Option ℕ). need 4 o λ c. refuse 5 (unlike 0 0 gs ts) (refuse 6 (wide (n * m) others) (accepted (problem (generatorForms n m) (targetForms kd p q r n m u))))) e
 
-pub counted : (n m c : ℕ) → countOf n m ≡ some c → (generatorCount n m ≡ c) × (c ≤ 4095)
+pub counted : (n m c : ℕ) → countOf n m ≡ some c → (generatorCount n m ≡ c) × (c ≤ mostGenerators)
 unfolding countOf
 counted n m c e =
-    let g = given-some (leb (generatorCount n m) 4095) (generatorCount n m) c e in
-    let h : generatorCount n m ≤ 4095 = leb-true (generatorCount n m) 4095 (g .0) in
+    let g = given-some (leb (generatorCount n m) mostGenerators) (generatorCount n m) c e in
+    let h : generatorCount n m ≤ mostGenerators = leb-true (generatorCount n m) mostGenerators (g .0) in
     let s : generatorCount n m ≡ c = g .1 in
     (s, omega arith)

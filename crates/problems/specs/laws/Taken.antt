@@ -4,11 +4,11 @@
 --   listed-taken, mapped-taken   an accepted list or map is such, and is the problem that the definition says
 --   posed-kind       an accepted problem has a kind and sizes
 -- Assumes nothing.
-use mathlib.Core.Path.{_≡_, refl, sym, ap, _∙_}
+use mathlib.Core.Path.{_≡_, sym}
 use mathlib.Core.Bool.{false, not, _||_}
 use mathlib.Core.List.{List}
-use mathlib.Core.Option.{Option, some}
-use Prim.Native.Nat.{ℕ, _*_, _≤_}
+use mathlib.Core.Option.{some}
+use Prim.Native.Nat.{ℕ, _*_}
 use native.Mathlib.Omega.{arith}
 use lib.ListN.{length}
 use lib.Dec.{eqb, ltb}
@@ -16,36 +16,27 @@ use borrow.Author.Tests.{ltb-false, eqb-true, not-false}
 use Rattle.kinds.specs.Kinds.{kindNumbered}
 use Rattle.kinds.specs.Sizes.{sizes}
 use Rattle.kinds.specs.Refusal.{Answer, accepted, need, refuse}
-use Rattle.kinds.specs.RefusalLaws.{accepted-inj, need-inv, refuse-inv, neither}
+use Rattle.kinds.specs.laws.Refusal.{accepted-inj, need-inv, refuse-inv, neither}
 use Rattle.kinds.specs.declared.Kind.{Kind}
 use Rattle.words.specs.Masks.{wide, zeroIn}
 use Rattle.words.specs.lists.Lists.{repeats, unlike}
-use Rattle.maps.specs.Generators.{generatorForms, generatorCount, countOf}
+use Rattle.maps.specs.Generators.{generatorForms, countOf}
 use Rattle.problems.specs.Problem.{Problem, problem, targetForms, listed, mapped, sorted, posed}
 use Rattle.problems.specs.laws.Refusals.{counted}
+use Rattle.kinds.specs.Limits.{mostGenerators}
+use Rattle.problems.specs.Taken.{ListTaken, MapTaken}
 
 like : (c u : ℕ) (gs ts : List ℕ) → unlike c u gs ts ≡ false → (length gs ≡ c) × (length ts ≡ u)
 like c u gs ts e =
     let n = neither (not (eqb (length gs) c)) (not (eqb (length ts) u)) e in
     (eqb-true (length gs) c (not-false (eqb (length gs) c) (n .0)), eqb-true (length ts) u (not-false (eqb (length ts) u) (n .1)))
 
-pub record ListTaken (p q r : ℕ) (gs ts others : List ℕ) (P : Problem) : Type 0 where
-  pub is : P ≡ problem gs ts
-  pub few : q ≤ 4095
-  pub generators : length gs ≡ q
-  pub targets : length ts ≡ r
-  pub generators-fit : wide p gs ≡ false
-  pub targets-fit : wide p ts ≡ false
-  pub others-fit : wide p others ≡ false
-  pub no-zero : zeroIn gs ≡ false
-  pub no-repeat : repeats gs ≡ false
-
 pub listed-taken : (p q r : ℕ) (gs ts others : List ℕ) (P : Problem) → listed p q r gs ts others ≡ accepted P → ListTaken p q r gs ts others P
 unfolding listed
 listed-taken p q r gs ts others P e =
     let seven : Answer Problem = refuse 7 (zeroIn gs || repeats gs) (accepted (problem gs ts)) in
     let six : Answer Problem = refuse 6 (wide p gs || (wide p ts || wide p others)) seven in
-    let a = refuse-inv 4 (ltb 4095 q) (refuse 5 (unlike q r gs ts) six) P e in
+    let a = refuse-inv 4 (ltb mostGenerators q) (refuse 5 (unlike q r gs ts) six) P e in
     let b = refuse-inv 5 (unlike q r gs ts) six P (a .1) in
     let c = refuse-inv 6 (wide p gs || (wide p ts || wide p others)) seven P (b .1) in
     let d = refuse-inv 7 (zeroIn gs || repeats gs) (accepted (problem gs ts)) P (c .1) in
@@ -55,7 +46,7 @@ listed-taken p q r gs ts others P e =
     let z = neither (zeroIn gs) (repeats gs) (d .0) in
     record {
       is = sym (accepted-inj (problem gs ts) P (d .1));
-      few = ltb-false 4095 q (a .0);
+      few = ltb-false mostGenerators q (a .0);
       generators = l .0;
       targets = l .1;
       generators-fit = w .0;
@@ -64,13 +55,6 @@ listed-taken p q r gs ts others P e =
       no-zero = z .0;
       no-repeat = z .1;
     }
-
-pub record MapTaken (kd : Kind) (p q r n m u : ℕ) (gs ts others : List ℕ) (P : Problem) : Type 0 where
-  pub is : P ≡ problem (generatorForms n m) (targetForms kd p q r n m u)
-  pub few : generatorCount n m ≤ 4095
-  pub no-generators : length gs ≡ 0
-  pub no-targets : length ts ≡ 0
-  pub others-fit : wide (n * m) others ≡ false
 
 pub mapped-taken : (kd : Kind) (p q r n m u : ℕ) (gs ts others : List ℕ) (P : Problem) → mapped kd p q r n m u gs ts others ≡ accepted P
     → MapTaken kd p q r n m u gs ts others P

@@ -5,25 +5,6 @@ use Rattle.problem_files.specs.declared.judging.Purpose.{Purpose}
 use Rattle.programs.specs.Programs.{replyTo}
 use Rattle.programs.proofs.reply.Statement.{statement}
 use Rattle.programs.proofs.reply.Tie as tie
-use Rattle.programs.proofs.reply.Reads as reads
-use Rattle.programs.proofs.reply.Lts as lts
-use Rattle.catalogue_text.proofs.catalogue_reply.Reads as catalogue-reply-reads
-use Rattle.rank_text.proofs.rank_reply.Reads as rank-reply-reads
-
-enum-told : tie.Need-enum-told
-enum-told c = c .match .keys1
-
-catalogue-reply-requires : tie.Need-catalogue-reply-requires
-catalogue-reply-requires c κs = c .before .before .before .before .before .before .pre
-
-enum-told-2 : tie.Need-enum-told-2
-enum-told-2 c = c .match .keys2
-
-rank-reply-requires : tie.Need-rank-reply-requires
-rank-reply-requires c κs = c .before .before .before .before .before .before .pre
-
-same-length : tie.Need-same-length
-same-length c = c .before .before .catalogue-reply .kept .1 .1 .1 .1 .1 .1 .1 .0
 
 returns : tie.Need-returns
 returns c =
@@ -35,9 +16,6 @@ returns c =
           (sym (the-enum-told .given .1)),
       catalogue-reply .ensures .1,
     )
-
-same-length-2 : tie.Need-same-length-2
-same-length-2 c = c .before .before .rank-reply .kept .1 .1 .1 .1 .1 .1 .1 .0
 
 returns-2 : tie.Need-returns-2
 returns-2 c =
@@ -53,12 +31,6 @@ returns-2 c =
 pub reply-spec : {M : Type 1} → statement M
 reply-spec =
     tie.close
-    (tie.spec
-    enum-told
-    catalogue-reply-requires
-    enum-told-2
-    rank-reply-requires
-    same-length
-    returns
-    same-length-2
-    returns-2)
+    (tie.spec (λ c. c .match .keys1) (λ c κs. c .before .before .before .before .before .before .pre) (λ c. c .match .keys2)
+    (λ c κs. c .before .before .before .before .before .before .pre) (λ c. c .before .before .catalogue-reply .kept .1 .1 .1 .1 .1 .1 .1 .0)
+    returns (λ c. c .before .before .rank-reply .kept .1 .1 .1 .1 .1 .1 .1 .0) returns-2)

@@ -1,10 +1,10 @@
--- `ranks::rank` meets its contract. Assumes nothing.
+-- `rank::rank` meets its contract. Assumes nothing.
 use borrow.Author.Needs.{needs}
-use native.Mathlib.Omega.{arith}
-use mathlib.Core.Path.{sym}
-use lib.Seq.{length-take-le}
+use mathlib.Core.Path.{refl, _∙_}
+use Rattle.problems.specs.laws.Handed.{follow-refused, follow-made, replied-as, generators-within, generators-taken, targets-within, targets-taken, few-taken}
 use Rattle.rank.specs.Rank.{rank}
-use Rattle.rank.specs.laws.Replies.{made-room, made-few, rank-refused, rank-made, ranks-refused, rank-far, ranks-made}
+use Rattle.rank.specs.fewest.Fewest.{lentRanking}
+use Rattle.rank.specs.laws.Replies.{rank-far, rank-near}
 use Rattle.rank.proofs.rank.Statement.{statement}
 use Rattle.rank.proofs.rank.Tie as tie
 use Rattle.rank.proofs.rank.Reads as reads
@@ -13,111 +13,63 @@ use Rattle.rank.proofs.fewest.rank_of.Reads as rank-of-reads
 use Rattle.problems.proofs.pose.Reads as pose-reads
 
 returns : tie.Need-returns
+unfolding rank
 returns c =
-    let far = c .before .before .before .before .before .before .before .before .before .before .before .before in
+    let before = c .before .before .before .before .before .before .before .before .before .before .before .before in
+    let the-pose = c .before .before .before .before .before .before .pose in
+    let far = before in
     let args = far .before .args in
-    let pose = c .before .before .before .before .before .before .pose in
-    let n = c .before .before .n in
-    ranks-refused (rank (args .number) (args .p) (args .q) (args .r) (args .k) (args .gs .now) (args .ts .now) (args .out .now)) (args .out .now) 8
-    (rank-far _ _ (args .k)
-    (rank-made (args .number) (args .p) (args .q) (args .r) (args .k) (args .gs .now) (args .ts .now) (args .out .now) _ _ (pose .result)
-    (pose .ensures) (n .given .0 .0) (n .given .0 .1 .0) (n .given .1)) (c .if1 .taken))
+    replied-as (λ a. lentRanking a (args .out .now))
+    (follow-made (the-pose .ensures) _ (c .before .before .n .given .1) ∙ rank-far (args .k) _ (c .if1 .taken)) (refl, refl)
 
 array-share-prefix-g : tie.Need-array-share-prefix-g
 array-share-prefix-g c =
-    let far = c .before .before .before .before .before .before .before .before .before .before .before .before in
-    let args = far .before .args in
     let pose = c .before .before .before .before .before .before .pose in
-    let n = c .before .before .n in
-    let m = made-room (args .number) (args .p) (args .q) (args .r) (args .k) (args .gs .now) (args .ts .now) (args .out .now) _ _ (pose .result)
-    (pose .ensures) (n .given .0 .0) (n .given .0 .1 .0) (n .given .1) in
-    let a = m .generators in
-    let l = pose .kept .1 .1 .1 .1 .1 .1 .1 .0 in
-    omega arith
+    generators-within (pose .ensures) (c .before .before .n .given .1) (pose .kept .1 .1 .1 .1 .1 .1 .1 .0)
 
 slice-aggregate-rank-of : tie.Need-slice-aggregate-rank-of
 slice-aggregate-rank-of c =
-    let far = c .before .before .before .before .before .before .before .before .before .before .before .before in
-    let args = far .before .before .args in
     let pose = c .before .before .before .before .before .before .before .pose in
-    let n = c .before .before .before .n in
-    let m = made-room (args .number) (args .p) (args .q) (args .r) (args .k) (args .gs .now) (args .ts .now) (args .out .now) _ _ (pose .result)
-    (pose .ensures) (n .given .0 .0) (n .given .0 .1 .0) (n .given .1) in
-    let a = m .generators in
-    let l = pose .kept .1 .1 .1 .1 .1 .1 .1 .0 in
-    sym (length-take-le _ _ (omega arith))
+    generators-taken (pose .ensures) (c .before .before .before .n .given .1) (pose .kept .1 .1 .1 .1 .1 .1 .1 .0)
 
 array-share-prefix-t : tie.Need-array-share-prefix-t
 array-share-prefix-t c =
-    let far = c .before .before .before .before .before .before .before .before .before .before .before .before in
-    let args = far .before .before .args in
     let pose = c .before .before .before .before .before .before .before .pose in
-    let n = c .before .before .before .n in
-    let m = made-room (args .number) (args .p) (args .q) (args .r) (args .k) (args .gs .now) (args .ts .now) (args .out .now) _ _ (pose .result)
-    (pose .ensures) (n .given .0 .0) (n .given .0 .1 .0) (n .given .1) in
-    let a = m .targets in
-    let l = pose .kept .1 .1 .1 .1 .1 .1 .1 .1 .0 in
-    omega arith
+    targets-within (pose .ensures) (c .before .before .before .n .given .1) (pose .kept .1 .1 .1 .1 .1 .1 .1 .1 .0)
 
 slice-aggregate-rank-of-2 : tie.Need-slice-aggregate-rank-of-2
 slice-aggregate-rank-of-2 c =
-    let far = c .before .before .before .before .before .before .before .before .before .before .before .before in
-    let args = far .before .before .before .args in
     let pose = c .before .before .before .before .before .before .before .before .pose in
-    let n = c .before .before .before .before .n in
-    let m = made-room (args .number) (args .p) (args .q) (args .r) (args .k) (args .gs .now) (args .ts .now) (args .out .now) _ _ (pose .result)
-    (pose .ensures) (n .given .0 .0) (n .given .0 .1 .0) (n .given .1) in
-    let a = m .targets in
-    let l = pose .kept .1 .1 .1 .1 .1 .1 .1 .1 .0 in
-    sym (length-take-le _ _ (omega arith))
+    targets-taken (pose .ensures) (c .before .before .before .before .n .given .1) (pose .kept .1 .1 .1 .1 .1 .1 .1 .1 .0)
 
 rank-of-requires : tie.Need-rank-of-requires
 rank-of-requires c κs =
-    let far = c .before .before .before .before .before .before .before .before .before .before .before .before in
-    let args = far .before .before .before .before .args in
-    let pose = c .before .before .before .before .before .before .before .before .before .pose in
+    let the-pose = c .before .before .before .before .before .before .before .before .before .pose in
     let n = c .before .before .before .before .before .n in
-    made-few (args .number) (args .p) (args .q) (args .r) (args .k) (args .gs .now) (args .ts .now) (args .out .now) _ _ (pose .result)
-    (pose .ensures) (n .given .0 .0) (n .given .0 .1 .0) (n .given .1)
+    few-taken (the-pose .ensures) (n .given .1)
 
 returns-2 : tie.Need-returns-2
+unfolding rank
 returns-2 c =
-    let args = c .before .before .before .before .before .before .before .before .before .before .before .before .args in
-    let pose = c .before .before .before .before .before .pose in
-    ranks-refused (rank (args .number) (args .p) (args .q) (args .r) (args .k) (args .gs .now) (args .ts .now) (args .out .now)) (args .out .now)
-    (c .before .e .given .0 .0)
-    (rank-refused (args .number) (args .p) (args .q) (args .r) (args .k) (args .gs .now) (args .ts .now) (args .out .now) _ _ (pose .result)
-    (pose .ensures) (c .before .e .given .0 .0) (c .before .e .given .1))
+    let old = c .before .before .before .before .before .before .before .before .before .before .before .before .args .out .now in
+    replied-as (λ a. lentRanking a old) (follow-refused (c .before .before .before .before .before .pose .ensures) _ (c .before .e .given .1)) (refl, refl)
 
 returns-3 : tie.Need-returns-3
+unfolding rank
 returns-3 c =
-    let far = c .before .before .before .before .before .before .before .before .before .before .before .before in
-    let args = far .before .before .before .before .before .before .before .args in
-    let pose = c .before .before .before .before .before .before .before .before .before .before .before .before .pose in
+    let the-pose = c .before .before .before .before .before .before .before .before .before .before .before .before .pose in
+    let before = c .before .before .before .before .before .before .before .before .before .before .before .before in
     let n = c .before .before .before .before .before .before .before .before .n in
     let if1 = c .before .before .before .before .before .before .if1 in
-    let rank-of = c .before .before .rank-of in
-    ranks-made (rank (args .number) (args .p) (args .q) (args .r) (args .k) (args .gs .now) (args .ts .now) (args .out .now)) _ (args .k)
-    (args .out .now) (rank-of .result) _
-    (rank-made (args .number) (args .p) (args .q) (args .r) (args .k) (args .gs .now) (args .ts .now) (args .out .now) _ _ (pose .result)
-    (pose .ensures) (n .given .0 .0) (n .given .0 .1 .0) (n .given .1)) (if1 .left) (rank-of .ensures)
+    let far = before in
+    let args = far .before .before .before .before .before .before .before .args in
+    let pose = the-pose in
+    replied-as (λ a. lentRanking a (args .out .now))
+    (follow-made (pose .ensures) _ (n .given .1) ∙ rank-near (args .k) _ (if1 .left)) (c .before .before .rank-of .ensures)
 
 pub rank-spec : {M : Type 1} → statement M
 rank-spec =
     tie.close
-    (tie.spec
-    (λ c. search needs)
-    (λ c. search needs)
-    (λ c. search needs)
-    (λ c κs. search needs)
-    (λ c. search needs)
-    (λ c. search needs)
-    returns
-    array-share-prefix-g
-    slice-aggregate-rank-of
-    array-share-prefix-t
-    slice-aggregate-rank-of-2
-    rank-of-requires
-    returns-2
-    (λ c. search needs)
+    (tie.spec (λ c. search needs) (λ c. search needs) (λ c. search needs) (λ c κs. search needs) (λ c. search needs) (λ c. search needs) returns
+    array-share-prefix-g slice-aggregate-rank-of array-share-prefix-t slice-aggregate-rank-of-2 rank-of-requires returns-2 (λ c. search needs)
     returns-3)

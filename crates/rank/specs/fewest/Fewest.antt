@@ -1,22 +1,31 @@
 -- What Rank says of forms, with what it writes.
---   Ranking            == r with the buffer's content, above, or beyond
+--   Ranking                  == r with the buffer's content, above, or beyond
 --   ranking gens targets old == what is said of the generators and targets, in a buffer that holds old
---   seenRanked r after == what the code's answer r says, the buffer holding `after`
---   lentRanking a old  == the buffer's content at exit: as it was, unless a formula was written
+--   seenRanked r after       == what the code's answer r says, the buffer holding `after`
+--   lentRanking a old        == the buffer's content at exit: as it was, unless a formula was written
 -- Document 01: "Rank replies r with the first formula of the first entry for r"; refusal 9: "in a Rank, too short for the very formula it would reply".
 -- What `fewest` is and that it is the rank: linear's `Theorems` (rank-formula, rank-exactly, rank-above, rank-beyond). Assumes nothing.
-use mathlib.Core.List.{List}
-use Prim.Native.Nat.{ℕ, _+_}
-use lib.ListN.{length}
+use mathlib.Core.List.{List, []}
+use Prim.Native.Nat.{ℕ, _+_, _-_, _≤_}
+use lib.ListN.{length, take, drop}
 use lib.Dec.{ltb}
 use Rattle.kinds.specs.Refusal.{Answer, refused, accepted, refuse}
 use Rattle.words.specs.Buffers.{filled}
 use Rattle.linear.specs.Formulae as formulae
-use Rattle.linear.specs.Formulae.{Fewest, fewest}
+use Rattle.linear.specs.Formulae.{Fewest, fewest, first, leastFrom, missed}
 use Rattle.linear.specs.Word.{word}
 use Rattle.first_formula.specs.Choice.{formulaRecord}
 use Rattle.rank.specs.declared.fewest.Ranked.{Ranked}
 use Rattle.rank.specs.declared.fewest.Ranked.the-variants as ranked
+use mathlib.Core.Path.{_≡_}
+use mathlib.Core.Bool.{false}
+use mathlib.Core.Option.{none, some}
+use Rattle.linear.specs.Basis.{dim}
+use Rattle.linear.specs.Entry.{space}
+use Rattle.linear.specs.Extension.{extension}
+use Rattle.rank.specs.declared.fewest.Least.{Least as Answered}
+use Rattle.kinds.specs.Limits.{mostGenerators}
+use Rattle.rank.specs.declared.fewest.Least.the-variants as answered
 
 pub data Ranking : Type 0 where
   is : (r : ℕ) (buffer : List ℕ) → Ranking
@@ -43,3 +52,31 @@ lentRanking (refused e) old = old
 lentRanking (accepted (is r buffer)) old = buffer
 lentRanking (accepted above) old = old
 lentRanking (accepted beyond) old = old
+
+-- what the steps of the search ask and say
+module _ (gens targets : List ℕ) where
+  pub record Asking (ell : ℕ) (buffer : List ℕ) : Type 0 where
+    pub small : length gens ≤ mostGenerators
+    pub dims : ell ≡ dim word targets
+    pub narrow : ell ≤ 64
+    pub room : length buffer ≡ 128
+
+  -- the first entry for the least number of dimensions, k, and where its rows stand
+  pub record Here (ell k : ℕ) (buffer : List ℕ) : Type 0 where
+    pub entry : List ℕ
+    pub least : leastFrom word gens targets 7 ell ≡ some entry
+    pub rows : take k (drop (k - ell) buffer) ≡ space word gens targets entry
+    pub from : ell ≤ k
+    pub near : k ≤ ell + 6
+    pub room : length buffer ≡ 128
+
+  abbrev pub Found : ℕ → Answered → List ℕ → Type 0
+  Found ell answered.No buffer = leastFrom word gens targets 7 ell ≡ none
+  Found ell (answered.Is k) buffer = Here ell k buffer
+
+  pub record Finishing (w : List ℕ) : Type 0 where
+    pub entry : List ℕ
+    pub least : leastFrom word gens targets 7 (dim word targets) ≡ some entry
+    pub rows : w ≡ space word gens targets entry
+    pub all : missed word gens targets ≡ false
+    pub few : length (extension word gens [] w) ≤ 64

@@ -16,7 +16,7 @@ use borrow.Author.Tests.{ltb-false}
 use Rattle.kinds.specs.declared.Kind.{Kind}
 use Rattle.kinds.specs.Kinds.{numberOf}
 use Rattle.kinds.specs.Refusal.{Answer, refused, accepted, refuse, follow}
-use Rattle.kinds.specs.RefusalLaws.{refuse-inv}
+use Rattle.kinds.specs.laws.Refusal.{refuse-inv}
 use Rattle.linear.specs.Basis.{dim}
 use Rattle.linear.specs.Formulae as formulae
 use Rattle.linear.specs.Formulae.{Fewest, fewest}
@@ -31,18 +31,19 @@ use Rattle.printing.specs.fields.laws.Pieces.{whole}
 use Rattle.printing.specs.fields.RefusedText.{refusedText}
 use Rattle.rank_text.specs.report.RankReports.{rankText, farRankText}
 use Rattle.printing.specs.record_lines.RecordLines.{Short}
-use Rattle.printing.specs.refusals.Pages.{listingRoom, printed}
+use Rattle.printing.specs.refusals.Pages.{listingRoom, answerText, replyPage}
 use Rattle.problems.specs.targets.Targets.{Measured, Measures}
 use Rattle.problems.specs.declared.targets.Targets.{Targets}
 use Rattle.problems.specs.declared.targets.Targets.the-variants as targets
 use Rattle.rank_text.specs.RankAnswers.{rankAnswer, rankReply}
+use Rattle.text.specs.Limits.{programWords}
 
 -- ---- a formula, its numbers and rows at the start of a buffer
 module _ (n t : ℕ) (buffer : List ℕ) where
   abbrev pub rowsIn : List ℕ
   rowsIn = take (n + t - n) (drop n buffer)
 
-  pub formula-short : length buffer ≡ 4096 → Short (take n buffer) rowsIn 0 0
+  pub formula-short : length buffer ≡ programWords → Short (take n buffer) rowsIn 0 0
   formula-short l =
       record {
         first = (let a = length-take n buffer in omega arith);
@@ -50,7 +51,7 @@ module _ (n t : ℕ) (buffer : List ℕ) where
         place = omega arith;
       }
 
-  pub formula-piece : (kind : Kind) (p q r k ell : ℕ) (d d₁ : List ℕ) (e : ℕ) → n + t ≤ 4096
+  pub formula-piece : (kind : Kind) (p q r k ell : ℕ) (d d₁ : List ℕ) (e : ℕ) → n + t ≤ programWords
       → Piece d 0 (rankText kind p q r k ell (take n buffer) rowsIn) (21 * length (take n buffer) + 21 * length rowsIn + 172) d₁ e
       → Piece d 0 (rankText kind p q r k ell (take n buffer) (take t (drop n buffer))) 86188 d₁ e
   formula-piece kind p q r k ell d d₁ e h P =
@@ -81,12 +82,15 @@ rank-room number p q r k gs ts old n after x a e =
 -- ---- the reply, from the code's answer x
 module _ (kind : Kind) (p q r k : ℕ) (gs ts : List ℕ) where
   reply-of : (a : Answer Problem) → posed (numberOf kind) p q r gs ts [] ≡ a
-      → rankReply kind p q r k gs ts ≡ printed (follow a λ x. accepted (rankAnswer kind p q r k (dim word (x .targets)) (length (x .targets)) (rank (numberOf kind) p q r k gs ts listingRoom)))
+      → rankReply kind p q r k gs ts ≡ answerText (follow a λ x. accepted (rankAnswer kind p q r k (dim word (x .targets)) (length (x .targets)) (rank (numberOf kind) p q r k gs ts listingRoom)))
   unfolding rankReply
-  reply-of a h = ap (λ (o : Answer Problem). printed (follow o λ x. accepted (rankAnswer kind p q r k (dim word (x .targets)) (length (x .targets)) (rank (numberOf kind) p q r k gs ts listingRoom)))) h
+  reply-of a h =
+      ap (λ (o : Answer Problem). answerText
+      (follow o λ x. accepted
+      (rankAnswer kind p q r k (dim word (x .targets)) (length (x .targets)) (rank (numberOf kind) p q r k gs ts listingRoom)))) h
 
   pub reply-refused : (number e n : ℕ) (x : Targets) (d : List ℕ) → number ≡ numberOf kind → Measures (posed number p q r gs ts []) x → x ≡ targets.Refused e
-      → (take n d ≡ refusedText e) × (n ≤ 32) → (take n d ≡ rankReply kind p q r k gs ts) × (n ≤ 196608)
+      → (take n d ≡ refusedText e) × (n ≤ 32) → (take n d ≡ rankReply kind p q r k gs ts) × (n ≤ replyPage)
   reply-refused number e n x d N M h P =
       let m : posed number p q r gs ts [] ≡ refused e = subst (Measures (posed number p q r gs ts [])) h M in
       (P .0 ∙ sym (reply-of (refused e) (ap (λ (i : ℕ). posed i p q r gs ts []) (sym N) ∙ m)), (let a = P .1 in omega arith))
@@ -99,7 +103,7 @@ module _ (kind : Kind) (p q r k : ℕ) (gs ts : List ℕ) where
       pub named : number ≡ numberOf kind
       pub measured : Measured (posed (numberOf kind) p q r gs ts []) t ell
       pub answer : rank number p q r k gs ts listingRoom ≡ seenRanked x after
-      pub size : length after ≡ 4096
+      pub size : length after ≡ programWords
 
     module _ (S : Said) where
       rank-is : (y : Ranked) → x ≡ y → rank (numberOf kind) p q r k gs ts listingRoom ≡ seenRanked y after
@@ -113,30 +117,30 @@ module _ (kind : Kind) (p q r k : ℕ) (gs ts : List ℕ) where
           ∙ ap (λ (l : ℕ). rankAnswer kind p q r k l (length (M .x .targets)) (seenRanked y after)) (sym (M .dimension))
           ∙ ap (λ (c : ℕ). rankAnswer kind p q r k ell c (seenRanked y after)) (sym (M .count))
 
-      pub said-refused : (e n : ℕ) (d : List ℕ) → x ≡ ranked.Refused e → (take n d ≡ refusedText e) × (n ≤ 32) → (take n d ≡ rankReply kind p q r k gs ts) × (n ≤ 196608)
+      pub said-refused : (e n : ℕ) (d : List ℕ) → x ≡ ranked.Refused e → (take n d ≡ refusedText e) × (n ≤ 32) → (take n d ≡ rankReply kind p q r k gs ts) × (n ≤ replyPage)
       said-refused e n d h P = (P .0 ∙ sym (reply-is (ranked.Refused e) h), (let a = P .1 in omega arith))
 
-      pub said-room : (n : ℕ) → x ≡ ranked.Is n → n + t ≤ 4096
+      pub said-room : (n : ℕ) → x ≡ ranked.Is n → n + t ≤ programWords
       said-room n h =
           let M = S .measured in
           let a = rank-room (numberOf kind) p q r k gs ts listingRoom n after (M .x) (M .is) (rank-is (ranked.Is n) h) in
           let b = M .count in
           omega arith
 
-      pub said-formula : (n : ℕ) → x ≡ ranked.Is n → (d d₁ : List ℕ) (e : ℕ) → length d ≡ 196608
-          → Piece d 0 (rankText kind p q r k ell (take n after) (take t (drop n after))) 86188 d₁ e → (take e d₁ ≡ rankReply kind p q r k gs ts) × (e ≤ 196608)
+      pub said-formula : (n : ℕ) → x ≡ ranked.Is n → (d d₁ : List ℕ) (e : ℕ) → length d ≡ replyPage
+          → Piece d 0 (rankText kind p q r k ell (take n after) (take t (drop n after))) 86188 d₁ e → (take e d₁ ≡ rankReply kind p q r k gs ts) × (e ≤ replyPage)
       said-formula n h d d₁ e w P =
           let f : 86188 ≤ length d = omega arith in
           (whole (rankText kind p q r k ell (take n after) (take t (drop n after))) d d₁ 86188 e P f ∙ sym (reply-is (ranked.Is n) h), omega (arith, P .after, P .most))
 
-      far : (far-off : Bool) → rankReply kind p q r k gs ts ≡ farRankText kind p q r k ell far-off → (d d₁ : List ℕ) (e : ℕ) → length d ≡ 196608
-          → Piece d 0 (farRankText kind p q r k ell far-off) 140 d₁ e → (take e d₁ ≡ rankReply kind p q r k gs ts) × (e ≤ 196608)
+      far : (far-off : Bool) → rankReply kind p q r k gs ts ≡ farRankText kind p q r k ell far-off → (d d₁ : List ℕ) (e : ℕ) → length d ≡ replyPage
+          → Piece d 0 (farRankText kind p q r k ell far-off) 140 d₁ e → (take e d₁ ≡ rankReply kind p q r k gs ts) × (e ≤ replyPage)
       far b h d d₁ e w P = (whole (farRankText kind p q r k ell b) d d₁ 140 e P (omega arith) ∙ sym h, omega (arith, P .after, P .most))
 
-      pub said-above : x ≡ ranked.Above → (d d₁ : List ℕ) (e : ℕ) → length d ≡ 196608
-          → Piece d 0 (farRankText kind p q r k ell true) 140 d₁ e → (take e d₁ ≡ rankReply kind p q r k gs ts) × (e ≤ 196608)
+      pub said-above : x ≡ ranked.Above → (d d₁ : List ℕ) (e : ℕ) → length d ≡ replyPage
+          → Piece d 0 (farRankText kind p q r k ell true) 140 d₁ e → (take e d₁ ≡ rankReply kind p q r k gs ts) × (e ≤ replyPage)
       said-above h = far true (reply-is ranked.Above h)
 
-      pub said-beyond : x ≡ ranked.Beyond → (d d₁ : List ℕ) (e : ℕ) → length d ≡ 196608
-          → Piece d 0 (farRankText kind p q r k ell false) 140 d₁ e → (take e d₁ ≡ rankReply kind p q r k gs ts) × (e ≤ 196608)
+      pub said-beyond : x ≡ ranked.Beyond → (d d₁ : List ℕ) (e : ℕ) → length d ≡ replyPage
+          → Piece d 0 (farRankText kind p q r k ell false) 140 d₁ e → (take e d₁ ≡ rankReply kind p q r k gs ts) × (e ≤ replyPage)
       said-beyond h = far false (reply-is ranked.Beyond h)

@@ -40,17 +40,5 @@ returns-3 c =
 pub known-spec : {M : Type 1} → statement M
 known-spec =
     tie.close
-    (tie.spec
-    Inv-loop
-    μ-loop
-    (λ c. omega arith)
-    (λ c. omega arith)
-    returns
-    loop-holds
-    (λ c. omega arith)
-    (λ c. omega arith)
-    returns-2
-    (λ c. omega arith)
-    (λ c. omega arith)
-    loop-again
-    returns-3)
+    (tie.spec Inv-loop μ-loop (λ c. omega arith) (λ c. omega arith) returns loop-holds (λ c. omega arith) (λ c. omega arith) returns-2
+    (λ c. omega arith) (λ c. omega arith) loop-again returns-3)

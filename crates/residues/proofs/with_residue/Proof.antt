@@ -40,16 +40,5 @@ returns c = let l = c .before .loop in let a = c .before .before .before .before
 pub with-residue-spec : {M : Type 1} → statement M
 with-residue-spec =
     tie.close
-    (tie.spec
-    Inv-loop
-    μ-loop
-    loop-holds
-    (λ c. omega arith)
-    (λ c. omega arith)
-    (λ c. omega arith)
-    (λ c. omega arith)
-    insert-requires
-    (λ c. omega arith)
-    (λ c. omega arith)
-    loop-again
-    returns)
+    (tie.spec Inv-loop μ-loop loop-holds (λ c. omega arith) (λ c. omega arith) (λ c. omega arith) (λ c. omega arith) insert-requires
+    (λ c. omega arith) (λ c. omega arith) loop-again returns)

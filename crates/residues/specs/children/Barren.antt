@@ -8,9 +8,8 @@ use Prim.Native.Nat.{ℕ, _+_, _-_}
 use lib.ListN.{length}
 use Rattle.linear.specs.Basis.{insert, inserts, Reduced, dim}
 use Rattle.linear.specs.Entry.{generator, chosen, generatorsIn}
-use Rattle.linear.specs.Walk.{Next}
+use Rattle.linear.specs.Walk.{Next, Steps}
 use Rattle.linear.specs.Word.{word}
-use Rattle.linear.specs.laws.Canonical.{Steps}
 use Rattle.residues.specs.children.Residues.{residues}
 
 pub record Barren (gens h : List ℕ) (j k missing : ℕ) : Type 0 where

@@ -14,8 +14,8 @@
 use Prim.Native.Nat.{ℕ}
 use mathlib.Core.List.{List}
 use Rattle.kinds.specs.declared.Kind.{Kind}
-use Rattle.round_trips.specs.formulae.HeadText.{headText}
+use Rattle.round_trips.specs.formulae.HeadText.{fileHead}
 use Rattle.round_trips.specs.formulae.BodyText.{bodyText}
 
 unfoldable pub fileText : Kind → ℕ → ℕ → ℕ → ℕ → List ℕ → List ℕ → List ℕ → List ℕ
-fileText kind p q r k xs ys zs = headText kind p q r k (bodyText xs ys zs)
+fileText kind p q r k xs ys zs = fileHead kind p q r k (bodyText xs ys zs)

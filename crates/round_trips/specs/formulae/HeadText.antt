@@ -1,6 +1,6 @@
 -- The text of the first two lines.
---   fieldsText p q r k  == four counts with commas between them
---   headText kind p q r k t == the first two lines, in front of the text t
+--   fieldsText p q r k      == four counts with commas between them
+--   fileHead kind p q r k t == the first two lines, in front of the text t
 -- Assumes nothing.
 use Prim.Native.Nat.{ℕ}
 use mathlib.Core.List.{List, _∷_, _++_}
@@ -13,5 +13,5 @@ use Rattle.text.specs.heads.Head.{headNames}
 unfoldable pub fieldsText : ℕ → ℕ → ℕ → ℕ → List ℕ
 fieldsText p q r k = countText p ++ (comma ∷ (countText q ++ (comma ∷ (countText r ++ (comma ∷ countText k)))))
 
-unfoldable pub headText : Kind → ℕ → ℕ → ℕ → ℕ → List ℕ → List ℕ
-headText kind p q r k t = headNames ++ (LF ∷ ((nameOf kind ++ (comma ∷ fieldsText p q r k)) ++ (LF ∷ t)))
+unfoldable pub fileHead : Kind → ℕ → ℕ → ℕ → ℕ → List ℕ → List ℕ
+fileHead kind p q r k t = headNames ++ (LF ∷ ((nameOf kind ++ (comma ∷ fieldsText p q r k)) ++ (LF ∷ t)))

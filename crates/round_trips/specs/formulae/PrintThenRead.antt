@@ -9,15 +9,15 @@ use native.Mathlib.Omega.{arith}
 use lib.ListN.{length}
 use borrow.Author.Tests.{le-ltb}
 use Rattle.kinds.specs.declared.Kind.{Kind}
-use Rattle.kinds.specs.SizeLaws.{Bounds, sizes-bounds}
+use Rattle.kinds.specs.laws.Sizes.{Bounds, sizes-bounds}
 use Rattle.words.specs.laws.Masks.{wide-words}
 use Rattle.formula_files.specs.Outcome.{outcome, formula}
 use Rattle.round_trips.specs.formulae.FileText.{fileText}
-use Rattle.formula_files.specs.Sound.{Sound, Room}
+use Rattle.formula_files.specs.Sound.{Sound, BufferRoom}
 use Rattle.formula_files.specs.laws.Outcome.{judged-is}
 use Rattle.round_trips.specs.formulae.laws.FileBack.{file-back}
 
-pub print-then-read : (kind : Kind) (p q r k : ℕ) (xs ys zs : List ℕ) (la lb lr : ℕ) → Sound kind p q r k xs ys zs → Room k (length zs) la lb lr
+pub print-then-read : (kind : Kind) (p q r k : ℕ) (xs ys zs : List ℕ) (la lb lr : ℕ) → Sound kind p q r k xs ys zs → BufferRoom k (length zs) la lb lr
     → outcome (fileText kind p q r k xs ys zs) la lb lr ≡ formula kind p q r k xs ys zs
 print-then-read kind p q r k xs ys zs la lb lr S R =
     ap (λ (j : ℕ). outcome (fileText kind p q r j xs ys zs) la lb lr) (sym (S .firsts))

@@ -11,25 +11,25 @@ use Rattle.words.specs.Masks.{wide, zeroIn}
 use Rattle.text.specs.Numeral.{digits, numeral}
 use Rattle.text.specs.Line.{cut, nameLine, field}
 use Rattle.text.specs.heads.Head.{countFields, headLine, headLines}
-use Rattle.printing.specs.Print.{printed}
-use Rattle.round_trips.specs.formulae.HeadText.{fieldsText, headText}
+use Rattle.printing.specs.Print.{numeralText}
+use Rattle.round_trips.specs.formulae.HeadText.{fieldsText, fileHead}
 use Rattle.formula_files.specs.lines.Formula.{productLine, products, rows, ended, body}
-use Rattle.formula_files.specs.Outcome.{formula, judged, rest, outcome}
+use Rattle.formula_files.specs.Outcome.{formula, readJudged, rest, outcome}
 use Rattle.round_trips.specs.formulae.BodyText.{productsText, rowsText, bodyText}
 use Rattle.round_trips.specs.formulae.FileText.{fileText}
 
 -- `kind,p,q,r,k`, `poly,2,2,0,3`, `a,b`, `1,1`, `2,2`, `3,3`, `row`, `1`, `7`, `2`
-abbrev pub worked : List ℕ
-worked =
+abbrev pub workedBytes : List ℕ
+workedBytes =
     107 ∷ 105 ∷ 110 ∷ 100 ∷ 44 ∷ 112 ∷ 44 ∷ 113 ∷ 44 ∷ 114 ∷ 44 ∷ 107 ∷ 10
     ∷ 112 ∷ 111 ∷ 108 ∷ 121 ∷ 44 ∷ 50 ∷ 44 ∷ 50 ∷ 44 ∷ 48 ∷ 44 ∷ 51 ∷ 10
     ∷ 97 ∷ 44 ∷ 98 ∷ 10 ∷ 49 ∷ 44 ∷ 49 ∷ 10 ∷ 50 ∷ 44 ∷ 50 ∷ 10 ∷ 51 ∷ 44 ∷ 51 ∷ 10
     ∷ 114 ∷ 111 ∷ 119 ∷ 10 ∷ 49 ∷ 10 ∷ 55 ∷ 10 ∷ 50 ∷ 10 ∷ []
 
-pub worked-file : fileText kind.Poly 2 2 0 3 (1 ∷ 2 ∷ 3 ∷ []) (1 ∷ 2 ∷ 3 ∷ []) (1 ∷ 7 ∷ 2 ∷ []) ≡ worked
-unfolding fileText headText fieldsText bodyText productsText rowsText printed
+pub worked-file : fileText kind.Poly 2 2 0 3 (1 ∷ 2 ∷ 3 ∷ []) (1 ∷ 2 ∷ 3 ∷ []) (1 ∷ 7 ∷ 2 ∷ []) ≡ workedBytes
+unfolding fileText fileHead fieldsText bodyText productsText rowsText numeralText
 worked-file = refl
 
-pub worked-outcome : outcome worked 3 3 3 ≡ formula kind.Poly 2 2 0 3 (1 ∷ 2 ∷ 3 ∷ []) (1 ∷ 2 ∷ 3 ∷ []) (1 ∷ 7 ∷ 2 ∷ [])
-unfolding outcome rest judged body products rows ended productLine headLines headLine countFields nameLine field cut numeral digits polySizes within wide zeroIn
+pub worked-outcome : outcome workedBytes 3 3 3 ≡ formula kind.Poly 2 2 0 3 (1 ∷ 2 ∷ 3 ∷ []) (1 ∷ 2 ∷ 3 ∷ []) (1 ∷ 7 ∷ 2 ∷ [])
+unfolding outcome rest readJudged body products rows ended productLine headLines headLine countFields nameLine field cut numeral digits polySizes within wide zeroIn
 worked-outcome = refl

@@ -8,38 +8,38 @@ use mathlib.Core.List.{List, []}
 use mathlib.Core.Bool.{false}
 use Rattle.kinds.specs.Kinds.{numberOf}
 use Rattle.kinds.specs.Refusal.{Answer, accepted, refuse, follow}
-use Rattle.kinds.specs.RefusalLaws.{refuse-inv, follow-inv}
+use Rattle.kinds.specs.laws.Refusal.{refuse-inv, follow-inv}
 use Rattle.problems.specs.Problem.{Problem, posed}
-use Rattle.round_trips.specs.formulae.HeadText.{headText}
+use Rattle.round_trips.specs.formulae.HeadText.{fileHead}
 use Rattle.round_trips.specs.formulae.laws.HeadOnly.{head-only}
-use Rattle.problem_files.specs.judging.Judged.{ProblemFile, problemOf, beyond, short, settled, judged}
+use Rattle.problem_files.specs.judging.Judged.{ProblemFile, problemOf, beyond, short, settled, problemJudged}
 use Rattle.problem_files.specs.ProblemFile.{problemFile}
-use Rattle.problem_files.specs.laws.Accepted.{Went, problem-went}
+use Rattle.problem_files.specs.laws.Accepted.{ProblemWent, problem-went}
 use Rattle.problem_files.specs.declared.judging.Purpose.{Purpose}
 use Rattle.round_trips.specs.problems.ProblemText.{linesText, problemText}
-use Rattle.round_trips.specs.problems.PrintThenRead.{Sound}
+use Rattle.round_trips.specs.problems.PrintThenRead.{ProblemSound}
 use Rattle.round_trips.specs.problems.laws.LinesOnly.{body-only}
 
 abbrev pub textOf : ProblemFile → List ℕ
 textOf P = problemText (P .kind) (P .p) (P .q) (P .r) (P .k) (P .generators) (P .targets)
 
 abbrev SoundOf : Purpose → ProblemFile → Type 0
-SoundOf a P = Sound a (P .kind) (P .p) (P .q) (P .r) (P .k) (P .generators) (P .targets)
+SoundOf a P = ProblemSound a (P .kind) (P .p) (P .q) (P .r) (P .k) (P .generators) (P .targets)
 
 module _ (a : Purpose) (s : List ℕ) (u v : ℕ) (P : ProblemFile) (taken : problemFile a s u v ≡ accepted P) where
   pub accepted-only : s ≡ textOf P
   unfolding problemText
   accepted-only =
-      let W : Went a s u v P = problem-went a s u v P taken in
+      let W : ProblemWent a s u v P = problem-went a s u v P taken in
       let h = W .head in
       head-only s (h, W .text) (W .kd) (W .lines) (W .named)
-      ∙ ap (headText (W .kd) (h .p) (h .q) (h .r) (h .k)) (body-only (W .kd) (h .q) (h .r) (W .z .0) (W .z .1) (W .text) (W .forms) (W .body))
-      ∙ ap (λ (Q : ProblemFile). headText (Q .kind) (Q .p) (Q .q) (Q .r) (Q .k) (linesText (Q .kind) (Q .generators) (Q .targets))) (W .is)
+      ∙ ap (fileHead (W .kd) (h .p) (h .q) (h .r) (h .k)) (body-only (W .kd) (h .q) (h .r) (W .z .0) (W .z .1) (W .text) (W .forms) (W .body))
+      ∙ ap (λ (Q : ProblemFile). fileHead (Q .kind) (Q .p) (Q .q) (Q .r) (Q .k) (linesText (Q .kind) (Q .generators) (Q .targets))) (W .is)
 
   pub accepted-sound : SoundOf a P
-  unfolding judged settled
+  unfolding problemJudged settled
   accepted-sound =
-      let W : Went a s u v P = problem-went a s u v P taken in
+      let W : ProblemWent a s u v P = problem-went a s u v P taken in
       let h = W .head in
       let gs : List ℕ = W .forms .0 in
       let ts : List ℕ = W .forms .1 in

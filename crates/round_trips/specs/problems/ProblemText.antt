@@ -18,7 +18,7 @@ use Rattle.text.specs.Line.{LF, comma}
 use Rattle.printing.specs.Print.{maskText}
 use Rattle.formula_files.specs.Outcome.{isList}
 use Rattle.problem_files.specs.list_lines.Roles.{roleNames, generatorRole, targetRole}
-use Rattle.round_trips.specs.formulae.HeadText.{headText}
+use Rattle.round_trips.specs.formulae.HeadText.{fileHead}
 
 unfoldable pub rolesText : ℕ → List ℕ → List ℕ → List ℕ
 rolesText c [] t = t
@@ -32,4 +32,4 @@ abbrev pub linesText : Kind → List ℕ → List ℕ → List ℕ
 linesText kd gs ts = cond (isList kd) (listText gs ts) []
 
 unfoldable pub problemText : Kind → (p q r k : ℕ) → List ℕ → List ℕ → List ℕ
-problemText kd p q r k gs ts = headText kd p q r k (linesText kd gs ts)
+problemText kd p q r k gs ts = fileHead kd p q r k (linesText kd gs ts)

@@ -1,9 +1,8 @@
 -- `selections::is_sum` meets its contract. Assumes nothing.
 use borrow.Author.Needs.{needs}
-use native.Mathlib.Omega.{arith}
-use mathlib.Core.Path.{sym, _∙_}
-use lib.Seq.{length-take-le}
-use Rattle.selections.specs.laws.Replies.{room, sum-refused, sum-made}
+use mathlib.Core.Path.{_∙_}
+use Rattle.problems.specs.laws.Handed.{follow-refused, follow-made, generators-within, generators-taken, targets-within, targets-taken}
+use Rattle.selections.specs.Selections.{isSum}
 use Rattle.selections.proofs.is_sum.Statement.{statement}
 use Rattle.selections.proofs.is_sum.Tie as tie
 use Rattle.selections.proofs.is_sum.Reads as reads
@@ -13,80 +12,34 @@ use Rattle.selections.proofs.on_forms.say_sum.Reads as say-sum-reads
 
 array-share-prefix-g : tie.Need-array-share-prefix-g
 array-share-prefix-g c =
-    let args = c .before .before .before .before .before .before .before .before .before .before .before .before .args in
     let pose = c .before .before .before .before .before .pose in
-    let m = room (args .number) (args .p) (args .q) (args .r) (args .gs .now) (args .ts .now) (args .sel .now) _ _ (pose .result) _
-    (c .before .n .given .0 .0) (c .before .n .given .0 .1 .0) (pose .ensures) (c .before .n .given .1) in
-    let a = m .generators in
-    let l = pose .kept .1 .1 .1 .1 .1 .1 .1 .0 in
-    omega arith
+    generators-within (pose .ensures) (c .before .n .given .1) (pose .kept .1 .1 .1 .1 .1 .1 .1 .0)
 
 slice-aggregate-say-sum : tie.Need-slice-aggregate-say-sum
 slice-aggregate-say-sum c =
-    let far = c .before .before .before .before .before .before .before .before .before .before .before .before in
-    let args = far .before .args in
     let pose = c .before .before .before .before .before .before .pose in
-    let n = c .before .before .n in
-    let m = room (args .number) (args .p) (args .q) (args .r) (args .gs .now) (args .ts .now) (args .sel .now) _ _ (pose .result) _ (n .given .0 .0)
-    (n .given .0 .1 .0) (pose .ensures) (n .given .1) in
-    let a = m .generators in
-    let l = pose .kept .1 .1 .1 .1 .1 .1 .1 .0 in
-    sym (length-take-le _ _ (omega arith))
+    generators-taken (pose .ensures) (c .before .before .n .given .1) (pose .kept .1 .1 .1 .1 .1 .1 .1 .0)
 
 array-share-prefix-t : tie.Need-array-share-prefix-t
 array-share-prefix-t c =
-    let far = c .before .before .before .before .before .before .before .before .before .before .before .before in
-    let args = far .before .args in
     let pose = c .before .before .before .before .before .before .pose in
-    let n = c .before .before .n in
-    let m = room (args .number) (args .p) (args .q) (args .r) (args .gs .now) (args .ts .now) (args .sel .now) _ _ (pose .result) _ (n .given .0 .0)
-    (n .given .0 .1 .0) (pose .ensures) (n .given .1) in
-    let a = m .targets in
-    let l = pose .kept .1 .1 .1 .1 .1 .1 .1 .1 .0 in
-    omega arith
+    targets-within (pose .ensures) (c .before .before .n .given .1) (pose .kept .1 .1 .1 .1 .1 .1 .1 .1 .0)
 
 slice-aggregate-say-sum-2 : tie.Need-slice-aggregate-say-sum-2
 slice-aggregate-say-sum-2 c =
-    let far = c .before .before .before .before .before .before .before .before .before .before .before .before in
-    let args = far .before .before .args in
     let pose = c .before .before .before .before .before .before .before .pose in
-    let n = c .before .before .before .n in
-    let m = room (args .number) (args .p) (args .q) (args .r) (args .gs .now) (args .ts .now) (args .sel .now) _ _ (pose .result) _ (n .given .0 .0)
-    (n .given .0 .1 .0) (pose .ensures) (n .given .1) in
-    let a = m .targets in
-    let l = pose .kept .1 .1 .1 .1 .1 .1 .1 .1 .0 in
-    sym (length-take-le _ _ (omega arith))
+    targets-taken (pose .ensures) (c .before .before .before .n .given .1) (pose .kept .1 .1 .1 .1 .1 .1 .1 .1 .0)
 
 returns : tie.Need-returns
-returns c =
-    let args = c .before .before .before .before .before .before .before .before .before .before .before .before .args in
-    let pose = c .before .before .before .before .before .pose in
-    sum-refused (args .number) (args .p) (args .q) (args .r) (args .gs .now) (args .ts .now) (args .sel .now) _ _ (pose .result) (args .form)
-    (c .before .e .given .0 .0) (pose .ensures) (c .before .e .given .1)
+unfolding isSum
+returns c = follow-refused (c .before .before .before .before .before .pose .ensures) _ (c .before .e .given .1)
 
 returns-2 : tie.Need-returns-2
-returns-2 c =
-    let far = c .before .before .before .before .before .before .before .before .before .before .before .before in
-    let args = far .before .before .before .args in
-    let pose = c .before .before .before .before .before .before .before .before .pose in
-    let n = c .before .before .before .before .n in
-    sum-made (args .number) (args .p) (args .q) (args .r) (args .gs .now) (args .ts .now) (args .sel .now) _ _ (pose .result) (args .form)
-    (n .given .0 .0) (n .given .0 .1 .0) (pose .ensures) (n .given .1) ∙ c .say-sum .ensures
+unfolding isSum
+returns-2 c = follow-made (c .before .before .before .before .before .before .before .before .pose .ensures) _ (c .before .before .before .before .n .given .1) ∙ c .say-sum .ensures
 
 pub is-sum-spec : {M : Type 1} → statement M
 is-sum-spec =
     tie.close
-    (tie.spec
-    (λ c. search needs)
-    (λ c. search needs)
-    (λ c. search needs)
-    (λ c κs. search needs)
-    (λ c. search needs)
-    (λ c. search needs)
-    array-share-prefix-g
-    slice-aggregate-say-sum
-    array-share-prefix-t
-    slice-aggregate-say-sum-2
-    (λ c κs. search needs)
-    returns
-    returns-2)
+    (tie.spec (λ c. search needs) (λ c. search needs) (λ c. search needs) (λ c κs. search needs) (λ c. search needs) (λ c. search needs)
+    array-share-prefix-g slice-aggregate-say-sum array-share-prefix-t slice-aggregate-say-sum-2 (λ c κs. search needs) returns returns-2)

@@ -1,10 +1,10 @@
 -- Two questions on a selection of generator numbers.
---   misfit n sel          == the selection has a number that is not below n, or one twice
---   without j sel         == the selection with j left out
+--   misfit n sel              == the selection has a number that is not below n, or one twice
+--   without j sel             == the selection with j left out
 --   missedBy gens targets sel == some target is no sum of the selected generators
---   sumAnswer x sel form  == is the form a sum of the selected generators of the problem x; refusal 11
---   redundantAnswer x sel j == do the selected generators but j still span the targets (document 01: is j spare); refusal 11
---   seenSaid a            == what the code's answer stands for
+--   sumAnswer x sel form      == is the form a sum of the selected generators of the problem x; refusal 11
+--   redundantAnswer x sel j   == do the selected generators but j still span the targets (document 01: is j spare); refusal 11
+--   seenSaid a                == what the code's answer stands for
 -- Document 01: "For a selection of menu numbers two questions exist: is a given form a sum of selected forms; and is the selected product with menu
 -- number j spare, meaning that the others still span T." Refusal 11: "A selection has a number outside the menu, or one twice, or (when spares are
 -- asked for) doesn't span T or lacks j." What the answers mean is in crate selections. Assumes nothing.

@@ -10,34 +10,6 @@ use Rattle.service.specs.Service.{checkFile}
 use Rattle.service.specs.laws.Reading.{read-ready, read-checks, refused-checks}
 use Rattle.service.proofs.gijpsando_check.Statement.{statement}
 use Rattle.service.proofs.gijpsando_check.Tie as tie
-use Rattle.service.proofs.gijpsando_check.Reads as reads
-use Rattle.service.proofs.gijpsando_check.Lts as lts
-use Rattle.formula_files.proofs.read_formula.Reads as read-formula-reads
-use Rattle.check_text.proofs.check_reply.Reads as check-reply-reads
-
-read-formula-requires : tie.Need-read-formula-requires
-read-formula-requires c κs = tt
-
-enum-known-got : tie.Need-enum-known-got
-enum-known-got c = c .match .keys1
-
-enum-known-got-2 : tie.Need-enum-known-got-2
-enum-known-got-2 c = c .match .keys2
-
-slice-aggregate-check-reply : tie.Need-slice-aggregate-check-reply
-slice-aggregate-check-reply c =
-    let read-formula = c .before .before .before .before .before .before .before .read-formula in
-    let x = read-formula .kept .1 .0 in let y = read-formula .kept .1 .1 .0 in let z = read-formula .kept .1 .1 .1 .0 in omega arith
-
-slice-aggregate-check-reply-2 : tie.Need-slice-aggregate-check-reply-2
-slice-aggregate-check-reply-2 c =
-    let read-formula = c .before .before .before .before .before .before .before .before .read-formula in
-    let x = read-formula .kept .1 .0 in let y = read-formula .kept .1 .1 .0 in let z = read-formula .kept .1 .1 .1 .0 in omega arith
-
-slice-aggregate-check-reply-3 : tie.Need-slice-aggregate-check-reply-3
-slice-aggregate-check-reply-3 c =
-    let read-formula = c .before .before .before .before .before .before .before .before .before .read-formula in
-    let x = read-formula .kept .1 .0 in let y = read-formula .kept .1 .1 .0 in let z = read-formula .kept .1 .1 .1 .0 in omega arith
 
 check-reply-requires : tie.Need-check-reply-requires
 check-reply-requires c κs =
@@ -58,9 +30,6 @@ returns c =
     (replicate 64 0) (c .before .got .given .0 .0) refl refl refl (sym (c .before .got .given .1) ∙ read-formula .ensures .0) in
     (ap (λ (x : Answer (List ℕ)). replyOf x (args .out .now)) (sym e), ap (λ (x : Answer (List ℕ)). bytesOf x (args .out .now)) (sym e))
 
-same-length : tie.Need-same-length
-same-length c = c .before .before .check-reply .kept .1 .1 .1 .1 .1 .1 .1 .1 .0
-
 returns-2 : tie.Need-returns-2
 returns-2 c =
     let far = c .before .before .before .before .before .before .before .before .before .before .before .before in
@@ -80,17 +49,5 @@ returns-2 c =
 pub gijpsando-check-spec : {M : Type 1} → statement M
 gijpsando-check-spec =
     tie.close
-    (tie.spec
-    (λ c. refl)
-    (λ c. refl)
-    (λ c. refl)
-    read-formula-requires
-    enum-known-got
-    enum-known-got-2
-    slice-aggregate-check-reply
-    slice-aggregate-check-reply-2
-    slice-aggregate-check-reply-3
-    check-reply-requires
-    returns
-    same-length
-    returns-2)
+    (tie.spec (λ c. refl) (λ c. refl) (λ c. refl) (λ c κs. tt) (λ c. c .match .keys1) (λ c. c .match .keys2) (λ c. omega arith) (λ c. omega arith)
+    (λ c. omega arith) check-reply-requires returns (λ c. c .before .before .check-reply .kept .1 .1 .1 .1 .1 .1 .1 .1 .0) returns-2)

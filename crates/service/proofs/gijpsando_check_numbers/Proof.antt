@@ -12,19 +12,6 @@ use Rattle.service.specs.laws.Numbers.{numbers-short, numbers-whole}
 use borrow.Author.Needs.{needs}
 use Rattle.service.proofs.gijpsando_check_numbers.Statement.{statement}
 use Rattle.service.proofs.gijpsando_check_numbers.Tie as tie
-use Rattle.service.proofs.gijpsando_check_numbers.Reads as reads
-use Rattle.service.proofs.gijpsando_check_numbers.Lts as lts
-use Rattle.formula_check.proofs.check.Reads as check-reads
-use Rattle.service.proofs.put_three.Reads as put-three-reads
-
-check-requires : tie.Need-check-requires
-check-requires c κs = tt
-
-enum-known-said : tie.Need-enum-known-said
-enum-known-said c = c .match .keys1
-
-enum-known-said-2 : tie.Need-enum-known-said-2
-enum-known-said-2 c = c .match .keys2
 
 returns : tie.Need-returns
 returns c =
@@ -39,12 +26,6 @@ returns c =
           (λ (x : Answer (Option ℕ × ℕ)). numbersLent x (args .reply .now)) (sym e),
     )
 
-enum-told : tie.Need-enum-told
-enum-told c = c .match2 .keys1
-
-enum-known-v : tie.Need-enum-known-v
-enum-known-v c = c .match2 .keys2
-
 returns-2 : tie.Need-returns-2
 returns-2 c =
     let args = c .before .before .before .before .before .before .before .before .args in
@@ -55,9 +36,6 @@ returns-2 c =
       ap
           (λ (x : Answer (Option ℕ × ℕ)). numbersLent x (args .reply .now)) (sym e),
     )
-
-same-length : tie.Need-same-length
-same-length c = c .before .before .put-three .kept .0
 
 returns-3 : tie.Need-returns-3
 returns-3 c =
@@ -74,9 +52,6 @@ returns-3 c =
       c .before .before .put-three .ensures ∙ n .1 ∙ ap
           (λ (x : Answer (Option ℕ × ℕ)). numbersLent x (args .reply .now)) (sym e),
     )
-
-same-length-2 : tie.Need-same-length-2
-same-length-2 c = c .before .before .put-three2 .kept .0
 
 returns-4 : tie.Need-returns-4
 returns-4 c =
@@ -97,17 +72,6 @@ returns-4 c =
 pub gijpsando-check-numbers-spec : {M : Type 1} → statement M
 gijpsando-check-numbers-spec =
     tie.close
-    (tie.spec
-    check-requires
-    enum-known-said
-    enum-known-said-2
-    returns
-    enum-told
-    (λ c κs. search needs)
-    enum-known-v
-    (λ c κs. search needs)
-    returns-2
-    same-length
-    returns-3
-    same-length-2
-    returns-4)
+    (tie.spec (λ c κs. tt) (λ c. c .match .keys1) (λ c. c .match .keys2) returns (λ c. c .match2 .keys1) (λ c κs. search needs)
+    (λ c. c .match2 .keys2) (λ c κs. search needs) returns-2 (λ c. c .before .before .put-three .kept .0) returns-3
+    (λ c. c .before .before .put-three2 .kept .0) returns-4)

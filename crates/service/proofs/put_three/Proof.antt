@@ -6,8 +6,6 @@ use native.Mathlib.Omega.{arith}
 use borrow.Author.Needs.{needs}
 use Rattle.service.proofs.put_three.Statement.{statement}
 use Rattle.service.proofs.put_three.Tie as tie
-use Rattle.service.proofs.put_three.Reads as reads
-use Rattle.service.proofs.put_three.Lts as lts
 
 slice-write-words-2 : tie.Need-slice-write-words-2
 slice-write-words-2 c = let l = length-set (c .args .words .now) 0 (c .args .x) in let h = c .pre in omega arith
@@ -17,5 +15,4 @@ returns c = three (c .args .words .now) (c .args .x) (c .args .y) (c .args .z) (
 
 pub put-three-spec : {M : Type 1} → statement M
 put-three-spec =
-    tie.close
-    (tie.spec (λ c. search needs) slice-write-words-2 (λ c. search needs) (λ c. search needs) returns)
+    tie.close (tie.spec (λ c. search needs) slice-write-words-2 (λ c. search needs) (λ c. search needs) returns)

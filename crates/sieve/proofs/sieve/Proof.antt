@@ -8,6 +8,7 @@ use Rattle.residues.specs.children.laws.Blank.{zero-length}
 use Rattle.sieve.specs.laws.Marks.{sieved-of}
 use Rattle.sieve.proofs.sieve.Statement.{statement}
 use Rattle.sieve.proofs.sieve.Tie as tie
+use Rattle.residues.specs.Room.{searchRoom}
 
 flag-before-requires : tie.Need-flag-before-requires
 flag-before-requires c κs =
@@ -32,7 +33,7 @@ find-requires c κs =
           few = as-few (S .alike) (S .few);
           begin = as-many (S .alike) (S .begin);
           gone-all = c .before .before .before .before .before .flag-before .ensures .whole;
-          marks-all = zero-length 4096 (a .marks .now) (S .blank);
+          marks-all = zero-length searchRoom (a .marks .now) (S .blank);
         };
         held = from-empty (withResidue 0 (a .gens .now) (a .h .now)) (c .before .before .before .empty .result)
             (c .before .before .with-residue .result) (c .before .before .before .empty .ensures) (c .before .before .with-residue .ensures);
@@ -56,17 +57,9 @@ returns c =
     let f = c .before .before .before .before .find in
     sieved-of (a .gens .now) (a .h .now) (a .start) (a .k) (a .missing) (c₁ .flag-before .last .1 .1 .0) (a .marks .now)
     (f .last .1 .1 .1 .1 .1 .1 .1 .1 .1 .0) (S .some)
-    (c₁ .flag-before .ensures) (S .blank) (f .kept .1 .1 .1 .1 .1 .1 .1 .1 .1 .0 ∙ zero-length 4096 (a .marks .now) (S .blank)) (f .ensures)
+    (c₁ .flag-before .ensures) (S .blank) (f .kept .1 .1 .1 .1 .1 .1 .1 .1 .1 .0 ∙ zero-length searchRoom (a .marks .now) (S .blank)) (f .ensures)
 
 pub sieve-spec : {M : Type 1} → statement M
 sieve-spec =
     tie.close
-    (tie.spec
-    (λ c. refl)
-    flag-before-requires
-    empty-requires
-    with-residue-requires
-    find-requires
-    same-length
-    same-length-2
-    returns)
+    (tie.spec (λ c. refl) flag-before-requires empty-requires with-residue-requires find-requires same-length same-length-2 returns)

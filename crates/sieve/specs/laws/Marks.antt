@@ -12,12 +12,13 @@ use Rattle.residues.specs.children.laws.Blank.{zero-at}
 use Rattle.residues.specs.children.laws.Found.{met-barren}
 use Rattle.sieve.specs.dead_numbers.Dead.{FlaggedBefore}
 use Rattle.sieve.specs.Sieve.{Sieved}
+use Rattle.residues.specs.Room.{searchRoom}
 
-pub blank-fair : (h marks : List ℕ) → marks ≡ replicate 4096 0 → Fair h marks
-blank-fair h marks e = record { on = λ j n. absurd (n (zero-at 4096 marks e j)) }
+pub blank-fair : (h marks : List ℕ) → marks ≡ replicate searchRoom 0 → Fair h marks
+blank-fair h marks e = record { on = λ j n. absurd (n (zero-at searchRoom marks e j)) }
 
 pub sieved-of : (gens h : List ℕ) (start k missing : ℕ) (dead marks marks′ : List ℕ) → missing ≢ 0 → FlaggedBefore h start dead
-    → marks ≡ replicate 4096 0 → length marks′ ≡ 4096
+    → marks ≡ replicate searchRoom 0 → length marks′ ≡ searchRoom
     → Found gens h h start k missing dead marks marks′ → Sieved gens h start (length gens) k missing marks′
 sieved-of gens h start k missing dead marks marks′ ne D e w F =
     record {

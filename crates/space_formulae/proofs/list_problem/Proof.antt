@@ -1,7 +1,7 @@
--- `formulae::list_problem` meets its contract. Assumes nothing.
+-- `space_formulae::list_problem` meets its contract. Assumes nothing.
 use native.Mathlib.Omega.{arith}
 use Rattle.bases.specs.Basis.{based-dim}
-use Rattle.space_formulae.specs.Replies.{given-far, given-no, is-accepted, given-yes}
+use Rattle.space_formulae.specs.laws.Replies.{given-far, given-no, is-accepted, given-yes}
 use borrow.Author.Needs.{needs}
 use Rattle.space_formulae.proofs.list_problem.Statement.{statement}
 use Rattle.space_formulae.proofs.list_problem.Tie as tie
@@ -51,12 +51,4 @@ returns-3 c =
 pub list-problem-spec : {M : Type 1} → statement M
 list-problem-spec =
     tie.close
-    (tie.spec
-    (λ c κs. search needs)
-    (λ c. search needs)
-    returns
-    (λ c κs. search needs)
-    returns-2
-    list-space-requires
-    (λ c. search needs)
-    returns-3)
+    (tie.spec (λ c κs. search needs) (λ c. search needs) returns (λ c κs. search needs) returns-2 list-space-requires (λ c. search needs) returns-3)

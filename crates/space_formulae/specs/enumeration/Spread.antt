@@ -1,6 +1,6 @@
 -- What the recursion over the formulae of a space asks and gives.
 --   formulaeFrom gens w targets C p n i m == the records that it emits: from the basis C of the generators numbered p, for m more numbers out of i, .., i + n - 1
---   Node ..               == what `spread` asks: w is reduced, b the basis of a part of it with `missing` dimensions less, c holds the generators chosen
+--   Branch ..                             == what `spread` asks: w is reduced, b the basis of a part of it with `missing` dimensions less, c holds the generators chosen
 -- From the empty basis the records are those of all formulae: `formulae-from` (laws/Spread). Assumes nothing.
 use mathlib.Core.List.{List}
 use Prim.Native.Nat.{ℕ, _+_, _≤_}
@@ -14,14 +14,15 @@ use Rattle.first_formula.specs.Choice.{numbersOf, Chose, formulaRecord}
 use Rattle.records.specs.declared.Tally.{Tally}
 use Rattle.records.specs.Records.{Sane}
 use Rattle.records.specs.Keep.{stateOf}
+use Rattle.kinds.specs.Limits.{mostProducts}
 
 abbrev pub formulaeFrom : (gens w targets C p : List ℕ) → ℕ → ℕ → ℕ → List (List ℕ)
 formulaeFrom gens w targets C p n i m = spread word gens w (formulaRecord gens targets) C p n i m
 
-pub record Node (gens w : List ℕ) (missing : ℕ) (b : Basis) (c : Choice) (t : Tally) (limit : ℕ) (out : List ℕ) : Type 0 where
+pub record Branch (gens w : List ℕ) (missing : ℕ) (b : Basis) (c : Choice) (t : Tally) (limit : ℕ) (out : List ℕ) : Type 0 where
   pub space : Reduced word w
   pub valid : Valid b
   pub inner : Inner word w (rowsOf b) missing
   pub chose : Chose gens (numbersOf c) c
-  pub room : c .len + missing ≤ 64
+  pub room : c .len + missing ≤ mostProducts
   pub sane : Sane limit (stateOf t out)

@@ -1,5 +1,5 @@
 -- What is asked to keep a formula.
---   Keeping c t limit out == a choice with room, and counts in range
+--   FormulaKeeping c t limit out == a choice with room, and counts in range
 -- Assumes nothing.
 use mathlib.Core.List.{List}
 use Prim.Native.Nat.{ℕ}
@@ -9,6 +9,6 @@ use Rattle.records.specs.declared.Tally.{Tally}
 use Rattle.records.specs.Records.{Sane}
 use Rattle.records.specs.Keep.{stateOf}
 
-pub record Keeping (c : Choice) (t : Tally) (limit : ℕ) (out : List ℕ) : Type 0 where
+pub record FormulaKeeping (c : Choice) (t : Tally) (limit : ℕ) (out : List ℕ) : Type 0 where
   pub whole : Whole c
   pub sane : Sane limit (stateOf t out)

@@ -1,29 +1,30 @@
 -- The formulae of a space, on numbers.
---   isEntry gens targets rows == rows are the reduced basis of a solution space: they are their own reduced basis, the generators inside span them, and no target
---                                is outside
---   recordSize targets rows   == how many words the record of a formula has
---   Formulae                  == how many formulae are listed, whether these are all, and the buffer's content
---   listing x rows old        == what is said of the problem x and the space with those rows, in a buffer that holds old
---   formulaeOf ..             == refused by a number of document 01's list (2 to 8, 10), or that
---   seenFormulae r after      == what the code's answer r says, the buffer holding `after`
---   lentFormulae a old        == the buffer's content at exit
--- is-entry (laws/Entry): the test is true exactly for the solution spaces. What it all means is in `Theorems`. Assumes nothing.
+--   isEntry gens targets rows  == rows are the reduced basis of a solution space: they are their own reduced basis, the generators inside span them, and no target
+--                                 is outside
+--   recordSize targets rows    == how many words the record of a formula has
+--   Formulae                   == how many formulae are listed, whether these are all, and the buffer's content
+--   formulaeListing x rows old == what is said of the problem x and the space with those rows, in a buffer that holds old
+--   formulaeOf ..              == refused by a number of document 01's list (2 to 8, 10), or that
+--   seenFormulae r after       == what the code's answer r says, the buffer holding `after`
+--   lentFormulae a old         == the buffer's content at exit
+-- The test is true exactly for the solution spaces, `entry-exactly`; what it all means is in `Theorems`. Assumes nothing.
 use mathlib.Core.Bool.{Bool, true, false, not, _&&_}
 use mathlib.Core.List.{List, _++_, map}
-use Prim.Native.Nat.{ℕ, _+_, _*_}
+use Prim.Native.Nat.{ℕ, _+_, _*_, _≤_}
 use lib.ListN.{length, take, drop}
 use lib.Dec.{eqb, ltb}
 use Rattle.kinds.specs.Refusal.{Answer, refused, accepted, refuse, follow}
-use Rattle.problems.specs.Problem.{Problem, posed}
+use Rattle.problems.specs.Problem.{Problem, posed, problem}
 use Rattle.linear.specs.Basis.{basisOf, dim}
 use Rattle.linear.specs.Select.{anyOf}
-use Rattle.linear.specs.Entry.{sameBasis, inside, fits}
+use Rattle.linear.specs.Entry.{sameBasis, inside, fits, Solution}
 use Rattle.linear.specs.Formulae.{formulae}
 use Rattle.linear.specs.Word.{word}
 use Rattle.catalogue.specs.listing.Listing.{flat, fitting}
 use Rattle.first_formula.specs.Choice.{formulaRecord}
 use Rattle.space_formulae.specs.declared.spaces.Listed.{Listed as Reply}
 use Rattle.space_formulae.specs.declared.spaces.Listed.the-variants as reply
+use mathlib.Core.Path.{_≡_}
 
 unfoldable pub isEntry : (gens targets rows : List ℕ) → Bool
 isEntry gens targets rows =
@@ -39,8 +40,8 @@ abbrev pub recordSize : List ℕ → List ℕ → ℕ
 recordSize targets rows = length rows + length targets
 
 -- as many as fit, from the buffer's start; then its old content
-unfoldable pub listing : Problem → List ℕ → List ℕ → Formulae
-listing x rows old =
+unfoldable pub formulaeListing : Problem → List ℕ → List ℕ → Formulae
+formulaeListing x rows old =
     let all = formulae word (x .generators) rows in
     let size = recordSize (x .targets) rows in
     let listed = fitting size (length all) (length old) in
@@ -56,7 +57,7 @@ formulaeOf number p q r gs ts rows old =
     follow (posed number p q r gs ts rows) λ x.
     refuse 8 (ltb (dim word (x .targets) + 6) (length rows))
     (refuse 10 (not (isEntry (x .generators) (x .targets) rows))
-    (accepted (listing x rows old)))
+    (accepted (formulaeListing x rows old)))
 
 -- the answer of the code
 abbrev pub seenFormulae : Reply → List ℕ → Answer Formulae
@@ -68,3 +69,18 @@ seenFormulae (reply.More n) after = accepted (record { listed = n; whole = false
 abbrev pub lentFormulae : Answer Formulae → List ℕ → List ℕ
 lentFormulae (refused e) old = old
 lentFormulae (accepted x) old = x .buffer
+
+pub record SpaceAccepted (gens targets rows : List ℕ) : Type 0 where
+  pub entry : Solution word gens targets (length rows) rows
+  pub few : length rows ≤ 64
+  pub some-target : 1 ≤ length targets
+  pub targets-few : length targets ≤ 64
+
+pub record FormulaeTold (gens targets rows old : List ℕ) (r : Reply) (after : List ℕ) : Type 0 where
+  pub answer : accepted (formulaeListing (problem gens targets) rows old) ≡ seenFormulae r after
+
+-- the test of `isEntry` as the code makes it: rows that pass are at most 64
+module _ (gens targets rows : List ℕ) where
+  pub record Rows (r : Bool) : Type 0 where
+    pub is : r ≡ isEntry gens targets rows
+    pub room : r ≡ true → length rows ≤ 64

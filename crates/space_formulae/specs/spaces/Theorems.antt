@@ -1,7 +1,8 @@
 -- What the formulae of a space are, in the words of document 01's demand: none missing, none twice. To be read from top to bottom.
 --   FormulaeMeans, formulae-means   an accepted reply lists, in dictionary order, the first of exactly all sets of k independent generators that span the space
 --   RankFirst, rank-first           Rank's formula is the first of the list for the first entry's space
--- The definitions: formulaeOf, isEntry (Spaces), posed (problems), Solution (linear, Entry), Formula (linear, laws/Formulae), formulaRecord (choice). Assumes nothing.
+--   entry-exactly                   the test behind refusal 10 holds exactly for the reduced bases of entries
+-- The definitions: formulaeOf, isEntry (Spaces), posed (problems), Solution (linear, Entry), Formula (linear, Formulae), formulaRecord (first_formula, Choice). Assumes nothing.
 use mathlib.Core.Path.{_≡_, refl, sym, _∙_, subst}
 use mathlib.Core.Logic.{_↔_}
 use mathlib.Core.Bool.{true, false, not}
@@ -12,23 +13,26 @@ use lib.ListN.{length, take, drop}
 use lib.Dec.{ltb}
 use borrow.Author.Tests.{eqb-true, eq-eqb, not-false}
 use Rattle.kinds.specs.Refusal.{accepted, refuse}
-use Rattle.kinds.specs.RefusalLaws.{accepted-inj, follow-inv, refuse-inv}
+use Rattle.kinds.specs.laws.Refusal.{accepted-inj, follow-inv, refuse-inv}
 use Rattle.forms.specs.Row.{rowForm}
 use Rattle.problems.specs.Problem.{Problem, posed}
 use Rattle.linear.specs.Basis.{dim}
 use Rattle.linear.specs.Order.{Before, Ordered}
 use Rattle.linear.specs.Entry.{Solution, chosen, space, entries}
-use Rattle.linear.specs.Formulae.{first, formula, formulae, fewest}
+use Rattle.linear.specs.Formulae.{first, formula, formulae, fewest, Formula}
 use Rattle.linear.specs.Word.{word}
 use Rattle.linear.specs.Theorems.{entry-solves, formulae-exactly, rank-formula}
 use Rattle.linear.specs.laws.Extension.{chosen-length}
-use Rattle.linear.specs.laws.Formulae.{first-some, Formula, formulae-ordered}
+use Rattle.linear.specs.laws.Formulae.{first-some, formulae-ordered}
 use Rattle.bases.specs.rows.Rows.{rowOf}
 use Rattle.bases.specs.rows.laws.Rows.{row-sum, row-only}
 use Rattle.catalogue.specs.listing.Listing.{flat, fitting}
 use Rattle.first_formula.specs.Choice.{formulaRecord}
-use Rattle.space_formulae.specs.spaces.Spaces.{Formulae, isEntry, recordSize, listing, formulaeOf}
+use Rattle.space_formulae.specs.spaces.Spaces.{Formulae, isEntry, recordSize, formulaeListing, formulaeOf}
 use Rattle.space_formulae.specs.spaces.laws.Entry.{is-entry}
+
+pub entry-exactly : (gens targets rows : List ℕ) → (isEntry gens targets rows ≡ true) ↔ Solution word gens targets (length rows) rows
+entry-exactly gens targets rows = is-entry gens targets rows
 
 pub record FormulaeMeans (gens targets rows old : List ℕ) (f : Formulae) : Type 0 where
   -- the rows are the reduced basis of a solution space of as many dimensions
@@ -54,8 +58,8 @@ module _ (x : Problem) (rows : List ℕ) (E : Solution word (x .generators) (x .
   formula-of : (es : List ℕ) → List·Memᴰ es (formulae word gens rows) → Formula word gens rows es
   formula-of es m = formulae-exactly word gens (x .targets) rows (E .reduced) es .0 m
 
-  listing-means : (old : List ℕ) → FormulaeMeans (x .generators) (x .targets) rows old (listing x rows old)
-  unfolding listing formulaRecord
+  listing-means : (old : List ℕ) → FormulaeMeans (x .generators) (x .targets) rows old (formulaeListing x rows old)
+  unfolding formulaeListing formulaRecord
   listing-means old =
       record {
         entry = E;
@@ -80,12 +84,12 @@ pub formulae-means : (number p q r : ℕ) (gs ts rows old : List ℕ) (f : Formu
 unfolding formulaeOf
 formulae-means number p q r gs ts rows old f e =
     let i = follow-inv (posed number p q r gs ts rows)
-    (λ x. refuse 8 (ltb (dim word (x .targets) + 6) (length rows)) (refuse 10 (not (isEntry (x .generators) (x .targets) rows)) (accepted (listing x rows old)))) f e in
+    (λ x. refuse 8 (ltb (dim word (x .targets) + 6) (length rows)) (refuse 10 (not (isEntry (x .generators) (x .targets) rows)) (accepted (formulaeListing x rows old)))) f e in
     let x : Problem = i .0 in
-    let j = refuse-inv 8 (ltb (dim word (x .targets) + 6) (length rows)) (refuse 10 (not (isEntry (x .generators) (x .targets) rows)) (accepted (listing x rows old))) f (i .2) in
-    let k = refuse-inv 10 (not (isEntry (x .generators) (x .targets) rows)) (accepted (listing x rows old)) f (j .1) in
+    let j = refuse-inv 8 (ltb (dim word (x .targets) + 6) (length rows)) (refuse 10 (not (isEntry (x .generators) (x .targets) rows)) (accepted (formulaeListing x rows old))) f (i .2) in
+    let k = refuse-inv 10 (not (isEntry (x .generators) (x .targets) rows)) (accepted (formulaeListing x rows old)) f (j .1) in
     let E = is-entry (x .generators) (x .targets) rows .0 (not-false (isEntry (x .generators) (x .targets) rows) (k .0)) in
-    (x, i .1, j .0, subst (FormulaeMeans (x .generators) (x .targets) rows old) (accepted-inj (listing x rows old) f (k .1)) (listing-means x rows E old))
+    (x, i .1, j .0, subst (FormulaeMeans (x .generators) (x .targets) rows old) (accepted-inj (formulaeListing x rows old) f (k .1)) (listing-means x rows E old))
 
 -- Rank says the first formula of the first entry's space. The rows of that space are accepted, and the list for them begins with Rank's formula.
 pub record RankFirst (gens targets es : List ℕ) : Type 0 where

@@ -28,5 +28,4 @@ returns-5 c =
 
 pub digit-of-spec : {M : Type 1} → statement M
 digit-of-spec =
-    tie.close
-    (tie.spec returns (λ c. search needs) returns-2 returns-3 (λ c. search needs) (λ c. search needs) returns-4 returns-5)
+    tie.close (tie.spec returns (λ c. search needs) returns-2 returns-3 (λ c. search needs) (λ c. search needs) returns-4 returns-5)

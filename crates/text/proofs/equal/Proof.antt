@@ -15,12 +15,6 @@ Inv-loop s t n i₀ i = (n ≡ length s) × (n ≡ length t) × (i ≤ n) × (sa
 abbrev μ-loop : tie.MeasureT-loop
 μ-loop s t n i₀ i = n - i
 
-returns : tie.Need-returns Inv-loop μ-loop
-returns c = sym (same-length (c .before .args .s .now) (c .before .args .t .now) (c .if1 .taken))
-
-loop-holds : tie.Need-loop-holds Inv-loop μ-loop
-loop-holds c = (refl, omega arith, omega arith, refl)
-
 returns-2 : tie.Need-returns-2 Inv-loop μ-loop
 returns-2 c =
     let z = c .before .before .before .before in
@@ -41,15 +35,6 @@ returns-3 c =
 pub equal-spec : {M : Type 1} → statement M
 equal-spec =
     tie.close
-    (tie.spec
-    Inv-loop
-    μ-loop
-    returns
-    loop-holds
-    (λ c. search needs)
-    (λ c. search needs)
-    returns-2
-    (λ c. search needs)
-    (λ c. search needs)
-    loop-again
-    returns-3)
+    (tie.spec Inv-loop μ-loop (λ c. sym (same-length (c .before .args .s .now) (c .before .args .t .now) (c .if1 .taken)))
+    (λ c. (refl, omega arith, omega arith, refl)) (λ c. search needs) (λ c. search needs) returns-2 (λ c. search needs) (λ c. search needs)
+    loop-again returns-3)

@@ -7,7 +7,7 @@ use native.Mathlib.Nat.{pow-zero}
 use borrow.Author.Needs.{needs}
 use lib.ListN.{length, drop}
 use Rattle.text.specs.Numeral.{digits, numeral}
-use Rattle.text.specs.laws.Numeral.{digits-step, digits-stop, digits-end, bound, fits, numeral-empty, numeral-long, numeral-zero, numeral-one, numeral-more}
+use Rattle.text.specs.laws.Numeral.{digits-step, digits-stop, digits-end, bound, numeral-fits, numeral-empty, numeral-long, numeral-zero, numeral-one, numeral-more}
 use Rattle.text.proofs.numeral_of.Statement.{statement}
 use Rattle.text.proofs.numeral_of.Tie as tie
 
@@ -17,15 +17,6 @@ Inv-loop s base most n v₀ i₀ v i =
 
 abbrev μ-loop : tie.MeasureT-loop
 μ-loop s base most n v₀ i₀ v i = n - i
-
-returns : tie.Need-returns Inv-loop μ-loop
-returns c = numeral-empty _ _ _ (c .if1 .taken)
-
-returns-2 : tie.Need-returns-2 Inv-loop μ-loop
-returns-2 c = numeral-long _ _ _ (c .if2 .taken)
-
-returns-3 : tie.Need-returns-3 Inv-loop μ-loop
-returns-3 c = numeral-zero _ _ _ (c .before .before .if3 .taken) (c .before .before .before .if2 .left) (c .if4 .taken)
 
 loop-holds : tie.Need-loop-holds Inv-loop μ-loop
 loop-holds c = (
@@ -44,12 +35,14 @@ returns-4 c = c .before .before .before .before .loop .inv .4 ∙ digits-stop _ 
 
 mul-v : tie.Need-mul-v Inv-loop μ-loop
 mul-v c =
-    let h = fits _ _ _ _ _ (c .before .before .before .before .loop .inv .3) (c .if5 .left) (omega arith) (c .before .before .before .before .before .before .before .before .before .pre .1) in
+    let h = numeral-fits _ _ _ _ _ (c .before .before .before .before .loop .inv .3) (c .if5 .left) (omega arith) (c .before .before .before .before .before .before .before .before .before .pre .1) in
     omega arith
 
 add-v : tie.Need-add-v Inv-loop μ-loop
 add-v c =
-    record { fits = fits _ _ _ _ _ (c .before .before .before .before .loop .inv .3) (c .if5 .left) (omega arith) (c .before .before .before .before .before .before .before .before .before .pre .1) }
+    let pre = c .before .before .before .before .before .before .before .before .before .pre in
+    let the-loop = c .before .before .before .before .loop in
+    record { fits = numeral-fits _ _ _ _ _ (the-loop .inv .3) (c .if5 .left) (omega arith) (pre .1) }
 
 loop-again : tie.Need-loop-again Inv-loop μ-loop
 loop-again c =
@@ -70,20 +63,6 @@ returns-5 c =
 pub numeral-of-spec : {M : Type 1} → statement M
 numeral-of-spec =
     tie.close
-    (tie.spec
-    Inv-loop
-    μ-loop
-    returns
-    returns-2
-    (λ c. search needs)
-    returns-3
-    loop-holds
-    (λ c. search needs)
-    (λ c κs. search needs)
-    returns-4
-    mul-v
-    add-v
-    (λ c. search needs)
-    (λ c. search needs)
-    loop-again
-    returns-5)
+    (tie.spec Inv-loop μ-loop (λ c. numeral-empty _ _ _ (c .if1 .taken)) (λ c. numeral-long _ _ _ (c .if2 .taken)) (λ c. search needs)
+    (λ c. numeral-zero _ _ _ (c .before .before .if3 .taken) (c .before .before .before .if2 .left) (c .if4 .taken)) loop-holds
+    (λ c. search needs) (λ c κs. search needs) returns-4 mul-v add-v (λ c. search needs) (λ c. search needs) loop-again returns-5)

@@ -1,5 +1,5 @@
 -- What the code's answers say, in the readings' terms.
---   seenCounts r          == the four counts that the answer r stands for
+--   seenCounts r              == the four counts that the answer r stands for
 --   seenHead s r, bytesHead r == the reading of s that r stands for, and the bytes used, 0 where there is no reading
 -- Assumes nothing.
 use Prim.Native.Nat.{ℕ}

@@ -1,27 +1,28 @@
 -- Lines and fields.
 --   till-here, till-later, till-end, till-le   the search for the first c, byte by byte
 --   cut-some, cut-none                         the cut goes by that number
---   same-step .. same-length                   two byte strings, byte by byte
+--   same-step .. same-only                     two byte strings, byte by byte
 --   name-cut .. field-is                       the cases of a line and of a field
 --   read-at, fits-at                           a reading of the part of s from u on
+--   Ends, Named, FieldAt                         what is known where a cut, a fixed line, a field was found
 -- Assumes nothing.
 use Prim.Native.Nat.{ℕ, suc, _+_, _-_, _<_, _≤_}
-use mathlib.Core.Path.{_≡_, refl, ap, _∙_}
+use mathlib.Core.Path.{_≡_, refl, sym, ap, _∙_}
 use mathlib.Core.List.{List, [], _∷_}
 use mathlib.Core.Bool.{Bool, true, false, _&&_, cond}
 use mathlib.Core.Option.{Option, none, some}
 use native.Mathlib.Omega.{arith}
 use native.Mathlib.Numerals.{add-one}
 use lib.ListN.{length, getD, take, drop, length-drop}
-use lib.Seq.{drop-cons, drop-length, drop-drop}
+use lib.Seq.{drop-cons, drop-length, drop-drop, length-take-le}
 use lib.Dec.{eqb}
 use borrow.Rule.Slice.PartAt.{part-to-end}
-use borrow.Author.Tests.{eq-eqb, ne-eqb}
+use borrow.Author.Tests.{eq-eqb, ne-eqb, eqb-true}
 use Rattle.kinds.specs.Kinds.{same}
 use Rattle.text.specs.Reading.{_>>=_}
 use Rattle.text.specs.Numeral.{numeral}
 use Rattle.text.specs.Line.{till, cut, LF, nameLine, field}
-use Rattle.text.specs.Views.{seenCut, bytesCut, bytesUsed, seenField, bytesField}
+use Rattle.text.specs.Views.{seenCut, bytesCut, seenUsed, bytesUsed, seenField, bytesField}
 use Rattle.text.specs.declared.Cut.{Cut}
 use Rattle.text.specs.declared.Cut.the-variants.{At, No}
 use Rattle.text.specs.declared.Used.{Used}
@@ -97,12 +98,33 @@ same-length (x ∷ s) (y ∷ t) h = go (eqb x y) (same-length s t (λ e. h (ap s
     go true e = e
     go false e = refl
 
+pub same-only : (s t : List ℕ) → same s t ≡ true → s ≡ t
+same-only [] [] e = refl
+same-only [] (y ∷ t) e = absurd (let q : _≡_ {A = ℕ} 0 1 = cc in omega arith)
+same-only (x ∷ s) [] e = absurd (let q : _≡_ {A = ℕ} 0 1 = cc in omega arith)
+same-only (x ∷ s) (y ∷ t) e = go (eqb x y) refl (same-only s t) e
+  where
+    go : (a : Bool) → eqb x y ≡ a → (same s t ≡ true → s ≡ t) → (a && same s t) ≡ true → x ∷ s ≡ y ∷ t
+    go true h ih f = rw (eqb-true x y h, ih f)
+    go false h ih f = absurd (let q : _≡_ {A = ℕ} 0 1 = cc in omega arith)
+
 -- ---- the cut, by the code's answer
 pub cut-told : (c : ℕ) (s : List ℕ) (r t : Cut) → cut c s ≡ seenCut s r → r ≡ t → cut c s ≡ seenCut s t
 cut-told c s r t e h = e ∙ ap (seenCut s) h
 
 pub cut-fits : (r : Cut) (e n : ℕ) → bytesCut r ≤ n → r ≡ At e → e + 1 ≤ n
 cut-fits r e n h g = rw g at h
+
+-- the first c of s stands at place e
+pub record Ends (c : ℕ) (s : List ℕ) (e : ℕ) : Type 0 where
+  pub is : cut c s ≡ some (take e s, drop (e + 1) s)
+  pub fits : e + 1 ≤ length s
+
+pub ends : (c : ℕ) (s : List ℕ) (r : Cut) (e : ℕ) → (cut c s ≡ seenCut s r) × (bytesCut r ≤ length s) → r ≡ At e → Ends c s e
+ends c s r e p h = record { is = cut-told c s r (At e) (p .0) h; fits = cut-fits r e (length s) (p .1) h }
+
+pub ends-length : {c : ℕ} {s : List ℕ} {e : ℕ} → Ends c s e → e ≡ length (take e s)
+ends-length {s = s} {e = e} E = sym (length-take-le e s (omega (arith, E .fits)))
 
 -- ---- fixed lines
 pub name-cut : (n s : List ℕ) → cut LF s ≡ none → nameLine n s ≡ none
@@ -149,15 +171,38 @@ module _ {B : Type 0} (s : List ℕ) (u : ℕ) (r t : B) where
 pub used-fit : (r : Used) (v n : ℕ) → bytesUsed r ≤ n → r ≡ used.Is v → v ≤ n
 used-fit r v n e h = rw h at e
 
-pub field-fit : (r : FieldRead) (v w n : ℕ) → bytesField r ≤ n → r ≡ fieldRead.Is v w → w ≤ n
-field-fit r v w n e h = rw h at e
+-- what is left of s behind a fixed line, from place u on
+pub record Named (name s : List ℕ) (u : ℕ) : Type 0 where
+  pub is : nameLine name s ≡ some (drop u s)
+  pub fits : u ≤ length s
 
--- a field of the part of s from u on
-pub field-from : (base most c : ℕ) (s : List ℕ) (u : ℕ) (r : FieldRead) (v w : ℕ) → field base most c (take (length s - u) (drop u s)) ≡ seenField (take (length s - u) (drop u s)) r → r ≡ fieldRead.Is v w → field base most c (drop u s) ≡ some (v, drop (u + w) s)
-field-from base most c s u r v w e h = read-at s u r (fieldRead.Is v w) (field base most c) seenField e h ∙ ap (λ (x : List ℕ). some (v, x)) (drop-drop w u s)
+pub named : (name s : List ℕ) (r : Used) (u : ℕ) → (nameLine name s ≡ seenUsed s r) × (bytesUsed r ≤ length s) → r ≡ used.Is u → Named name s u
+named name s r u p h = record { is = p .0 ∙ ap (seenUsed s) h; fits = used-fit r u (length s) (p .1) h }
 
-pub field-no : (base most c : ℕ) (s : List ℕ) (u : ℕ) (r : FieldRead) → field base most c (take (length s - u) (drop u s)) ≡ seenField (take (length s - u) (drop u s)) r → r ≡ fieldRead.No → field base most c (drop u s) ≡ none
-field-no base most c s u r e h = read-at s u r fieldRead.No (field base most c) seenField e h
+pub unnamed : (name s : List ℕ) (r : Used) → nameLine name s ≡ seenUsed s r → r ≡ used.No → nameLine name s ≡ none
+unnamed name s r e h = e ∙ ap (seenUsed s) h
 
-pub field-fits : (s : List ℕ) (u : ℕ) (r : FieldRead) (v w : ℕ) → bytesField r ≤ length (take (length s - u) (drop u s)) → r ≡ fieldRead.Is v w → u ≤ length s → u + w ≤ length s
-field-fits s u r v w e h l = fits-at s u r (fieldRead.Is v w) bytesField e h l
+-- ---- a number v read by f from the part of s from u on, and what is left, from place w on
+pub record FieldAt (f : List ℕ → Option (ℕ × List ℕ)) (s : List ℕ) (u v w : ℕ) : Type 0 where
+  pub is : f (drop u s) ≡ some (v, drop w s)
+  pub fits : w ≤ length s
+
+module _ (f : List ℕ → Option (ℕ × List ℕ)) (s : List ℕ) where
+  pub field-first : (r : FieldRead) (v w : ℕ) → (f s ≡ seenField s r) × (bytesField r ≤ length s) → r ≡ fieldRead.Is v w → FieldAt f s 0 v w
+  field-first r v w p h = record { is = p .0 ∙ ap (seenField s) h; fits = (let l = p .1 in rw h at l) }
+
+  pub field-none : (r : FieldRead) → f s ≡ seenField s r → r ≡ fieldRead.No → f s ≡ none
+  field-none r e h = e ∙ ap (seenField s) h
+
+  pub field-next : (u : ℕ) (r : FieldRead) (v w : ℕ)
+      → (f (take (length s - u) (drop u s)) ≡ seenField (take (length s - u) (drop u s)) r) × (bytesField r ≤ length (take (length s - u) (drop u s)))
+      → r ≡ fieldRead.Is v w → u ≤ length s → FieldAt f s u v (u + w)
+  field-next u r v w p h l =
+      record {
+        is = read-at s u r (fieldRead.Is v w) f seenField (p .0) h ∙ ap (λ (x : List ℕ). some (v, x)) (drop-drop w u s);
+        fits = fits-at s u r (fieldRead.Is v w) bytesField (p .1) h l;
+      }
+
+  pub field-no : (u : ℕ) (r : FieldRead) → f (take (length s - u) (drop u s)) ≡ seenField (take (length s - u) (drop u s)) r
+      → r ≡ fieldRead.No → f (drop u s) ≡ none
+  field-no u r e h = read-at s u r fieldRead.No f seenField e h

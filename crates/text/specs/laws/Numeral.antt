@@ -1,6 +1,6 @@
 -- Numerals, as they are read from the left.
 --   digits-step, digits-stop, digits-end   the next digit; a byte that is none; the end
---   bound, fits                            the value so far, and that it fits 64 bits
+--   bound, numeral-fits                            the value so far, and that it fits 64 bits
 --   numeral-empty .. numeral-more          the cases of a numeral by its length and its first digit
 -- Assumes nothing.
 use Prim.Native.Nat.{ℕ, suc, _+_, _*_, _^_, _<_, _≤_}
@@ -40,8 +40,8 @@ bound base v i d hv hd =
     rw (add-one, pow-suc)
     (omega (arith, mul-le-mul-right base hv, suc-mul v base))
 
-pub fits : (base v i d most : ℕ) → v < base ^ i → d < base → i < most → base ^ most ≤ 2 ^ 64 → v * base + d < 2 ^ 64
-fits base v i d most hv hd hi h =
+pub numeral-fits : (base v i d most : ℕ) → v < base ^ i → d < base → i < most → base ^ most ≤ 2 ^ 64 → v * base + d < 2 ^ 64
+numeral-fits base v i d most hv hd hi h =
     let more : base ^ (i + 1) ≤ base ^ most = pow-le-pow-right (omega arith) (omega arith) in
     omega (arith, bound base v i d hv hd)
 

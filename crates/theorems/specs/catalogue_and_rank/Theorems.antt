@@ -12,7 +12,7 @@ use lib.ListN.{length, take, drop}
 use lib.Dec.{ltb, eqb}
 use borrow.Author.Tests.{eqb-true, ltb-false, not-false}
 use Rattle.kinds.specs.Refusal.{accepted, refuse}
-use Rattle.kinds.specs.RefusalLaws.{accepted-inj, follow-inv, refuse-inv}
+use Rattle.kinds.specs.laws.Refusal.{accepted-inj, follow-inv, refuse-inv}
 use Rattle.words.specs.Buffers.{filled}
 use Rattle.forms.specs.Row.{rowForm}
 use Rattle.problems.specs.Problem.{Problem, posed}
@@ -22,19 +22,18 @@ use Rattle.linear.specs.Select.{Once}
 use Rattle.linear.specs.Entry.{Solution, space, entries, chosen}
 use Rattle.linear.specs.Rank.{Chosen, Computes}
 use Rattle.linear.specs.Formulae as formulae
-use Rattle.linear.specs.Formulae.{Fewest, formula, fewest}
+use Rattle.linear.specs.Formulae.{Fewest, formula, fewest, RankFormula}
 use Rattle.linear.specs.Word.{word}
 use Rattle.linear.specs.Theorems.{entry-solves, solution-listed, spaces-once, entries-in-order, extension-first, no-fewer, rank-formula, rank-exactly, rank-above, rank-beyond}
 use Rattle.linear.specs.laws.Order.{mem-map, mem-map-inv}
 use Rattle.linear.specs.laws.Rank.{solution-within, entries-below}
-use Rattle.linear.specs.laws.Fewest.{RankFormula}
 use Rattle.bases.specs.rows.Rows.{rowOf}
 use Rattle.bases.specs.rows.laws.Rows.{row-sum, row-only}
 use Rattle.catalogue.specs.listing.laws.Run.{fitting-none}
 use Rattle.catalogue.specs.listing.Listing.{records, recordLength, flat, fitting}
 use Rattle.first_formula.specs.Choice.{formulaRecord}
 use Rattle.rank.specs.fewest.Fewest.{Ranking, is, above, beyond, written, ranking}
-use Rattle.catalogue.specs.Catalogue.{Catalogued, listing, catalogue}
+use Rattle.catalogue.specs.Catalogue.{Catalogued, entryListing, catalogue}
 use Rattle.rank.specs.Rank.{rank}
 
 -- ---- Catalogue
@@ -99,8 +98,8 @@ module _ (gens targets : List ℕ) (k : ℕ) where
           let E = entry-solves word gens targets k es (subst (List·Memᴰ es) (sym q) (List·Memᴰ·head refl)) in
           absurd (omega (arith, h, solution-within word gens targets k (space word gens targets es) E))
 
-  listing-means : (old : List ℕ) → CatalogueMeans gens targets k old (listing (record { generators = gens; targets = targets }) k old)
-  unfolding listing records
+  listing-means : (old : List ℕ) → CatalogueMeans gens targets k old (entryListing (record { generators = gens; targets = targets }) k old)
+  unfolding entryListing records
   listing-means old =
       record {
         ell = refl;
@@ -120,9 +119,14 @@ pub catalogue-means : (number p q r k : ℕ) (gs ts old : List ℕ) (c : Catalog
     → (x : Problem) × (posed number p q r gs ts [] ≡ accepted x) × (k ≤ dim word (x .targets) + 6) × CatalogueMeans (x .generators) (x .targets) k old c
 unfolding catalogue
 catalogue-means number p q r k gs ts old c e =
-    let i = follow-inv (posed number p q r gs ts []) (λ x. refuse 8 (ltb (dim word (x .targets) + 6) k) (accepted (listing x k old))) c e in
-    let j = refuse-inv 8 (ltb (dim word (i .0 .targets) + 6) k) (accepted (listing (i .0) k old)) c (i .2) in
-    (i .0, i .1, ltb-false (dim word (i .0 .targets) + 6) k (j .0), subst (CatalogueMeans (i .0 .generators) (i .0 .targets) k old) (accepted-inj (listing (i .0) k old) c (j .1)) (listing-means (i .0 .generators) (i .0 .targets) k old))
+    let i = follow-inv (posed number p q r gs ts []) (λ x. refuse 8 (ltb (dim word (x .targets) + 6) k) (accepted (entryListing x k old))) c e in
+    let j = refuse-inv 8 (ltb (dim word (i .0 .targets) + 6) k) (accepted (entryListing (i .0) k old)) c (i .2) in (
+      i .0,
+      i .1,
+      ltb-false (dim word (i .0 .targets) + 6) k (j .0),
+      subst (CatalogueMeans (i .0 .generators) (i .0 .targets) k old)
+          (accepted-inj (entryListing (i .0) k old) c (j .1)) (listing-means (i .0 .generators) (i .0 .targets) k old),
+    )
 
 module _ (gens targets old : List ℕ) where
   formula-means : (es : List ℕ) → RankFormula word gens targets es → (t : ℕ) → List·Memᴰ t targets → rowForm (chosen word gens es) (rowOf (chosen word gens es) t) 0 ≡ t
@@ -143,7 +147,16 @@ module _ (gens targets old : List ℕ) where
           let j = refuse-inv 9 (ltb (length old) (length es + length targets)) (accepted (is (length es) (filled (formulaRecord gens targets es) old))) a w in
           subst (RankMeans gens targets old) (accepted-inj (is (length es) (filled (formulaRecord gens targets es) old)) a (j .1))
           (record {
-            number = λ r buffer p. (es, (let z : length es ≡ r = cc in z), rank-formula word gens targets es q, (let z : filled (formulaRecord gens targets es) old ≡ buffer = cc in sym z), formula-means es (rank-formula word gens targets es q), λ t row h e. row-only (chosen word gens es) t row (rank-formula word gens targets es q .independent) h e);
+            number = (
+                λ r buffer p. (
+                  es,
+                  (let z : length es ≡ r = cc in z),
+                  rank-formula word gens targets es q,
+                  (let z : filled (formulaRecord gens targets es) old ≡ buffer = cc in sym z),
+                  formula-means es (rank-formula word gens targets es q),
+                  λ t row h e. row-only (chosen word gens es) t row (rank-formula word gens targets es q .independent) h e,
+                )
+                );
             exactly = (λ m. rank-exactly word gens targets .0 (es, q), λ m. (length es, filled (formulaRecord gens targets es) old, refl));
             above-exactly = (λ p. clash cc, λ h. clash (let z = rank-above word gens targets .1 h in let y : formula es ≡ formulae.above = sym q ∙ z in cc));
             beyond-exactly = (λ p. clash cc, λ h. clash (let z = rank-beyond word gens targets .1 h in let y : formula es ≡ formulae.beyond = sym q ∙ z in cc));

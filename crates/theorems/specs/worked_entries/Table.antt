@@ -1,7 +1,7 @@
 -- Document 01, "Worked entries": "Those marked P are proved from the definitions, as one table with a theorem over its lines".
---   Line     == a question and its answer
---   Holds l  == the definition gives that answer
---   table    == the lines
+--   WorkedLine  == a question and its answer
+--   LineHolds l == the definition gives that answer
+--   table       == the lines
 --   worked   each line of the table holds
 -- Assumes nothing.
 use mathlib.Core.Path.{_≡_, refl}
@@ -30,7 +30,7 @@ use Rattle.bases.specs.rows.Rows.{rowOf}
 use Rattle.first_formula.specs.Choice.{formulaRecord}
 use Rattle.catalogue.specs.listing.Listing.{records, flat, fitting}
 use Rattle.rank.specs.fewest.Fewest.{Ranking, is, above, beyond, ranking}
-use Rattle.catalogue.specs.Catalogue.{Catalogued, listing, catalogue}
+use Rattle.catalogue.specs.Catalogue.{Catalogued, entryListing, catalogue}
 use Rattle.rank.specs.Rank.{rank}
 use Rattle.space_formulae.specs.spaces.Spaces as space
 use Rattle.space_formulae.specs.spaces.Spaces.{isEntry, formulaeOf}
@@ -38,119 +38,115 @@ use Rattle.formula_check.specs.Formula.{firstWrong, lengths, judged, check}
 use Rattle.formula_check.specs.sums.Sums.{productForms, addersOf}
 use Rattle.forms.specs.Row.{rowForm}
 
-pub data Line : Type 0 where
+pub data WorkedLine : Type 0 where
   -- a Check: the kind's number, p, q, r, k, the masks of both sides, the rows; the reply is the first wrong output and the adders
-  checked : (number p q r k : ℕ) (xs ys rows : List ℕ) → Answer (Option ℕ × ℕ) → Line
+  checked : (number p q r k : ℕ) (xs ys rows : List ℕ) → Answer (Option ℕ × ℕ) → WorkedLine
   -- a Catalogue: the kind's number, p, q, r, k, the generators and targets of a list, the buffer; the reply is ℓ, found, shown and the buffer
-  catalogued : (number p q r k : ℕ) (gs ts old : List ℕ) → Answer Catalogued → Line
+  catalogued : (number p q r k : ℕ) (gs ts old : List ℕ) → Answer Catalogued → WorkedLine
   -- a Rank: the same with k = 0; the reply is the rank with the buffer, above or beyond
-  ranked : (number p q r : ℕ) (gs ts old : List ℕ) → Answer Ranking → Line
+  ranked : (number p q r : ℕ) (gs ts old : List ℕ) → Answer Ranking → WorkedLine
   -- the formulae of a space: the problem as for a Catalogue, the rows, the buffer; the reply is how many are listed, whether these are all, and the buffer
-  listedFormulae : (number p q r : ℕ) (gs ts rows old : List ℕ) → Answer space.Formulae → Line
+  listedFormulae : (number p q r : ℕ) (gs ts rows old : List ℕ) → Answer space.Formulae → WorkedLine
 
-abbrev pub Holds : Line → Type 0
-Holds (checked number p q r k xs ys rows reply) = check number p q r k xs ys rows ≡ reply
-Holds (catalogued number p q r k gs ts old reply) = catalogue number p q r k gs ts old ≡ reply
-Holds (ranked number p q r gs ts old reply) = rank number p q r 0 gs ts old ≡ reply
-Holds (listedFormulae number p q r gs ts rows old reply) = formulaeOf number p q r gs ts rows old ≡ reply
+abbrev pub LineHolds : WorkedLine → Type 0
+LineHolds (checked number p q r k xs ys rows reply) = check number p q r k xs ys rows ≡ reply
+LineHolds (catalogued number p q r k gs ts old reply) = catalogue number p q r k gs ts old ≡ reply
+LineHolds (ranked number p q r gs ts old reply) = rank number p q r 0 gs ts old ≡ reply
+LineHolds (listedFormulae number p q r gs ts rows old reply) = formulaeOf number p q r gs ts rows old ≡ reply
 
 abbrev pub entriesOf : (ell found shown : ℕ) (buffer : List ℕ) → Answer Catalogued
 entriesOf ell found shown buffer = accepted (record { ell = ell; found = found; shown = shown; buffer = buffer })
 
 -- P: "poly 2,2: k = 3 finds one entry, extension `-`, basis `8 6 1`"
-abbrev pub three : Line
+abbrev pub three : WorkedLine
 three = catalogued 0 2 2 0 3 [] [] (0 ∷ 0 ∷ 0 ∷ 5 ∷ []) (entriesOf 3 1 1 (8 ∷ 6 ∷ 1 ∷ 5 ∷ []))
 
 -- P: "its only formula is 0 4 8 with rows 1, 7, 2"
-abbrev pub karatsuba : Line
+abbrev pub karatsuba : WorkedLine
 karatsuba = listedFormulae 0 2 2 0 [] [] (8 ∷ 6 ∷ 1 ∷ []) (5 ∷ 5 ∷ 5 ∷ 5 ∷ 5 ∷ 5 ∷ 5 ∷ []) (accepted (record { listed = 1; whole = true; buffer = 0 ∷ 4 ∷ 8 ∷ 1 ∷ 7 ∷ 2 ∷ 5 ∷ [] }))
 
 -- P: "poly 2,2: k = 4 finds one, extension 1; k = 5 finds none."
-abbrev pub four : Line
+abbrev pub four : WorkedLine
 four = catalogued 0 2 2 0 4 [] [] (0 ∷ 0 ∷ 0 ∷ 0 ∷ 0 ∷ []) (entriesOf 3 1 1 (1 ∷ 8 ∷ 4 ∷ 2 ∷ 1 ∷ []))
 
-abbrev pub five : Line
+abbrev pub five : WorkedLine
 five = catalogued 0 2 2 0 5 [] [] (0 ∷ []) (entriesOf 3 0 0 (0 ∷ []))
 
 -- P: "Check of poly 2,2, products (1,1), (2,2), (3,3): rows 1, 7, 2 right, 4 adders; rows 1, 3, 2 wrong at output 1."
-abbrev pub right : Line
+abbrev pub right : WorkedLine
 right = checked 0 2 2 0 3 (1 ∷ 2 ∷ 3 ∷ []) (1 ∷ 2 ∷ 3 ∷ []) (1 ∷ 7 ∷ 2 ∷ []) (accepted (none, 4))
 
-abbrev pub wrong : Line
-wrong = checked 0 2 2 0 3 (1 ∷ 2 ∷ 3 ∷ []) (1 ∷ 2 ∷ 3 ∷ []) (1 ∷ 3 ∷ 2 ∷ []) (accepted (some 1, 3))
+abbrev pub wrongRow : WorkedLine
+wrongRow = checked 0 2 2 0 3 (1 ∷ 2 ∷ 3 ∷ []) (1 ∷ 2 ∷ 3 ∷ []) (1 ∷ 3 ∷ 2 ∷ []) (accepted (some 1, 3))
 
 -- P: "list of 2 bits, menu 1, 2, 3, target 3: k = 1 finds one, basis `3`; k = 2 finds one, extension 0"
-abbrev pub listOne : Line
+abbrev pub listOne : WorkedLine
 listOne = catalogued 4 2 3 1 1 (1 ∷ 2 ∷ 3 ∷ []) (3 ∷ []) (0 ∷ []) (entriesOf 1 1 1 (3 ∷ []))
 
-abbrev pub listTwo : Line
+abbrev pub listTwo : WorkedLine
 listTwo = catalogued 4 2 3 1 2 (1 ∷ 2 ∷ 3 ∷ []) (3 ∷ []) (7 ∷ 7 ∷ 7 ∷ 7 ∷ []) (entriesOf 1 1 1 (0 ∷ 2 ∷ 1 ∷ 7 ∷ []))
 
 -- P: "with formulae 0 1, 0 2 and 1 2"
-abbrev pub listFormulae : Line
-listFormulae = listedFormulae 4 2 3 1 (1 ∷ 2 ∷ 3 ∷ []) (3 ∷ []) (2 ∷ 1 ∷ []) (7 ∷ 7 ∷ 7 ∷ 7 ∷ 7 ∷ 7 ∷ 7 ∷ 7 ∷ 7 ∷ []) (accepted (record { listed = 3; whole = true; buffer = 0 ∷ 1 ∷ 3 ∷ 0 ∷ 2 ∷ 2 ∷ 1 ∷ 2 ∷ 2 ∷ [] }))
+abbrev pub listFormulae : WorkedLine
+listFormulae =
+    listedFormulae 4 2 3 1 (1 ∷ 2 ∷ 3 ∷ []) (3 ∷ []) (2 ∷ 1 ∷ []) (7 ∷ 7 ∷ 7 ∷ 7 ∷ 7 ∷ 7 ∷ 7 ∷ 7 ∷ 7 ∷ [])
+    (accepted (record { listed = 3; whole = true; buffer = 0 ∷ 1 ∷ 3 ∷ 0 ∷ 2 ∷ 2 ∷ 1 ∷ 2 ∷ 2 ∷ [] }))
 
 -- P: "list of 2 bits, menu 1, target 2: Beyond. Target 0 instead: Rank 0."
-abbrev pub far : Line
+abbrev pub far : WorkedLine
 far = ranked 4 2 1 1 (1 ∷ []) (2 ∷ []) [] (accepted beyond)
 
-abbrev pub nothing : Line
+abbrev pub nothing : WorkedLine
 nothing = ranked 4 2 1 1 (1 ∷ []) (0 ∷ []) (7 ∷ []) (accepted (is 0 (0 ∷ [])))
 
 -- P: "poly 1,1 has Rank 1."
-abbrev pub one : Line
+abbrev pub one : WorkedLine
 one = ranked 0 1 1 0 [] [] (7 ∷ 7 ∷ 7 ∷ []) (accepted (is 1 (0 ∷ 1 ∷ 7 ∷ [])))
 
-abbrev pub table : List Line
-table = three ∷ karatsuba ∷ four ∷ five ∷ right ∷ wrong ∷ listOne ∷ listTwo ∷ listFormulae ∷ far ∷ nothing ∷ one ∷ []
+abbrev pub table : List WorkedLine
+table = three ∷ karatsuba ∷ four ∷ five ∷ right ∷ wrongRow ∷ listOne ∷ listTwo ∷ listFormulae ∷ far ∷ nothing ∷ one ∷ []
 
-holds-three : Holds three
-unfolding bit digitsOf top clear reduce norm place insert inserts basisOf dim risingLists anyOf only firstOfEach sameVec sameBasis inside generator chosen generatorsIn fits space entries kindNumbered within polySizes listSizes wide zeroIn formOf productForm pair targetForm generatorCount firstMask secondMask generatorForm listOf generatorForms countOf targetForms repeats listed mapped posed records flat fitting listing catalogue
-holds-three = refl
+-- The Catalogue's lines
+held-catalogues : LineHolds three × LineHolds four × LineHolds five × LineHolds listOne × LineHolds listTwo
+unfolding bit digitsOf top clear reduce norm place insert inserts basisOf dim risingLists anyOf only firstOfEach sameVec sameBasis inside generator
+    chosen generatorsIn fits space entries kindNumbered within polySizes listSizes wide zeroIn formOf productForm pair targetForm generatorCount
+    firstMask secondMask generatorForm listOf generatorForms countOf targetForms repeats listed mapped posed records flat fitting entryListing
+    catalogue
+held-catalogues = (refl, refl, refl, refl, refl)
 
-holds-four : Holds four
-unfolding bit digitsOf top clear reduce norm place insert inserts basisOf dim risingLists anyOf only firstOfEach sameVec sameBasis inside generator chosen generatorsIn fits space entries kindNumbered within polySizes listSizes wide zeroIn formOf productForm pair targetForm generatorCount firstMask secondMask generatorForm listOf generatorForms countOf targetForms repeats listed mapped posed records flat fitting listing catalogue
-holds-four = refl
+-- Check's lines
+held-checks : LineHolds right × LineHolds wrongRow
+unfolding bit kindNumbered within polySizes wide zeroIn formOf productForm weight pair targetForm productForms rowForm firstWrong addersOf lengths
+    judged check
+held-checks = (refl, refl)
 
-holds-five : Holds five
-unfolding bit digitsOf top clear reduce norm place insert inserts basisOf dim risingLists anyOf only firstOfEach sameVec sameBasis inside generator chosen generatorsIn fits space entries kindNumbered within polySizes listSizes wide zeroIn formOf productForm pair targetForm generatorCount firstMask secondMask generatorForm listOf generatorForms countOf targetForms repeats listed mapped posed records flat fitting listing catalogue
-holds-five = refl
+-- Rank's lines
+held-ranks : LineHolds far × LineHolds nothing × LineHolds one
+unfolding bit digitsOf top clear reduce norm place insert inserts basisOf dim risingLists anyOf only firstOfEach sameVec sameBasis inside generator
+    chosen generatorsIn fits space entries formulae leastFrom missed fewest kindNumbered within polySizes listSizes wide zeroIn formOf
+    productForm pair targetForm generatorCount firstMask secondMask generatorForm listOf generatorForms countOf targetForms repeats listed
+    mapped posed rowOf formulaRecord ranking rank
+held-ranks = (refl, refl, refl)
 
-holds-right : Holds right
-unfolding bit kindNumbered within polySizes wide zeroIn formOf productForm weight pair targetForm productForms rowForm firstWrong addersOf lengths judged check
-holds-right = refl
+-- The lines of formulae
+held-formulae : LineHolds karatsuba × LineHolds listFormulae
+unfolding bit digitsOf top clear reduce norm place insert inserts basisOf dim risingLists anyOf only sameVec sameBasis inside generator chosen
+    generatorsIn fits formulae kindNumbered within polySizes listSizes wide zeroIn formOf productForm pair targetForm generatorCount firstMask
+    secondMask generatorForm listOf generatorForms countOf targetForms repeats listed mapped posed rowOf formulaRecord flat fitting isEntry
+    space.formulaeListing formulaeOf
+held-formulae = (refl, refl)
 
-holds-wrong : Holds wrong
-unfolding bit kindNumbered within polySizes wide zeroIn formOf productForm weight pair targetForm productForms rowForm firstWrong addersOf lengths judged check
-holds-wrong = refl
-
-holds-listOne : Holds listOne
-unfolding bit digitsOf top clear reduce norm place insert inserts basisOf dim risingLists anyOf only firstOfEach sameVec sameBasis inside generator chosen generatorsIn fits space entries kindNumbered within polySizes listSizes wide zeroIn formOf productForm pair targetForm generatorCount firstMask secondMask generatorForm listOf generatorForms countOf targetForms repeats listed mapped posed records flat fitting listing catalogue
-holds-listOne = refl
-
-holds-listTwo : Holds listTwo
-unfolding bit digitsOf top clear reduce norm place insert inserts basisOf dim risingLists anyOf only firstOfEach sameVec sameBasis inside generator chosen generatorsIn fits space entries kindNumbered within polySizes listSizes wide zeroIn formOf productForm pair targetForm generatorCount firstMask secondMask generatorForm listOf generatorForms countOf targetForms repeats listed mapped posed records flat fitting listing catalogue
-holds-listTwo = refl
-
-holds-far : Holds far
-unfolding bit digitsOf top clear reduce norm place insert inserts basisOf dim risingLists anyOf only firstOfEach sameVec sameBasis inside generator chosen generatorsIn fits space entries formulae leastFrom missed fewest kindNumbered within polySizes listSizes wide zeroIn formOf productForm pair targetForm generatorCount firstMask secondMask generatorForm listOf generatorForms countOf targetForms repeats listed mapped posed rowOf formulaRecord ranking rank
-holds-far = refl
-
-holds-nothing : Holds nothing
-unfolding bit digitsOf top clear reduce norm place insert inserts basisOf dim risingLists anyOf only firstOfEach sameVec sameBasis inside generator chosen generatorsIn fits space entries formulae leastFrom missed fewest kindNumbered within polySizes listSizes wide zeroIn formOf productForm pair targetForm generatorCount firstMask secondMask generatorForm listOf generatorForms countOf targetForms repeats listed mapped posed rowOf formulaRecord ranking rank
-holds-nothing = refl
-
-holds-one : Holds one
-unfolding bit digitsOf top clear reduce norm place insert inserts basisOf dim risingLists anyOf only firstOfEach sameVec sameBasis inside generator chosen generatorsIn fits space entries formulae leastFrom missed fewest kindNumbered within polySizes listSizes wide zeroIn formOf productForm pair targetForm generatorCount firstMask secondMask generatorForm listOf generatorForms countOf targetForms repeats listed mapped posed rowOf formulaRecord ranking rank
-holds-one = refl
-
-holds-karatsuba : Holds karatsuba
-unfolding bit digitsOf top clear reduce norm place insert inserts basisOf dim risingLists anyOf only sameVec sameBasis inside generator chosen generatorsIn fits formulae kindNumbered within polySizes listSizes wide zeroIn formOf productForm pair targetForm generatorCount firstMask secondMask generatorForm listOf generatorForms countOf targetForms repeats listed mapped posed rowOf formulaRecord flat fitting isEntry space.listing formulaeOf
-holds-karatsuba = refl
-
-holds-listFormulae : Holds listFormulae
-unfolding bit digitsOf top clear reduce norm place insert inserts basisOf dim risingLists anyOf only sameVec sameBasis inside generator chosen generatorsIn fits formulae kindNumbered within polySizes listSizes wide zeroIn formOf productForm pair targetForm generatorCount firstMask secondMask generatorForm listOf generatorForms countOf targetForms repeats listed mapped posed rowOf formulaRecord flat fitting isEntry space.listing formulaeOf
-holds-listFormulae = refl
-
-pub worked : (l : Line) → List·Memᴰ l table → Holds l
-worked = mem-cons {P = Holds} holds-three (mem-cons {P = Holds} holds-karatsuba (mem-cons {P = Holds} holds-four (mem-cons {P = Holds} holds-five (mem-cons {P = Holds} holds-right (mem-cons {P = Holds} holds-wrong (mem-cons {P = Holds} holds-listOne (mem-cons {P = Holds} holds-listTwo (mem-cons {P = Holds} holds-listFormulae (mem-cons {P = Holds} holds-far (mem-cons {P = Holds} holds-nothing (mem-cons {P = Holds} holds-one (λ l m. absurd (List·Memᴰ·not-nil m)))))))))))))
+pub worked : (l : WorkedLine) → List·Memᴰ l table → LineHolds l
+worked =
+    mem-cons {P = LineHolds} (held-catalogues .0)
+    (mem-cons {P = LineHolds} (held-formulae .0)
+    (mem-cons {P = LineHolds} (held-catalogues .1)
+    (mem-cons {P = LineHolds} (held-catalogues .2)
+    (mem-cons {P = LineHolds} (held-checks .0)
+    (mem-cons {P = LineHolds} (held-checks .1)
+    (mem-cons {P = LineHolds} (held-catalogues .3)
+    (mem-cons {P = LineHolds} (held-catalogues .4)
+    (mem-cons {P = LineHolds} (held-formulae .1)
+    (mem-cons {P = LineHolds} (held-ranks .0)
+    (mem-cons {P = LineHolds} (held-ranks .1)
+    (mem-cons {P = LineHolds} (held-ranks .2) (λ l m. absurd (List·Memᴰ·not-nil m)))))))))))))

@@ -128,38 +128,8 @@ returns-3 c =
 pub enter-spec : {M : Type 1} → statement M
 enter-spec =
     tie.close
-    (tie.spec
-    (λ c. search needs)
-    (λ c. search needs)
-    seek-requires
-    (λ c. search needs)
-    (λ c. search needs)
-    (λ c. search needs)
-    returns
-    (λ c. search needs)
-    (λ c. search needs)
-    cast-f
-    (λ c. search needs)
-    (λ c. search needs)
-    (λ c. search needs)
-    (λ c. search needs)
-    (λ c. search needs)
-    (λ c. search needs)
-    (λ c. search needs)
-    returns-2
-    (λ c. search needs)
-    (λ c. search needs)
-    (λ c. search needs)
-    mul-grow-2
-    shared-slice-read-grow-2
-    slice-read-grow
-    cast-grow
-    sub-grow
-    grow-requires
-    (λ c. search needs)
-    (λ c. search needs)
-    slice-write-w-3
-    (λ c. search needs)
-    (λ c. search needs)
-    (λ c. search needs)
-    returns-3)
+    (tie.spec (λ c. search needs) (λ c. search needs) seek-requires (λ c. search needs) (λ c. search needs) (λ c. search needs) returns
+    (λ c. search needs) (λ c. search needs) cast-f (λ c. search needs) (λ c. search needs) (λ c. search needs) (λ c. search needs)
+    (λ c. search needs) (λ c. search needs) (λ c. search needs) returns-2 (λ c. search needs) (λ c. search needs) (λ c. search needs) mul-grow-2
+    shared-slice-read-grow-2 slice-read-grow cast-grow sub-grow grow-requires (λ c. search needs) (λ c. search needs) slice-write-w-3
+    (λ c. search needs) (λ c. search needs) (λ c. search needs) returns-3)

@@ -56,21 +56,5 @@ returns-3 c =
 pub seek-spec : {M : Type 1} → statement M
 seek-spec =
     tie.close
-    (tie.spec
-    Inv-loop
-    μ-loop
-    (λ c κs. search needs)
-    loop-holds
-    (λ c. omega arith)
-    (λ c. omega arith)
-    cast-f
-    returns
-    (λ c. omega arith)
-    mul-if2
-    shared-slice-read-if2
-    returns-2
-    (λ c. omega arith)
-    (λ c. omega arith)
-    (λ c. omega arith)
-    loop-again
-    returns-3)
+    (tie.spec Inv-loop μ-loop (λ c κs. search needs) loop-holds (λ c. omega arith) (λ c. omega arith) cast-f returns (λ c. omega arith) mul-if2
+    shared-slice-read-if2 returns-2 (λ c. omega arith) (λ c. omega arith) (λ c. omega arith) loop-again returns-3)

@@ -45,14 +45,5 @@ returns-3 c =
 pub weight-of-spec : {M : Type 1} → statement M
 weight-of-spec =
     tie.close
-    (tie.spec
-    (λ c κs. search needs)
-    returns
-    (λ c. search needs)
-    (λ c. search needs)
-    cast-f
-    returns-2
-    (λ c. search needs)
-    shared-slice-read-result
-    cast-result
-    returns-3)
+    (tie.spec (λ c κs. search needs) returns (λ c. search needs) (λ c. search needs) cast-f returns-2 (λ c. search needs) shared-slice-read-result
+    cast-result returns-3)

@@ -13,17 +13,18 @@ use lib.Seq.{getD-drop}
 use Rattle.linear.specs.Basis.{inserts, basisOf, Reduced}
 use Rattle.linear.specs.Share.{over}
 use Rattle.linear.specs.Span.{Span}
-use Rattle.linear.specs.Word.{word}
+use Rattle.linear.specs.Word.{word, Below}
 use Rattle.linear.specs.laws.Dimension.{sub-length, inserts-le}
 use Rattle.linear.specs.laws.Insert.{inserts-reduced, inserts-span, basisOf-reduced}
 use Rattle.linear.specs.laws.Span.{span-bind, span-mem}
-use Rattle.linear.specs.laws.Word.{Below, at-most, inserts-below, basisOf-below}
+use Rattle.linear.specs.laws.Word.{at-most, inserts-below, basisOf-below}
 use Rattle.residues.specs.children.Residues.{withResidue}
 use Rattle.residues.specs.children.Weighed.{rankOf, Shared, Owner, Weighed}
 use Rattle.residues.specs.children.laws.Handed.{residue-mem}
 use Rattle.weights.specs.Table.{slotOf, weightOf}
-use Rattle.weights.specs.Enter.{valueRows, Sound, From, Place}
+use Rattle.weights.specs.Enter.{valueRows, TableSound, From, ValuePlace}
 use Rattle.weights.specs.laws.Seek.{either, slot-below, slot-owner, weight-none, weight-number}
+use Rattle.weights.specs.slots.Bucket.{slotCount}
 
 -- ---- rows bound a rank
 over-le : (S R part : List ℕ) → Reduced word S → ((x : ℕ) → List·Memᴰ x part → Span word (R ++ S) x) → over word S part ≤ length R
@@ -51,13 +52,13 @@ rows-count gens (suc m) f rows = omega (arith, length-take m (drop (f * 8) rows)
 
 -- ---- the generators with a residue
 -- ---- a full table
-module _ (gens d : List ℕ) (start : ℕ) (dead slots rows w : List ℕ) (alike : length gens ≡ length d) (size : length slots ≡ 16384)
-    (T : Sound (length d) slots w) (F : From start slots) (fits : (n : ℕ) → getD gens n 0 < 2 ^ 64) where
+module _ (gens d : List ℕ) (start : ℕ) (dead slots rows w : List ℕ) (alike : length gens ≡ length d) (size : length slots ≡ slotCount)
+    (T : TableSound (length d) slots w) (F : From start slots) (fits : (n : ℕ) → getD gens n 0 < 2 ^ 64) where
   abbrev S : List ℕ
   S = basisOf word (withResidue 0 gens d)
 
   abbrev Placed : Type 0
-  Placed = (n : ℕ) → start ≤ n → n < length d → getD d n 0 ≢ 0 → getD dead n 0 ≡ 0 → Place gens d S slots rows w n
+  Placed = (n : ℕ) → start ≤ n → n < length d → getD d n 0 ≢ 0 → getD dead n 0 ≡ 0 → ValuePlace gens d S slots rows w n
 
   zero-words : (x : ℕ) → List·Memᴰ x (withResidue 0 gens d) → x < 2 ^ 64
   zero-words x m = let p = residue-mem 0 gens d x m in subst (λ (y : ℕ). y < 2 ^ 64) (sym (p .4)) (fits (p .0))
@@ -72,7 +73,7 @@ module _ (gens d : List ℕ) (start : ℕ) (dead slots rows w : List ℕ) (alike
   full-owner : Placed → (n : ℕ) → start ≤ n → n < length d → getD d n 0 ≢ 0 → getD dead n 0 ≡ 0 → Owner d start w (weightOf slots d w) n
   full-owner P n a l ne z = go (P n a l ne z)
     where
-      go : Place gens d S slots rows w n → Owner d start w (weightOf slots d w) n
+      go : ValuePlace gens d S slots rows w n → Owner d start w (weightOf slots d w) n
       go (inl p) =
           let e : weightOf slots d w (getD d n 0) ≡ 200 = weight-none slots d w (getD d n 0) (slotOf slots d (getD d n 0)) refl (p .0) in
           let g : getD w n 0 ≡ 200 = p .1 in
@@ -107,7 +108,7 @@ module _ (gens d : List ℕ) (start : ℕ) (dead slots rows w : List ℕ) (alike
     living n e = either 0 (getD dead n 0) (λ z. z) (λ k. absurd (alive (record { number = n; dies = k; value = e })))
 
     -- and its place
-    placed : (x : ℕ) → List·Memᴰ x part → (n : ℕ) × (getD d n 0 ≡ v) × (x ≡ getD gens n 0) × Place gens d S slots rows w n
+    placed : (x : ℕ) → List·Memᴰ x part → (n : ℕ) × (getD d n 0 ≡ v) × (x ≡ getD gens n 0) × ValuePlace gens d S slots rows w n
     placed x m = let p = from x m in (p .0, p .3, p .4, P (p .0) (p .1) (p .2) (λ z. ne (sym (p .3) ∙ z)) (living (p .0) (p .3)))
 
     in-words : (x : ℕ) → List·Memᴰ x part → x < 2 ^ 64
@@ -117,7 +118,7 @@ module _ (gens d : List ℕ) (start : ℕ) (dead slots rows w : List ℕ) (alike
     few = over-words S part (basisOf-reduced word (withResidue 0 gens d)) (basisOf-below 64 (withResidue 0 gens d) zero-words) in-words
 
     -- rows that span what has a slot in use, and nothing else
-    spanned : (R : List ℕ) → slot ≢ 16384
+    spanned : (R : List ℕ) → slot ≢ slotCount
         → ((n f : ℕ) → getD slots slot 0 ≡ suc f → (getD w f 0 ≤ 9 → Span word (valueRows gens (getD w f 0) f rows ++ S) (getD gens n 0))
         → Span word (R ++ S) (getD gens n 0))
         → over word S part ≤ length R
@@ -126,7 +127,7 @@ module _ (gens d : List ℕ) (start : ℕ) (dead slots rows w : List ℕ) (alike
         each : (x : ℕ) → List·Memᴰ x part → Span word (R ++ S) x
         each x m = let p = placed x m in subst (Span word (R ++ S)) (sym (p .2)) (go (p .0) (p .1) (p .3))
           where
-            go : (n : ℕ) → getD d n 0 ≡ v → Place gens d S slots rows w n → Span word (R ++ S) (getD gens n 0)
+            go : (n : ℕ) → getD d n 0 ≡ v → ValuePlace gens d S slots rows w n → Span word (R ++ S) (getD gens n 0)
             go n e (inl z) = absurd (k (ap (slotOf slots d) (sym e) ∙ z .0))
             go n e (inr H) = f n (H .at) (ap (λ (y : ℕ). getD slots (slotOf slots d y) 0) (sym e) ∙ H .slot) (H .spans)
 
@@ -140,7 +141,7 @@ module _ (gens d : List ℕ) (start : ℕ) (dead slots rows w : List ℕ) (alike
         (s (subst (λ (y : ℕ). getD w y 0 ≤ 9) (sym p) (omega arith)))) in
         omega (arith, rows-count gens (getD w f 0) f rows)
 
-    by-slot : slot ≢ 16384 → (y : ℕ) → getD slots slot 0 ≡ y → over word S part ≤ weightOf slots d w v
+    by-slot : slot ≢ slotCount → (y : ℕ) → getD slots slot 0 ≡ y → over word S part ≤ weightOf slots d w v
     by-slot k zero e =
         let a : over word S part ≤ length {A = ℕ} [] = spanned [] k (λ n f h s. absurd (omega arith)) in
         omega arith
@@ -148,7 +149,7 @@ module _ (gens d : List ℕ) (start : ℕ) (dead slots rows w : List ℕ) (alike
 
     full-above : rankOf gens d start v ≤ weightOf slots d w v
     full-above =
-        either 16384 slot (λ e. let p : weightOf slots d w v ≡ 200 = weight-none slots d w v slot refl e in omega (arith, few))
+        either slotCount slot (λ e. let p : weightOf slots d w v ≡ 200 = weight-none slots d w v slot refl e in omega (arith, few))
         (λ k. by-slot k (getD slots slot 0) refl)
 
   pub full-weighed : Placed → Weighed gens d start dead w (weightOf slots d w)

@@ -16,10 +16,12 @@ use lib.Seq.{getD-set-same, getD-set-other}
 use Rattle.linear.specs.Span.{Span}
 use Rattle.linear.specs.Word.{word}
 use Rattle.linear.specs.laws.Span.{cast, span-weak, span-head, span-cons, span-uncons, span-rest}
-use Rattle.weights.specs.rank_rows.Stretch.{stretch, Growing, Grown}
+use Rattle.weights.specs.rank_rows.Stretch.{stretch, StretchGrowing, StretchGrown}
 use Rattle.weights.specs.Table.{slotOf, Slots}
-use Rattle.weights.specs.Enter.{valueRows, Sound, Place, Entering, Entered}
+use Rattle.weights.specs.Enter.{valueRows, TableSound, ValuePlace, Entering, Entered}
 use Rattle.weights.specs.laws.Seek.{either, slot-below, slot-owner, apart, slot-kept, slot-own}
+use Rattle.residues.specs.Room.{searchRoom}
+use Rattle.weights.specs.slots.Bucket.{slotCount}
 
 set-at : (P : ℕ → Type 0) (l : List ℕ) (b x c : ℕ) → b < length l → (c ≡ b → P x) → (c ≢ b → P (getD l c 0)) → P (getD (set l b x) c 0)
 set-at P l b x c k f g =
@@ -37,7 +39,7 @@ valued-set d w b x l ne f n =
 used : (x f : ℕ) → x ≡ suc f → x ≢ 0
 used x f e z = omega arith
 
-pub sound-slots : (d : List ℕ) (i : ℕ) (slots w : List ℕ) → length slots ≡ 16384 → i ≤ length d → Sound i slots w → Slots slots d
+pub sound-slots : (d : List ℕ) (i : ℕ) (slots w : List ℕ) → length slots ≡ slotCount → i ≤ length d → TableSound i slots w → Slots slots d
 sound-slots d i slots w z l T = record { size = z; number = λ q. at q (getD slots q 0) refl }
   where
     at : (q x : ℕ) → getD slots q 0 ≡ x → x ≤ length d
@@ -54,7 +56,7 @@ module _ (gens d S : List ℕ) (i : ℕ) (slots rows w : List ℕ) (E : Entering
   pub enter-some : (q : ℕ) → getD slots q 0 ≢ 0 → getD w (getD slots q 0 - 1) 0 ≢ 0
   enter-some q n = E .sound .some q (getD slots q 0 - 1) (omega arith)
 
-  pub enter-grow : (q : ℕ) → getD slots q 0 ≢ 0 → Growing (getD w (getD slots q 0 - 1) 0 - 1) (getD slots q 0 - 1) rows
+  pub enter-grow : (q : ℕ) → getD slots q 0 ≢ 0 → StretchGrowing (getD w (getD slots q 0 - 1) 0 - 1) (getD slots q 0 - 1) rows
   enter-grow q n =
       let g = getD slots q 0 - 1 in
       record {
@@ -65,13 +67,13 @@ module _ (gens d S : List ℕ) (i : ℕ) (slots rows w : List ℕ) (E : Entering
       }
 
   -- a weight is written
-  module _ (k x : ℕ) (within : k < 4096) (low : x ≤ 200) (gap : 9 < x → 64 ≤ x) where
+  module _ (k x : ℕ) (within : k < searchRoom) (low : x ≤ 200) (gap : 9 < x → 64 ≤ x) where
     inside-w : k < length w
     inside-w = omega (arith, E .sizes .all)
 
     next-sound : (slots′ : List ℕ) → x ≢ 0 → ((q f : ℕ) → getD slots′ q 0 ≡ suc f → f < i + 1)
         → ((q f : ℕ) → getD slots′ q 0 ≡ suc f → f ≢ k → getD w f 0 ≢ 0)
-        → Sound (i + 1) slots′ (set w k x)
+        → TableSound (i + 1) slots′ (set w k x)
     next-sound slots′ ne first some =
         record {
           first = first;
@@ -80,16 +82,16 @@ module _ (gens d S : List ℕ) (i : ℕ) (slots rows w : List ℕ) (E : Entering
           gap = λ n. set-at (λ (y : ℕ). 9 < y → 64 ≤ y) w k x n inside-w (λ e. gap) (λ m. E .sound .gap n);
         }
 
-    old-sound : x ≢ 0 → Sound (i + 1) slots (set w k x)
+    old-sound : x ≢ 0 → TableSound (i + 1) slots (set w k x)
     old-sound ne = next-sound slots ne (λ q f e. omega (arith, E .sound .first q f e)) (λ q f e m. E .sound .some q f e)
 
     -- a number keeps its place where neither its weight nor its owner's is written
     module _ (slots′ rows′ : List ℕ) (n : ℕ) where
-      keep-none : n ≢ k → slotOf slots′ d (getD d n 0) ≡ 16384 → getD w n 0 ≡ 200 → Place gens d S slots′ rows′ (set w k x) n
+      keep-none : n ≢ k → slotOf slots′ d (getD d n 0) ≡ slotCount → getD w n 0 ≡ 200 → ValuePlace gens d S slots′ rows′ (set w k x) n
       keep-none ne e z = inl (e, getD-set-other w k n x 0 ne ∙ z)
 
       keep-held : (f : ℕ) → f ≢ k → getD slots′ (slotOf slots′ d (getD d n 0)) 0 ≡ suc f
-          → (getD w f 0 ≤ 9 → Span word (valueRows gens (getD w f 0) f rows′ ++ S) (getD gens n 0)) → Place gens d S slots′ rows′ (set w k x) n
+          → (getD w f 0 ≤ 9 → Span word (valueRows gens (getD w f 0) f rows′ ++ S) (getD gens n 0)) → ValuePlace gens d S slots′ rows′ (set w k x) n
       keep-held f ne e s =
           inr
           (record {
@@ -99,7 +101,7 @@ module _ (gens d S : List ℕ) (i : ℕ) (slots rows w : List ℕ) (E : Entering
           })
 
       held-here : (f : ℕ) → f ≡ k → getD slots′ (slotOf slots′ d (getD d n 0)) 0 ≡ suc f
-          → (x ≤ 9 → Span word (valueRows gens x f rows′ ++ S) (getD gens n 0)) → Place gens d S slots′ rows′ (set w k x) n
+          → (x ≤ 9 → Span word (valueRows gens x f rows′ ++ S) (getD gens n 0)) → ValuePlace gens d S slots′ rows′ (set w k x) n
       held-here f p e s =
           inr
           (record {
@@ -109,13 +111,13 @@ module _ (gens d S : List ℕ) (i : ℕ) (slots rows w : List ℕ) (E : Entering
                 (sym (ap (λ (j : ℕ). getD (set w k x) j 0) p ∙ getD-set-same w k x 0 inside-w)) s;
           })
 
-  in-w : i < 4096
+  in-w : i < searchRoom
   in-w = omega (arith, E .inside, E .sizes .few)
 
   in-all : i < length w
   in-all = omega (arith, E .inside, E .sizes .few, E .sizes .all)
 
-  pub entered-none : slotOf slots d (getD d i 0) ≡ 16384 → Entered gens d S i slots rows w slots rows (set w i 200) 200
+  pub entered-none : slotOf slots d (getD d i 0) ≡ slotCount → Entered gens d S i slots rows w slots rows (set w i 200) 200
   entered-none z =
       record {
         low = omega arith;
@@ -127,13 +129,13 @@ module _ (gens d S : List ℕ) (i : ℕ) (slots rows w : List ℕ) (E : Entering
         valued = valued-set d w i 200 in-all;
       }
     where
-      before : (n : ℕ) → n < i → Place gens d S slots rows w n → Place gens d S slots rows (set w i 200) n
+      before : (n : ℕ) → n < i → ValuePlace gens d S slots rows w n → ValuePlace gens d S slots rows (set w i 200) n
       before n l (inl p) = keep-none i 200 in-w (omega arith) (λ g. omega arith) slots rows n (λ e. omega arith) (p .0) (p .1)
       before n l (inr H) =
           keep-held i 200 in-w (omega arith) (λ g. omega arith) slots rows n (H .at)
           (λ e. omega (arith, E .sound .first (slotOf slots d (getD d n 0)) (H .at) (H .slot))) (H .slot) (H .spans)
 
-  pub entered-first : (q : ℕ) → q ≡ slotOf slots d (getD d i 0) → q ≤ 16384 → q ≢ 16384 → getD slots q 0 ≡ 0
+  pub entered-first : (q : ℕ) → q ≡ slotOf slots d (getD d i 0) → q ≤ slotCount → q ≢ slotCount → getD slots q 0 ≡ 0
       → Entered gens d S i slots rows w (set slots q (i + 1)) rows (set w i 1) 1
   entered-first q e l ne z =
       record {
@@ -164,11 +166,11 @@ module _ (gens d S : List ℕ) (i : ℕ) (slots rows w : List ℕ) (E : Entering
           (slot-own slots q (i + 1) z d (getD d i 0) within (omega arith) (ap (λ (k : ℕ). getD d k 0) (let k : i + 1 - 1 ≡ i = omega arith in k)) (sym e))
           ∙ getD-set-same slots q (i + 1) 0 within ∙ (let k : i + 1 ≡ suc i = omega arith in k)
 
-      before : (n : ℕ) → n < i → Place gens d S slots rows w n → Place gens d S (set slots q (i + 1)) rows (set w i 1) n
+      before : (n : ℕ) → n < i → ValuePlace gens d S slots rows w n → ValuePlace gens d S (set slots q (i + 1)) rows (set w i 1) n
       before n a (inl p) =
           let v = getD d n 0 in
           keep-none i 1 in-w (omega arith) (λ g. absurd (omega arith)) (set slots q (i + 1)) rows n (λ g. omega arith)
-          (slot-kept slots q (i + 1) z d v (λ b. absurd (let y : slotOf slots d v ≡ 16384 = p .0 in omega arith)) ∙ p .0) (p .1)
+          (slot-kept slots q (i + 1) z d v (λ b. absurd (let y : slotOf slots d v ≡ slotCount = p .0 in omega arith)) ∙ p .0) (p .1)
       before n a (inr H) =
           let v = getD d n 0 in
           let u : getD slots (slotOf slots d v) 0 ≢ 0 = used (getD slots (slotOf slots d v) 0) (H .at) (H .slot) in
@@ -178,7 +180,7 @@ module _ (gens d S : List ℕ) (i : ℕ) (slots rows w : List ℕ) (E : Entering
           (H .spans)
 
   pub entered-more : (q g m : ℕ) → q ≡ slotOf slots d (getD d i 0) → getD slots q 0 ≡ suc g → getD w g 0 ≡ suc m → (rows′ : List ℕ) (r : ℕ)
-      → Grown S (bitXor (getD gens i 0) (getD gens g 0)) m g rows rows′ r → (x : ℕ) → x ≡ suc r
+      → StretchGrown S (bitXor (getD gens i 0) (getD gens g 0)) m g rows rows′ r → (x : ℕ) → x ≡ suc r
       → Entered gens d S i slots rows w slots rows′ (set w g x) x
   entered-more q g m e o u rows′ r G x xe =
       record {
@@ -194,7 +196,7 @@ module _ (gens d S : List ℕ) (i : ℕ) (slots rows w : List ℕ) (E : Entering
       early : g < i
       early = E .sound .first q g o
 
-      small : g < 4096
+      small : g < searchRoom
       small = omega (arith, early, in-w)
 
       low : x ≤ 200
@@ -227,7 +229,7 @@ module _ (gens d S : List ℕ) (i : ℕ) (slots rows w : List ℕ) (E : Entering
       own : getD d g 0 ≡ getD d i 0
       own = slot-owner slots d (getD d i 0) (E .sizes .slots-all) g (ap (λ (y : ℕ). getD slots y 0) (sym e) ∙ o)
 
-      before : (n : ℕ) → n < i → Place gens d S slots rows w n → Place gens d S slots rows′ (set w g x) n
+      before : (n : ℕ) → n < i → ValuePlace gens d S slots rows w n → ValuePlace gens d S slots rows′ (set w g x) n
       before n l (inl p) = keep-none g x small low gap slots rows′ n other (p .0) (p .1)
         where
           -- the owner has a slot

@@ -14,30 +14,32 @@ use Rattle.linear.specs.Basis.{basisOf}
 use Rattle.linear.specs.Word.{word}
 use Rattle.residues.specs.children.Residues.{withResidue}
 use Rattle.residues.specs.children.laws.Blank.{zero-at, zero-length}
-use Rattle.weights.specs.Table.{Blank, Filled}
-use Rattle.weights.specs.Enter.{Sizes, Sound, From, Place, Entering, Entered}
+use Rattle.weights.specs.Table.{Blank, TableFilled}
+use Rattle.weights.specs.Enter.{Sizes, TableSound, From, ValuePlace, Entering, Entered}
 use Rattle.weights.specs.laws.Seek.{either}
 use Rattle.weights.specs.laws.Enter.{sound-slots}
 use Rattle.weights.specs.laws.Bound.{full-weighed}
+use Rattle.residues.specs.Room.{searchRoom}
+use Rattle.weights.specs.slots.Bucket.{slotCount}
 
 pub record Filling (gens d : List ℕ) (start : ℕ) (dead S : List ℕ) (i : ℕ) (slots rows w : List ℕ) (top : ℕ) : Type 0 where
   pub begin : start ≤ i
   pub to : i ≤ length d
   pub sizes : Sizes gens d slots rows w
-  pub sound : Sound i slots w
+  pub sound : TableSound i slots w
   pub from : From start slots
-  pub placed : (n : ℕ) → start ≤ n → n < i → getD d n 0 ≢ 0 → getD dead n 0 ≡ 0 → Place gens d S slots rows w n
+  pub placed : (n : ℕ) → start ≤ n → n < i → getD d n 0 ≢ 0 → getD dead n 0 ≡ 0 → ValuePlace gens d S slots rows w n
   pub low : top ≤ 200
   pub most : (n : ℕ) → getD w n 0 ≤ top
   pub valued : (n : ℕ) → getD w n 0 ≢ 0 → getD d n 0 ≢ 0
 
 module _ (gens d : List ℕ) (start : ℕ) (dead S : List ℕ) where
   module _ (slots rows w : List ℕ) (B : Blank gens d start dead S slots rows w) where
-    pub blank-slots : length slots ≡ 16384
-    blank-slots = zero-length 16384 slots (B .blank)
+    pub blank-slots : length slots ≡ slotCount
+    blank-slots = zero-length slotCount slots (B .blank)
 
-    pub blank-all : length w ≡ 4096
-    blank-all = zero-length 4096 w (B .none)
+    pub blank-all : length w ≡ searchRoom
+    blank-all = zero-length searchRoom w (B .none)
 
   pub filling-start : (slots rows w : List ℕ) → Blank gens d start dead S slots rows w → Filling gens d start dead S start slots rows w 0
   filling-start slots rows w B =
@@ -67,10 +69,10 @@ module _ (gens d : List ℕ) (start : ℕ) (dead S : List ℕ) where
       }
     where
       free : (q : ℕ) → getD slots q 0 ≡ 0
-      free q = zero-at 16384 slots (B .blank) q
+      free q = zero-at slotCount slots (B .blank) q
 
       none : (n : ℕ) → getD w n 0 ≡ 0
-      none n = zero-at 4096 w (B .none) n
+      none n = zero-at searchRoom w (B .none) n
 
   module _ (i : ℕ) (slots rows w : List ℕ) (top : ℕ) (F : Filling gens d start dead S i slots rows w top) where
     pub filling-entering : i < length d → Entering gens d i slots rows w
@@ -116,23 +118,23 @@ module _ (gens d : List ℕ) (start : ℕ) (dead S : List ℕ) where
           sound = E .sound;
           from = E .from start (F .begin) (F .from);
           placed = λ n s k ne z. either i n
-              (λ e. subst (Place gens d S slots′ rows′ w′) (sym e) (E .here))
+              (λ e. subst (ValuePlace gens d S slots′ rows′ w′) (sym e) (E .here))
               (λ m. let j : n < i = omega arith in E .before n j (F .placed n s j ne z));
           low = ⊎-elim (λ e. omega (arith, F .low)) (λ e. omega (arith, E .low)) v;
           most = E .most top′ u (λ n. let y : getD w n 0 ≤ top = F .most n in omega arith);
           valued = E .valued ne₀ (F .valued);
         }
 
-    pub filling-end : length d ≤ i → S ≡ basisOf word (withResidue 0 gens d) → ((n : ℕ) → getD gens n 0 < 2 ^ 64) → Filled gens d start dead slots w top
+    pub filling-end : length d ≤ i → S ≡ basisOf word (withResidue 0 gens d) → ((n : ℕ) → getD gens n 0 < 2 ^ 64) → TableFilled gens d start dead slots w top
     filling-end l e fits =
         record {
           weighed = full-weighed gens d start dead slots rows w (F .sizes .alike) (F .sizes .slots-all) full (F .from) fits
-              (λ n a b ne z. subst (λ (B : List ℕ). Place gens d B slots rows w n) e (F .placed n a (omega arith) ne z));
+              (λ n a b ne z. subst (λ (B : List ℕ). ValuePlace gens d B slots rows w n) e (F .placed n a (omega arith) ne z));
           slots = sound-slots d i slots w (F .sizes .slots-all) (F .to) (F .sound);
           most = F .most;
           low = F .low;
           valued = F .valued;
         }
       where
-        full : Sound (length d) slots w
-        full = subst (λ (n : ℕ). Sound n slots w) (let q : i ≡ length d = omega (arith, F .to) in q) (F .sound)
+        full : TableSound (length d) slots w
+        full = subst (λ (n : ℕ). TableSound n slots w) (let q : i ≡ length d = omega (arith, F .to) in q) (F .sound)

@@ -19,7 +19,7 @@ use lib.ListN.{length, getD, set, List·getD-eq-default}
 use lib.Seq.{getD-set-same, getD-set-other}
 use borrow.Author.Tests.{eq-eqb, ne-eqb}
 use Rattle.linear.specs.Word.{isZero}
-use Rattle.weights.specs.slots.Bucket.{bucketOf}
+use Rattle.weights.specs.slots.Bucket.{bucketOf, slotCount}
 use Rattle.weights.specs.Table.{slotFrom, slotOf, weightAt, weightOf}
 
 -- an index is the one that was set, or another
@@ -46,7 +46,7 @@ more-test : (x : ℕ) (t : Bool) → x ≢ 0 → t ≡ false → isZero x || t �
 more-test zero t n e = absurd (n refl)
 more-test (suc x) t n e = e
 
-bucket-below : (v : ℕ) → bucketOf v < 16384
+bucket-below : (v : ℕ) → bucketOf v < slotCount
 unfolding bucketOf
 bucket-below v = omega arith
 
@@ -55,22 +55,22 @@ module _ (slots d : List ℕ) (v : ℕ) where
   step-free : (t q : ℕ) → getD slots q 0 ≡ 0 → slotFrom (suc t) q slots d v ≡ q
   unfolding slotFrom
   step-free t q e =
-      ap (λ (b : Bool). cond b q (slotFrom t ((q + 1) % 16384) slots d v)) (free-test (getD slots q 0) (eqb (getD d (getD slots q 0 - 1) 0) v) e)
+      ap (λ (b : Bool). cond b q (slotFrom t ((q + 1) % slotCount) slots d v)) (free-test (getD slots q 0) (eqb (getD d (getD slots q 0 - 1) 0) v) e)
 
   step-found : (t q : ℕ) → getD d (getD slots q 0 - 1) 0 ≡ v → slotFrom (suc t) q slots d v ≡ q
   unfolding slotFrom
   step-found t q e =
-      ap (λ (b : Bool). cond b q (slotFrom t ((q + 1) % 16384) slots d v))
+      ap (λ (b : Bool). cond b q (slotFrom t ((q + 1) % slotCount) slots d v))
       (found-test (getD slots q 0) (eqb (getD d (getD slots q 0 - 1) 0) v) (eq-eqb (getD d (getD slots q 0 - 1) 0) v e))
 
   step-more : (t q : ℕ) → getD slots q 0 ≢ 0 → getD d (getD slots q 0 - 1) 0 ≢ v
-      → slotFrom (suc t) q slots d v ≡ slotFrom t ((q + 1) % 16384) slots d v
+      → slotFrom (suc t) q slots d v ≡ slotFrom t ((q + 1) % slotCount) slots d v
   unfolding slotFrom
   step-more t q n m =
-      ap (λ (b : Bool). cond b q (slotFrom t ((q + 1) % 16384) slots d v))
+      ap (λ (b : Bool). cond b q (slotFrom t ((q + 1) % slotCount) slots d v))
       (more-test (getD slots q 0) (eqb (getD d (getD slots q 0 - 1) 0) v) n (ne-eqb (getD d (getD slots q 0 - 1) 0) v m))
 
-  step-out : (q : ℕ) → slotFrom 0 q slots d v ≡ 16384
+  step-out : (q : ℕ) → slotFrom 0 q slots d v ≡ slotCount
   unfolding slotFrom
   step-out q = refl
 
@@ -79,20 +79,20 @@ module _ (slots d : List ℕ) (v : ℕ) where
       → (getD slots q 0 ≢ 0 → getD d (getD slots q 0 - 1) 0 ≢ v → P) → P
   three q f g h = either 0 (getD slots q 0) f (λ n. either v (getD d (getD slots q 0 - 1) 0) (g n) (h n))
 
-past : (slots : List ℕ) → length slots ≡ 16384 → getD slots 16384 0 ≡ 0
-past slots size = List·getD-eq-default slots 0 {n = 16384} (omega arith)
+past : (slots : List ℕ) → length slots ≡ slotCount → getD slots slotCount 0 ≡ 0
+past slots size = List·getD-eq-default slots 0 {n = slotCount} (omega arith)
 
 -- a slot in use is one of the table
-pub slot-below : (slots : List ℕ) → length slots ≡ 16384 → (q : ℕ) → getD slots q 0 ≢ 0 → q ≢ 16384
+pub slot-below : (slots : List ℕ) → length slots ≡ slotCount → (q : ℕ) → getD slots q 0 ≢ 0 → q ≢ slotCount
 slot-below slots size q n e = n (ap (λ (r : ℕ). getD slots r 0) e ∙ past slots size)
 
-module _ (slots d : List ℕ) (v : ℕ) (size : length slots ≡ 16384) where
+module _ (slots d : List ℕ) (v : ℕ) (size : length slots ≡ slotCount) where
   from-owner : (t q f : ℕ) → getD slots (slotFrom t q slots d v) 0 ≡ suc f → getD d f 0 ≡ v
   from-owner zero q f e =
       let z : suc f ≡ 0 = sym e ∙ ap (λ (r : ℕ). getD slots r 0) (step-out slots d v q) ∙ past slots size in
       absurd (omega arith)
   from-owner (suc t) q f e =
-      let ih = from-owner t ((q + 1) % 16384) f in
+      let ih = from-owner t ((q + 1) % slotCount) f in
       three slots d v q
       (λ z. let y : suc f ≡ 0 = sym e ∙ ap (λ (r : ℕ). getD slots r 0) (step-free slots d v t q z) ∙ z in absurd (omega arith))
       (λ n m. let y : getD slots q 0 ≡ suc f = sym (ap (λ (r : ℕ). getD slots r 0) (step-found slots d v t q m)) ∙ e in
@@ -113,30 +113,30 @@ module _ (slots : List ℕ) (b x : ℕ) (free : getD slots b 0 ≡ 0) (d : List 
   same q n = ap (λ (k : ℕ). getD d (k - 1) 0) (apart slots b x free q n)
 
   further : (t q : ℕ) → getD slots q 0 ≢ 0 → getD d (getD slots q 0 - 1) 0 ≢ v
-      → slotFrom (suc t) q (set slots b x) d v ≡ slotFrom t ((q + 1) % 16384) (set slots b x) d v
+      → slotFrom (suc t) q (set slots b x) d v ≡ slotFrom t ((q + 1) % slotCount) (set slots b x) d v
   further t q n m = step-more (set slots b x) d v t q (λ z. n (sym (apart slots b x free q n) ∙ z)) (λ y. m (sym (same q n) ∙ y))
 
-  from-kept : (t q : ℕ) → q < 16384 → (slotFrom t q slots d v < 16384 → getD slots (slotFrom t q slots d v) 0 ≢ 0)
+  from-kept : (t q : ℕ) → q < slotCount → (slotFrom t q slots d v < slotCount → getD slots (slotFrom t q slots d v) 0 ≢ 0)
       → slotFrom t q (set slots b x) d v ≡ slotFrom t q slots d v
   from-kept zero q l h = step-out (set slots b x) d v q ∙ sym (step-out slots d v q)
   from-kept (suc t) q l h =
-      let ih = from-kept t ((q + 1) % 16384) (omega arith) in
+      let ih = from-kept t ((q + 1) % slotCount) (omega arith) in
       three slots d v q
       (λ z. absurd
-      (h (subst (λ (r : ℕ). r < 16384) (sym (step-free slots d v t q z)) l) (ap (λ (r : ℕ). getD slots r 0) (step-free slots d v t q z) ∙ z)))
+      (h (subst (λ (r : ℕ). r < slotCount) (sym (step-free slots d v t q z)) l) (ap (λ (r : ℕ). getD slots r 0) (step-free slots d v t q z) ∙ z)))
       (λ n m. step-found (set slots b x) d v t q (same q n ∙ m) ∙ sym (step-found slots d v t q m))
-      (λ n m. further t q n m ∙ ih (subst (λ (r : ℕ). r < 16384 → getD slots r 0 ≢ 0) (step-more slots d v t q n m) h)
+      (λ n m. further t q n m ∙ ih (subst (λ (r : ℕ). r < slotCount → getD slots r 0 ≢ 0) (step-more slots d v t q n m) h)
       ∙ sym (step-more slots d v t q n m))
 
-  pub slot-kept : (slotOf slots d v < 16384 → getD slots (slotOf slots d v) 0 ≢ 0) → slotOf (set slots b x) d v ≡ slotOf slots d v
+  pub slot-kept : (slotOf slots d v < slotCount → getD slots (slotOf slots d v) 0 ≢ 0) → slotOf (set slots b x) d v ≡ slotOf slots d v
   unfolding slotOf
   slot-kept h = from-kept 64 (bucketOf v) (bucket-below v) h
 
-  module _ (within : b < length slots) (inside : b < 16384) (own : getD d (x - 1) 0 ≡ v) where
+  module _ (within : b < length slots) (inside : b < slotCount) (own : getD d (x - 1) 0 ≡ v) where
     from-own : (t q : ℕ) → slotFrom t q slots d v ≡ b → slotFrom t q (set slots b x) d v ≡ b
-    from-own zero q e = let z : _≡_ {A = ℕ} 16384 b = sym (step-out slots d v q) ∙ e in absurd (omega arith)
+    from-own zero q e = let z : _≡_ {A = ℕ} slotCount b = sym (step-out slots d v q) ∙ e in absurd (omega arith)
     from-own (suc t) q e =
-        let ih = from-own t ((q + 1) % 16384) in
+        let ih = from-own t ((q + 1) % slotCount) in
         three slots d v q
         (λ z. let p : q ≡ b = sym (step-free slots d v t q z) ∙ e in
         step-found (set slots b x) d v t q
@@ -151,9 +151,9 @@ module _ (slots : List ℕ) (b x : ℕ) (free : getD slots b 0 ≡ 0) (d : List 
 -- ---- the search
 pub record Seeking (slots d : List ℕ) (x q t : ℕ) : Type 0 where
   pub same : slotFrom t q slots d x ≡ slotOf slots d x
-  pub inside : q < 16384
+  pub inside : q < slotCount
 
-pub seek-start : (slots d : List ℕ) (x q : ℕ) → q ≡ bucketOf x → q < 16384 → Seeking slots d x q 64
+pub seek-start : (slots d : List ℕ) (x q : ℕ) → q ≡ bucketOf x → q < slotCount → Seeking slots d x q 64
 unfolding slotOf
 seek-start slots d x q e l = record { same = ap (λ (k : ℕ). slotFrom 64 k slots d x) e; inside = l }
 
@@ -162,46 +162,46 @@ module _ (slots d : List ℕ) (x q t : ℕ) (S : Seeking slots d x q t) (more : 
   left : slotFrom (suc (t - 1)) q slots d x ≡ slotOf slots d x
   left = ap (λ (k : ℕ). slotFrom k q slots d x) (let e : suc (t - 1) ≡ t = omega arith in e) ∙ S .same
 
-  pub seek-more : getD slots q 0 ≢ 0 → getD d (getD slots q 0 - 1) 0 ≢ x → Seeking slots d x ((q + 1) % 16384) (t - 1)
+  pub seek-more : getD slots q 0 ≢ 0 → getD d (getD slots q 0 - 1) 0 ≢ x → Seeking slots d x ((q + 1) % slotCount) (t - 1)
   seek-more n m = record { same = sym (step-more slots d x (t - 1) q n m) ∙ left; inside = omega arith }
 
-  pub seek-free : getD slots q 0 ≡ 0 → (q ≡ slotOf slots d x) × (q ≤ 16384)
+  pub seek-free : getD slots q 0 ≡ 0 → (q ≡ slotOf slots d x) × (q ≤ slotCount)
   seek-free e = (sym (step-free slots d x (t - 1) q e) ∙ left, omega (arith, S .inside))
 
-  pub seek-found : getD d (getD slots q 0 - 1) 0 ≡ x → (q ≡ slotOf slots d x) × (q ≤ 16384)
+  pub seek-found : getD d (getD slots q 0 - 1) 0 ≡ x → (q ≡ slotOf slots d x) × (q ≤ slotCount)
   seek-found e = (sym (step-found slots d x (t - 1) q e) ∙ left, omega (arith, S .inside))
 
-pub seek-none : (slots d : List ℕ) (x q t : ℕ) → Seeking slots d x q t → t ≤ 0 → (16384 ≡ slotOf slots d x) × (_≤_ 16384 16384)
+pub seek-none : (slots d : List ℕ) (x q t : ℕ) → Seeking slots d x q t → t ≤ 0 → (slotCount ≡ slotOf slots d x) × (_≤_ slotCount slotCount)
 seek-none slots d x q t S l =
     (sym (step-out slots d x q) ∙ ap (λ (k : ℕ). slotFrom k q slots d x) (let e : 0 ≡ t = omega arith in e) ∙ S .same, omega arith)
 
 -- ---- the weight of a slot
 module _ (slots d w : List ℕ) (v q : ℕ) (e : slotOf slots d v ≡ q) where
-  pub weight-none : q ≡ 16384 → weightOf slots d w v ≡ 200
+  pub weight-none : q ≡ slotCount → weightOf slots d w v ≡ 200
   unfolding weightOf weightAt
   weight-none p =
       ap (λ (r : ℕ). weightAt slots w r) e
-      ∙ ap (λ (b : Bool). cond b 200 (cond (isZero (getD slots q 0)) 0 (getD w (getD slots q 0 - 1) 0))) (eq-eqb q 16384 p)
+      ∙ ap (λ (b : Bool). cond b 200 (cond (isZero (getD slots q 0)) 0 (getD w (getD slots q 0 - 1) 0))) (eq-eqb q slotCount p)
 
-  slot-of : q ≢ 16384 → weightOf slots d w v ≡ cond (isZero (getD slots q 0)) 0 (getD w (getD slots q 0 - 1) 0)
+  slot-of : q ≢ slotCount → weightOf slots d w v ≡ cond (isZero (getD slots q 0)) 0 (getD w (getD slots q 0 - 1) 0)
   unfolding weightOf weightAt
   slot-of n =
       ap (λ (r : ℕ). weightAt slots w r) e
-      ∙ ap (λ (b : Bool). cond b 200 (cond (isZero (getD slots q 0)) 0 (getD w (getD slots q 0 - 1) 0))) (ne-eqb q 16384 n)
+      ∙ ap (λ (b : Bool). cond b 200 (cond (isZero (getD slots q 0)) 0 (getD w (getD slots q 0 - 1) 0))) (ne-eqb q slotCount n)
 
-  pub weight-free : q ≢ 16384 → getD slots q 0 ≡ 0 → weightOf slots d w v ≡ 0
+  pub weight-free : q ≢ slotCount → getD slots q 0 ≡ 0 → weightOf slots d w v ≡ 0
   weight-free n z = slot-of n ∙ ap (λ (b : Bool). cond b 0 (getD w (getD slots q 0 - 1) 0)) (ap isZero z)
 
-  pub weight-number : q ≢ 16384 → getD slots q 0 ≢ 0 → weightOf slots d w v ≡ getD w (getD slots q 0 - 1) 0
+  pub weight-number : q ≢ slotCount → getD slots q 0 ≢ 0 → weightOf slots d w v ≡ getD w (getD slots q 0 - 1) 0
   weight-number n z = slot-of n ∙ ap (λ (b : Bool). cond b 0 (getD w (getD slots q 0 - 1) 0)) (zero-of (getD slots q 0) z)
 
 -- what `weight_of` gives, by what it finds
 module _ (slots d w : List ℕ) (v q : ℕ) (e : q ≡ slotOf slots d v) (few : (n : ℕ) → getD w n 0 ≤ 255) where
-  pub read-none : q ≡ 16384 → (200 ≡ weightOf slots d w v) × (_≤_ 200 255)
+  pub read-none : q ≡ slotCount → (200 ≡ weightOf slots d w v) × (_≤_ 200 255)
   read-none p = (sym (weight-none slots d w v q (sym e) p), omega arith)
 
-  pub read-free : q ≢ 16384 → getD slots q 0 ≡ 0 → (0 ≡ weightOf slots d w v) × (_≤_ 0 255)
+  pub read-free : q ≢ slotCount → getD slots q 0 ≡ 0 → (0 ≡ weightOf slots d w v) × (_≤_ 0 255)
   read-free n z = (sym (weight-free slots d w v q (sym e) n z), omega arith)
 
-  pub read-number : q ≢ 16384 → getD slots q 0 ≢ 0 → (getD w (getD slots q 0 - 1) 0 ≡ weightOf slots d w v) × (getD w (getD slots q 0 - 1) 0 ≤ 255)
+  pub read-number : q ≢ slotCount → getD slots q 0 ≢ 0 → (getD w (getD slots q 0 - 1) 0 ≡ weightOf slots d w v) × (getD w (getD slots q 0 - 1) 0 ≤ 255)
   read-number n z = (sym (weight-number slots d w v q (sym e) n z), few (getD slots q 0 - 1))

@@ -22,18 +22,18 @@ shift-none x n = go (ltb x (2 ^ n)) refl
     go false e = ne-eqb (x / 2 ^ n) 0 (λ z. let h : x < 1 * 2 ^ n = div-lt-iff-lt-mul (pow-pos n) .0 (omega arith) in omega (arith, ltb-false x (2 ^ n) e, one-mul (2 ^ n)))
 
 -- every word of a list is below b
-abbrev pub Below : ℕ → List ℕ → Type 0
-Below b [] = Unit {0}
-Below b (x ∷ xs) = (x < b) × Below b xs
+abbrev pub AllBelow : ℕ → List ℕ → Type 0
+AllBelow b [] = Unit {0}
+AllBelow b (x ∷ xs) = (x < b) × AllBelow b xs
 
-pub wide-below : (n b : ℕ) (xs : List ℕ) → 2 ^ n ≤ b → wide n xs ≡ false → Below b xs
+pub wide-below : (n b : ℕ) (xs : List ℕ) → 2 ^ n ≤ b → wide n xs ≡ false → AllBelow b xs
 unfolding wide
 wide-below n b [] h e = tt
 wide-below n b (x ∷ xs) h e = go (ltb x (2 ^ n)) refl (wide-below n b xs h) e
   where
-    go : (t : Bool) → ltb x (2 ^ n) ≡ t → (wide n xs ≡ false → Below b xs) → (not t || wide n xs) ≡ false → (x < b) × Below b xs
+    go : (t : Bool) → ltb x (2 ^ n) ≡ t → (wide n xs ≡ false → AllBelow b xs) → (not t || wide n xs) ≡ false → (x < b) × AllBelow b xs
     go true l ih f = (let k = ltb-true x (2 ^ n) l in omega arith, ih f)
     go false l ih f = absurd (let q : _≡_ {A = ℕ} 0 1 = cc in omega arith)
 
-pub wide-words : (n : ℕ) (xs : List ℕ) → n ≤ 64 → wide n xs ≡ false → Below (2 ^ 64) xs
+pub wide-words : (n : ℕ) (xs : List ℕ) → n ≤ 64 → wide n xs ≡ false → AllBelow (2 ^ 64) xs
 wide-words n xs h e = wide-below n (2 ^ 64) xs (pow-mono {i = n} h) e

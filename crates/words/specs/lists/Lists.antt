@@ -11,6 +11,7 @@ use lib.ListN.{length}
 use lib.Dec.{eqb, ltb}
 use Rattle.linear.specs.Select.{anyOf}
 use Rattle.words.specs.Masks.{wide, zeroIn}
+use Rattle.kinds.specs.Limits.{mostGenerators}
 
 -- refusal 7: "A menu form is zero or repeats an earlier one"
 unfoldable pub repeats : List ℕ → Bool
@@ -22,7 +23,7 @@ abbrev pub unlike : (c u : ℕ) (gs ts : List ℕ) → Bool
 unlike c u gs ts = not (eqb (length gs) c) || not (eqb (length ts) u)
 
 unfoldable pub listRefusal : (p q r : ℕ) (gs ts others : List ℕ) → ℕ
-listRefusal p q r gs ts others = cond (ltb 4095 q) 4 (cond (unlike q r gs ts) 5 (cond (wide p gs || (wide p ts || wide p others)) 6 (cond (zeroIn gs || repeats gs) 7 0)))
+listRefusal p q r gs ts others = cond (ltb mostGenerators q) 4 (cond (unlike q r gs ts) 5 (cond (wide p gs || (wide p ts || wide p others)) 6 (cond (zeroIn gs || repeats gs) 7 0)))
 
 unfoldable pub mapRefusal : (w : ℕ) (gs ts others : List ℕ) → ℕ
 mapRefusal w gs ts others = cond (unlike 0 0 gs ts) 5 (cond (wide w others) 6 0)

@@ -43,12 +43,5 @@ returns-2 c =
 pub insert-spec : {M : Type 1} → statement M
 insert-spec =
     tie.close
-    (tie.spec
-    (λ c. omega arith)
-    slice-aggregate-reduce-rows
-    reduce-rows-requires
-    returns
-    slice-aggregate-place
-    place-requires
-    (λ c. omega arith)
+    (tie.spec (λ c. omega arith) slice-aggregate-reduce-rows reduce-rows-requires returns slice-aggregate-place place-requires (λ c. omega arith)
     returns-2)

@@ -10,5 +10,4 @@ slice-aggregate-reduce-rows c = sym (rows-length (c .before .before .args .self)
 
 pub reduce-spec : {M : Type 1} → statement M
 reduce-spec =
-    tie.close
-    (tie.spec (λ c. search needs) slice-aggregate-reduce-rows (λ c κs. search needs) (λ c. search needs))
+    tie.close (tie.spec (λ c. search needs) slice-aggregate-reduce-rows (λ c κs. search needs) (λ c. search needs))

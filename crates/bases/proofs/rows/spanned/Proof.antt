@@ -1,4 +1,4 @@
--- `rows::spanned` meets its contract. Assumes nothing.
+-- `bases::rows::spanned` meets its contract. Assumes nothing.
 use borrow.Author.Needs.{needs}
 use mathlib.Core.Path.{ap, _∙_}
 use mathlib.Core.List.{List}

@@ -1,4 +1,4 @@
--- `spans::completes` meets its contract. Assumes nothing.
+-- `bases::spans::completes` meets its contract. Assumes nothing.
 use native.Mathlib.Omega.{arith}
 use mathlib.Core.Path.{refl}
 use Prim.Native.Nat.{_-_}
@@ -57,19 +57,5 @@ returns-2 c =
 pub completes-spec : {M : Type 1} → statement M
 completes-spec =
     tie.close
-    (tie.spec
-    Inv-loop
-    μ-loop
-    loop-holds
-    returns
-    (λ c. omega arith)
-    (λ c. omega arith)
-    (λ c κs. search needs)
-    insert-requires
-    (λ c. omega arith)
-    (λ c. omega arith)
-    loop-again
-    (λ c. omega arith)
-    (λ c. omega arith)
-    loop-again-2
-    returns-2)
+    (tie.spec Inv-loop μ-loop loop-holds returns (λ c. omega arith) (λ c. omega arith) (λ c κs. search needs) insert-requires (λ c. omega arith)
+    (λ c. omega arith) loop-again (λ c. omega arith) (λ c. omega arith) loop-again-2 returns-2)

@@ -1,4 +1,4 @@
--- `spans::has_rows` meets its contract. Assumes nothing.
+-- `bases::spans::has_rows` meets its contract. Assumes nothing.
 use native.Mathlib.Omega.{arith}
 use mathlib.Core.Path.{sym, _∙_}
 use Prim.Native.Nat.{_-_}
@@ -78,17 +78,5 @@ returns-3 c =
 pub has-rows-spec : {M : Type 1} → statement M
 has-rows-spec =
     tie.close
-    (tie.spec
-    Inv-loop
-    μ-loop
-    returns
-    loop-holds
-    mul-if2
-    array-read-if2
-    mul-if2-2
-    shared-slice-read-if2
-    returns-2
-    add-i
-    loop-less
-    loop-again
+    (tie.spec Inv-loop μ-loop returns loop-holds mul-if2 array-read-if2 mul-if2-2 shared-slice-read-if2 returns-2 add-i loop-less loop-again
     returns-3)

@@ -1,4 +1,4 @@
--- `spans::is_wanted` meets its contract. Assumes nothing.
+-- `bases::spans::is_wanted` meets its contract. Assumes nothing.
 use borrow.Author.Needs.{needs}
 use Rattle.bases.specs.Basis.{rowsOf}
 use Rattle.bases.specs.spans.laws.Missing.{left-out, left-in}

@@ -1,4 +1,4 @@
--- `spans::misses` meets its contract. Assumes nothing.
+-- `bases::spans::misses` meets its contract. Assumes nothing.
 use native.Mathlib.Omega.{arith}
 use mathlib.Core.Path.{sym, ap, _∙_}
 use mathlib.Core.Bool.{not}
@@ -47,15 +47,5 @@ returns-2 c = sym (missing-end (rowsOf (c .before .before .before .args .b)) (c 
 pub misses-spec : {M : Type 1} → statement M
 misses-spec =
     tie.close
-    (tie.spec
-    Inv-loop
-    μ-loop
-    loop-holds
-    (λ c. omega arith)
-    (λ c. omega arith)
-    contains-requires
-    returns
-    (λ c. omega arith)
-    (λ c. omega arith)
-    loop-again
-    returns-2)
+    (tie.spec Inv-loop μ-loop loop-holds (λ c. omega arith) (λ c. omega arith) contains-requires returns (λ c. omega arith) (λ c. omega arith)
+    loop-again returns-2)

@@ -26,29 +26,29 @@ use Rattle.forms.specs.Row.{rowForm}
 use Rattle.bases.specs.rows.Rows.{rowOf}
 
 -- ---- a mask by its lowest bit and the rest
-abbrev pub digit : Bool → ℕ
-digit false = 0
-digit true = 1
+abbrev pub rowBit : Bool → ℕ
+rowBit false = 0
+rowBit true = 1
 
-half : (c : Bool) (m : ℕ) → (digit c + 2 * m) / 2 ≡ m
+half : (c : Bool) (m : ℕ) → (rowBit c + 2 * m) / 2 ≡ m
 half false m = omega arith
 half true m = omega arith
 
-pub low : (c : Bool) (m : ℕ) → bit (digit c + 2 * m) 0 ≡ c
+pub low : (c : Bool) (m : ℕ) → bit (rowBit c + 2 * m) 0 ≡ c
 unfolding bit
 low false m = ap (λ (x : ℕ). bitOf (x % 2)) (div-one (0 + 2 * m)) ∙ ap bitOf (let e : (0 + 2 * m) % 2 ≡ 0 = omega arith in e)
 low true m = ap (λ (x : ℕ). bitOf (x % 2)) (div-one (1 + 2 * m)) ∙ ap bitOf (let e : (1 + 2 * m) % 2 ≡ 1 = omega arith in e)
 
-pub high : (c : Bool) (m k : ℕ) → bit (digit c + 2 * m) (suc k) ≡ bit m k
-high c m k = bit-suc (digit c + 2 * m) k ∙ ap (λ (x : ℕ). bit x k) (half c m)
+pub high : (c : Bool) (m k : ℕ) → bit (rowBit c + 2 * m) (suc k) ≡ bit m k
+high c m k = bit-suc (rowBit c + 2 * m) k ∙ ap (λ (x : ℕ). bit x k) (half c m)
 
 -- the sum that a row names, by its lowest bit and the rest
-shifted : (xs : List ℕ) (c : Bool) (m k : ℕ) → rowForm xs (digit c + 2 * m) (suc k) ≡ rowForm xs m k
+shifted : (xs : List ℕ) (c : Bool) (m k : ℕ) → rowForm xs (rowBit c + 2 * m) (suc k) ≡ rowForm xs m k
 unfolding rowForm
 shifted [] c m k = refl
 shifted (x ∷ xs) c m k = ap₂ (λ (b : Bool) (r : ℕ). bitXor (scaleW b x) r) (high c m k) (shifted xs c m (suc k))
 
-pub row-cons : (x : ℕ) (xs : List ℕ) (c : Bool) (m : ℕ) → rowForm (x ∷ xs) (digit c + 2 * m) 0 ≡ bitXor (scaleW c x) (rowForm xs m 0)
+pub row-cons : (x : ℕ) (xs : List ℕ) (c : Bool) (m : ℕ) → rowForm (x ∷ xs) (rowBit c + 2 * m) 0 ≡ bitXor (scaleW c x) (rowForm xs m 0)
 unfolding rowForm
 row-cons x xs c m = ap₂ (λ (b : Bool) (r : ℕ). bitXor (scaleW b x) r) (low c m) (shifted xs c m 0)
 
@@ -62,7 +62,7 @@ twice : (x v : ℕ) → bitXor x (bitXor x v) ≡ v
 twice x v = minus-add word x v
 
 -- ---- the two cases
-pub row-later : (x : ℕ) (xs : List ℕ) (v : ℕ) → inside word (basisOf word xs) v ≡ true → rowOf (x ∷ xs) v ≡ digit false + 2 * rowOf xs v
+pub row-later : (x : ℕ) (xs : List ℕ) (v : ℕ) → inside word (basisOf word xs) v ≡ true → rowOf (x ∷ xs) v ≡ rowBit false + 2 * rowOf xs v
 unfolding rowOf
 row-later x xs v e = ap (λ (b : Bool). cond b (2 * rowOf xs v) (1 + 2 * rowOf xs (bitXor x v))) e ∙ sym (zero-add (2 * rowOf xs v))
 
@@ -111,10 +111,10 @@ unfolding combination
 head-new x xs h s =
     true≢false (h (true ∷ s .coefficients) (ap suc (s .count)) (ap (bitXor x) (sym (s .sum)) ∙ xor-self x) true (List·Memᴰ·head refl))
 
-split : (row : ℕ) → (c : Bool) × (row ≡ digit c + 2 * (row / 2))
+split : (row : ℕ) → (c : Bool) × (row ≡ rowBit c + 2 * (row / 2))
 split row = go (row % 2) refl
   where
-    go : (d : ℕ) → row % 2 ≡ d → (c : Bool) × (row ≡ digit c + 2 * (row / 2))
+    go : (d : ℕ) → row % 2 ≡ d → (c : Bool) × (row ≡ rowBit c + 2 * (row / 2))
     go zero e = (false, omega arith)
     go (suc zero) e = (true, omega arith)
     go (suc (suc d)) e = absurd (omega arith)
@@ -132,7 +132,7 @@ row-only (x ∷ xs) v row h l e = go (split row) (row-only xs)
     small : k < 2 ^ length xs
     small = omega (arith, l, pow-succ' 2 (length xs))
 
-    sum : (c : Bool) → row ≡ digit c + 2 * k → v ≡ bitXor (scaleW c x) u
+    sum : (c : Bool) → row ≡ rowBit c + 2 * k → v ≡ bitXor (scaleW c x) u
     sum c q = sym e ∙ ap (λ (m : ℕ). rowForm (x ∷ xs) m 0) q ∙ row-cons x xs c k
 
     outside : v ≡ bitXor x u → inside word (basisOf word xs) v ≡ false
@@ -143,7 +143,7 @@ row-only (x ∷ xs) v row h l e = go (split row) (row-only xs)
         at true p =
             absurd (head-new x xs h (subst (Span word xs) (xor-comm u v ∙ ap (λ (z : ℕ). bitXor z u) q ∙ add-assoc word x u u ∙ ap (bitXor x) (xor-self u) ∙ xor-zero-r x) (span-add word (row-span xs k 0) (in-span xs v p))))
 
-    go : (c : Bool) × (row ≡ digit c + 2 * k) → ((w r : ℕ) → Independent word xs → r < 2 ^ length xs → rowForm xs r 0 ≡ w → r ≡ rowOf xs w) → row ≡ rowOf (x ∷ xs) v
+    go : (c : Bool) × (row ≡ rowBit c + 2 * k) → ((w r : ℕ) → Independent word xs → r < 2 ^ length xs → rowForm xs r 0 ≡ w → r ≡ rowOf xs w) → row ≡ rowOf (x ∷ xs) v
     go (true, q) ih =
         let i : k ≡ rowOf xs (bitXor x v) = ih (bitXor x v) k (tail-independent x xs h) small (sym (ap (bitXor x) (sum true q) ∙ twice x u)) in
         let r : rowOf (x ∷ xs) v ≡ 1 + 2 * rowOf xs (bitXor x v) = row-here x xs v (outside (sum true q)) in

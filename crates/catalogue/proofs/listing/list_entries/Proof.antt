@@ -1,4 +1,4 @@
--- `listing::list_entries` meets its contract: the walk from the targets' space writes the records of the entries. Assumes nothing.
+-- `catalogue::listing::list_entries` meets its contract: the walk from the targets' space writes the records of the entries. Assumes nothing.
 use Rattle.bases.specs.Basis.{based-dim}
 use Rattle.catalogue.specs.listing.laws.Listing.{listed-below}
 use Rattle.catalogue.proofs.Root.{rooted, listed-end}

@@ -1,4 +1,4 @@
--- `listing::tally` meets its contract: the walk from the space of b. Assumes nothing.
+-- `catalogue::listing::tally` meets its contract: the walk from the space of b. Assumes nothing.
 use mathlib.Core.Path.{_≡_, sym}
 use Prim.Native.Nat.{ℕ, _≤_}
 use native.Mathlib.Omega.{arith}
@@ -7,18 +7,21 @@ use lib.Seq.{length-take-le}
 use Rattle.catalogue.proofs.Root.{root-node}
 use Rattle.catalogue.proofs.listing.tally.Statement.{statement}
 use Rattle.catalogue.proofs.listing.tally.Tie as tie
+use Rattle.kinds.specs.Limits.{mostGenerators}
+use Rattle.residues.specs.Room.{searchRoom}
+use Rattle.weights.specs.rank_rows.Stretch.{rowRoom}
 
 -- the array that is lent down the walk
-rows-all : length (replicate {A = ℕ} 32768 0) ≡ 32768
-rows-all = length-replicate {A = ℕ} 32768 0
+rows-all : length (replicate {A = ℕ} rowRoom 0) ≡ rowRoom
+rows-all = length-replicate {A = ℕ} rowRoom 0
 
-h-all : length (replicate {A = ℕ} 4096 0) ≡ 4096
-h-all = length-replicate {A = ℕ} 4096 0
+h-all : length (replicate {A = ℕ} searchRoom 0) ≡ searchRoom
+h-all = length-replicate {A = ℕ} searchRoom 0
 
-few : {n : ℕ} → n ≤ 4095 → n ≤ 4096
+few : {n : ℕ} → n ≤ mostGenerators → n ≤ searchRoom
 few l = omega arith
 
-within : {n a : ℕ} → n ≤ 4095 → a ≡ 4096 → n ≤ a
+within : {n a : ℕ} → n ≤ mostGenerators → a ≡ searchRoom → n ≤ a
 within l e = omega arith
 
 residues-requires : tie.Need-residues-requires
@@ -53,12 +56,4 @@ returns c = record { state = c .before .before .before .walk .ensures }
 pub tally-spec : {M : Type 1} → statement M
 tally-spec =
     tie.close
-    (tie.spec
-    residues-requires
-    sub-missing
-    array-share-prefix-h
-    slice-aggregate-walk
-    slice-aggregate-walk-2
-    walk-requires
-    same-length
-    returns)
+    (tie.spec residues-requires sub-missing array-share-prefix-h slice-aggregate-walk slice-aggregate-walk-2 walk-requires same-length returns)

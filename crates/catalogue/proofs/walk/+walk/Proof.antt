@@ -1,4 +1,4 @@
--- `walk::walk` meets its contract, by recursion on the number of missing dimensions: the records so far are written, and those to come, written,
+-- `catalogue::walk::walk` meets its contract, by recursion on the number of missing dimensions: the records so far are written, and those to come, written,
 -- give the final state. Assumes nothing.
 use native.Mathlib.Omega.{arith}
 use mathlib.Core.Path.{_≡_, refl, sym, ap, _∙_}
@@ -10,7 +10,7 @@ use lib.Seq.{length-take-le}
 use borrow.Fn.Kinds.{In}
 use borrow.Fn.PlainCycle.{Measures, is, falls, and}
 use Rattle.bases.specs.Basis.{rowsOf}
-use Rattle.residues.specs.children.laws.Numbers.{as-few, as-many, inside, ends, within, some, falls-one, next-le, one-fits, eight-fits}
+use Rattle.residues.specs.children.laws.Numbers.{as-few, as-many, inside, ends, within-numbers, some, falls-one, next-le, one-fits, eight-fits}
 use Rattle.residues.specs.children.Residues.{known}
 use Rattle.residues.specs.children.laws.Child.{residues-length}
 use Rattle.records.specs.Records.{run}
@@ -31,6 +31,8 @@ use Rattle.records.proofs.keep.Reads as keep-reads
 use Rattle.records.proofs.push.Reads as push-reads
 use Rattle.catalogue.proofs.walk.+walk.{statement}
 use Rattle.catalogue.proofs.walk.+walk.Tie.{close}
+use Rattle.residues.specs.Room.{searchRoom}
+use Rattle.weights.specs.rank_rows.Stretch.{rowRoom}
 
 abbrev μ-walk : Measures 4 walk-kinds.ps ℕ
 μ-walk κs a = a .1 .1 .1 .0
@@ -63,12 +65,13 @@ claims t = (
 )
 
 abbrev walk-Inv-loop : walk-lts.InvT-loop
-walk-Inv-loop gens h start missing k b c limit stretches₀ out₀ n marks j₀ mine₀ u₀ stretches out j mine u =
-    (start ≤ j) × Going gens k (rowsOf b) (chainOf c) missing limit (run limit (stateOf u₀ out₀) (search gens k (rowsOf b) (chainOf c) (length gens - start) start missing)) (length out₀) j u out mine
-    × (length stretches ≡ 32768) × (j < length gens → getD marks j 0 ≢ 0)
+walk-Inv-loop gens h start missing k b c limit rows₀ out₀ n marks j₀ mine₀ counts₀ rows out j mine counts =
+    (start ≤ j) × Going gens k (rowsOf b) (chainOf c) missing limit
+    (run limit (stateOf counts₀ out₀) (search gens k (rowsOf b) (chainOf c) (length gens - start) start missing)) (length out₀) j counts out mine
+    × (length rows ≡ rowRoom) × (j < length gens → getD marks j 0 ≢ 0)
 
 abbrev walk-μ-loop : walk-lts.MeasureT-loop
-walk-μ-loop gens h start missing k b c limit stretches₀ out₀ n marks j₀ mine₀ u₀ stretches out j mine u = length gens - j
+walk-μ-loop gens h start missing k b c limit rows₀ out₀ n marks j₀ mine₀ counts₀ rows out j mine counts = length gens - j
 
 -- facts on numbers
 le-refl : {a : ℕ} → a ≤ a
@@ -92,8 +95,8 @@ after l k = omega arith
 fewer : {j r n : ℕ} → j < n → j + 1 ≤ r → r ≤ n → n - r < n - j
 fewer a b c = omega arith
 
-mine-all : length (replicate {A = ℕ} 4096 0) ≡ 4096
-mine-all = length-replicate {A = ℕ} 4096 0
+mine-all : length (replicate {A = ℕ} searchRoom 0) ≡ searchRoom
+mine-all = length-replicate {A = ℕ} searchRoom 0
 
 walk-spanned-requires : (t : ℕ) → walk-lts.Need-spanned-requires (claims t) (walk-at t) walk.Post walk-Inv-loop walk-μ-loop
 walk-spanned-requires t c κs =
@@ -163,7 +166,7 @@ walk-next-marked-requires : (t : ℕ) → walk-lts.Need-next-marked-requires (cl
 walk-next-marked-requires t c κs =
     let pre = c .before .before .before .before .before .before .before .before .before .before .before .before .pre in
     let sieve = c .before .before .before .before .sieve in
-    let N = pre .1 .0 in (N .begin, within (N .small) (sieve .ensures .whole))
+    let N = pre .1 .0 in (N .begin, within-numbers (N .small) (sieve .ensures .whole))
 
 walk-same-length-2 : (t : ℕ) → walk-lts.Need-same-length-2 (claims t) (walk-at t) walk.Post walk-Inv-loop walk-μ-loop
 walk-same-length-2 t c = c .before .before .before .before .before .before .sieve .kept .1 .1 .1 .1 .1 .0
@@ -182,13 +185,13 @@ walk-returns-3 t c =
     let I = going-next m (a .k) (a .b) (a .c) (a .missing) (a .limit)
     (run (a .limit) (stateOf (a .t) (a .out .now))
     (search m (a .k) (rowsOf (a .b)) (chainOf (a .c)) (length m - a .start) (a .start) (a .missing))) (length
-    (a .out .now)) h (N .left) (N .valid) (N .tidy) (if1 .left) (a .t) (a .out .now) (replicate 4096 0) (a .start)
+    (a .out .now)) h (N .left) (N .valid) (N .tidy) (if1 .left) (a .t) (a .out .now) (replicate searchRoom 0) (a .start)
     (sieve .last .1 .1 .1 .1 .1 .1 .0) (sieve .ensures) (a .start) (c .before .next-marked .result) le-refl
-    (c .before .next-marked .ensures) (record { within = N .begin; rest = refl; sane = N .sane; same = refl; whole = mine-all }) in
+    (c .before .next-marked .ensures) (record { within = N .begin; ahead = record { rest = refl; sane = N .sane; same = refl }; whole = mine-all }) in
     going-end m (a .k) (a .b) (a .c) (a .missing) (a .limit)
     (run (a .limit) (stateOf (a .t) (a .out .now))
     (search m (a .k) (rowsOf (a .b)) (chainOf (a .c)) (length m - a .start) (a .start) (a .missing))) (length (a .out .now)) h
-    (N .left) (N .valid) (N .tidy) (if1 .left) (c .before .next-marked .result) (a .t) (a .out .now) (replicate 4096 0) I (ends (c .if3 .taken))
+    (N .left) (N .valid) (N .tidy) (if1 .left) (c .before .next-marked .result) (a .t) (a .out .now) (replicate searchRoom 0) I (ends (c .if3 .taken))
 
 walk-loop-holds : (t : ℕ) → walk-lts.Need-loop-holds (claims t) (walk-at t) walk.Post walk-Inv-loop walk-μ-loop
 walk-loop-holds t c =
@@ -206,10 +209,10 @@ walk-loop-holds t c =
       going-next m (a .k) (a .b) (a .c) (a .missing) (a .limit)
           (run (a .limit) (stateOf (a .t) (a .out .now))
           (search m (a .k) (rowsOf (a .b)) (chainOf (a .c)) (length m - a .start) (a .start) (a .missing))) (length (a .out .now)) h
-          (N .left) (N .valid) (N .tidy) (if1 .left) (a .t) (a .out .now) (replicate 4096 0) (a .start) (S .last .1 .1 .1 .1 .1 .1 .0) (S .ensures)
+          (N .left) (N .valid) (N .tidy) (if1 .left) (a .t) (a .out .now) (replicate searchRoom 0) (a .start) (S .last .1 .1 .1 .1 .1 .1 .0) (S .ensures)
           (a .start)
           (c .before .next-marked .result) le-refl (c .before .next-marked .ensures)
-          (record { within = N .begin; rest = refl; sane = N .sane; same = refl; whole = mine-all }),
+          (record { within = N .begin; ahead = record { rest = refl; sane = N .sane; same = refl }; whole = mine-all }),
       S .kept .1 .1 .1 .1 .1 .0 ∙ pre .1 .1,
       c .before .next-marked .ensures .marked,
     )
@@ -222,7 +225,7 @@ walk-same-length-3 t c =
     loop .inv .2 ∙ sym (pre .1 .1)
 
 walk-same-length-4 : (t : ℕ) → walk-lts.Need-same-length-4 (claims t) (walk-at t) walk.Post walk-Inv-loop walk-μ-loop
-walk-same-length-4 t c = c .before .before .before .loop .inv .1 .same
+walk-same-length-4 t c = c .before .before .before .loop .inv .1 .ahead .same
 
 walk-returns-4 : (t : ℕ) → walk-lts.Need-returns-4 (claims t) (walk-at t) walk.Post walk-Inv-loop walk-μ-loop
 walk-returns-4 t c =
@@ -232,7 +235,7 @@ walk-returns-4 t c =
     let h = a .h .now in
     let l = c .before .before .before .loop in
     let ne = c .before .before .before .before .before .before .before .before .before .before .before .before .before .if1 .left in
-    going-full m (a .k) (a .b) (a .c) (a .missing) (a .limit) _ _ h (N .left) (N .valid) (N .tidy) ne (l .j) (l .u) (l .out) (l .mine) (l .inv .1) (c .if4 .taken)
+    going-full m (a .k) (a .b) (a .c) (a .missing) (a .limit) _ _ h (N .left) (N .valid) (N .tidy) ne (l .j) (l .counts) (l .out) (l .mine) (l .inv .1) (c .if4 .taken)
 
 walk-mul-x : (t : ℕ) → walk-lts.Need-mul-x (claims t) (walk-at t) walk.Post walk-Inv-loop walk-μ-loop
 walk-mul-x t c =
@@ -263,7 +266,7 @@ walk-array-share-prefix-mine : (t : ℕ) → walk-lts.Need-array-share-prefix-mi
 walk-array-share-prefix-mine t c =
     let far = c .before .before .before .before .before .before .before .before .before .before .before .before in
     let pre = far .before .before .before .before .before .before .before .before .before .before .pre in
-    within
+    within-numbers
     (pre .1 .0 .small) (c .before .child .ensures .whole)
 
 walk-slice-aggregate-walk : (t : ℕ) → walk-lts.Need-slice-aggregate-walk (claims t) (walk-at t) walk.Post walk-Inv-loop walk-μ-loop
@@ -274,7 +277,7 @@ walk-slice-aggregate-walk t c =
     let child = c .before .before .child in
     sym (length-take-le (length
     (args .gens .now))
-    (child .last .1 .1 .0) (within
+    (child .last .1 .1 .0) (within-numbers
     (pre .1 .0 .small)
     (child .ensures .whole)))
 
@@ -329,7 +332,7 @@ walk-walk-requires t c κs =
     let d : a .missing ≡ t = pre .0 in (
       falls-one d ne,
       (
-        node-down m (a .k) (a .b) (a .c) (a .missing) (a .limit) _ _ h (N .left) (N .valid) (N .tidy) ne (l .j) (l .u) (l .out) (l .mine) (l .inv .1)
+        node-down m (a .k) (a .b) (a .c) (a .missing) (a .limit) _ _ h (N .left) (N .valid) (N .tidy) ne (l .j) (l .counts) (l .out) (l .mine) (l .inv .1)
             g e (N .small) (insert .result)
             (insert .ensures) (push .result) (push .ensures) (child .last .1 .1 .0)
             (child .ensures),
@@ -361,7 +364,7 @@ walk-next-marked-requires-2 t c κs =
     let pre = farther .before .before .before .before .before .before .before .before .before .pre in
     let sieve = farther .before .sieve in
     let loop-test = far .before .before .before .before .before .loop-test in
-    let N = pre .1 .0 in (next-le (loop-test .taken), within (N .small) (sieve .ensures .whole))
+    let N = pre .1 .0 in (next-le (loop-test .taken), within-numbers (N .small) (sieve .ensures .whole))
 
 walk-loop-less : (t : ℕ) → walk-lts.Need-loop-less (claims t) (walk-at t) walk.Post walk-Inv-loop walk-μ-loop
 walk-loop-less t c =
@@ -398,7 +401,7 @@ walk-loop-again t c =
     let I = going-down m (a .k) (a .b) (a .c) (a .missing) (a .limit)
     (run (a .limit) (stateOf (a .t) (a .out .now))
     (search m (a .k) (rowsOf (a .b)) (chainOf (a .c)) (length m - a .start) (a .start) (a .missing))) (length
-    (a .out .now)) h (N .left) (N .valid) (N .tidy) ne (l .j) (l .u) (l .out) (l .mine) (l .inv .1) g e (insert .result)
+    (a .out .now)) h (N .left) (N .valid) (N .tidy) ne (l .j) (l .counts) (l .out) (l .mine) (l .inv .1) g e (insert .result)
     (insert .ensures) (push .result)
     (push .ensures) (W .result) (W .last .1 .1 .1 .1 .1 .1 .1 .1 .1 .1 .0) (K .last .1 .1 .0)
     (K .ensures .whole) (W .ensures) in (
@@ -417,7 +420,7 @@ walk-same-length-5 : (t : ℕ) → walk-lts.Need-same-length-5 (claims t) (walk-
 walk-same-length-5 t c = c .before .loop .inv .2 ∙ sym (c .before .before .before .before .before .before .before .before .before .before .before .before .before .before .before .before .pre .1 .1)
 
 walk-same-length-6 : (t : ℕ) → walk-lts.Need-same-length-6 (claims t) (walk-at t) walk.Post walk-Inv-loop walk-μ-loop
-walk-same-length-6 t c = c .before .loop .inv .1 .same
+walk-same-length-6 t c = c .before .loop .inv .1 .ahead .same
 
 walk-returns-5 : (t : ℕ) → walk-lts.Need-returns-5 (claims t) (walk-at t) walk.Post walk-Inv-loop walk-μ-loop
 walk-returns-5 t c =
@@ -427,7 +430,7 @@ walk-returns-5 t c =
     let h = a .h .now in
     let l = c .before .loop in
     let ne = c .before .before .before .before .before .before .before .before .before .before .before .if1 .left in
-    going-end m (a .k) (a .b) (a .c) (a .missing) (a .limit) _ _ h (N .left) (N .valid) (N .tidy) ne (l .j) (l .u) (l .out) (l .mine) (l .inv .1) (c .loop-test .left)
+    going-end m (a .k) (a .b) (a .c) (a .missing) (a .limit) _ _ h (N .left) (N .valid) (N .tidy) ne (l .j) (l .counts) (l .out) (l .mine) (l .inv .1) (c .loop-test .left)
 
 pub +walk-spec : {M : Type 1} → statement M
 +walk-spec = close μ-walk λ t. walk-lts.spec (claims t)

@@ -26,7 +26,7 @@ use Rattle.catalogue.specs.walk.Walk.{search}
 use Rattle.catalogue.specs.walk.laws.Search.{search-is}
 use Rattle.catalogue.specs.declared.listing.Listing.{Listing}
 use Rattle.catalogue.specs.listing.Walked.{start}
-use Rattle.catalogue.specs.listing.Listing.{records, recordLength, flat, fitting, Asked, Listed}
+use Rattle.catalogue.specs.listing.Listing.{records, recordLength, flat, fitting, SearchAsked, Listed}
 use Rattle.catalogue.specs.listing.laws.Run.{fitting-le, fitting-none, afterAll, run-limit}
 
 pub record-length : (gens targets : List ℕ) (k : ℕ) (r : List ℕ) → List·Memᴰ r (records gens targets k) → length r ≡ recordLength targets k
@@ -44,7 +44,7 @@ pub records-length : (gens targets : List ℕ) (k : ℕ) → length (records gen
 unfolding records
 records-length gens targets k = length-map (entries word gens targets k) (λ es. es ++ space word gens targets es)
 
-pub found-all : (gens targets : List ℕ) (k : ℕ) (before after : List ℕ) (r : Listing) → Asked gens targets k → Listed gens targets k (2 ^ 64 - 1) before after r
+pub found-all : (gens targets : List ℕ) (k : ℕ) (before after : List ℕ) (r : Listing) → SearchAsked gens targets k → Listed gens targets k (2 ^ 64 - 1) before after r
     → r .found ≡ length (entries word gens targets k)
 found-all gens targets k before after r A L =
     let b : length (entries word gens targets k) < 2 ^ 64 = entries-count word gens targets k (A .small) (A .near) in

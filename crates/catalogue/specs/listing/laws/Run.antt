@@ -76,12 +76,15 @@ state-eq e₁ e₂ e₃ e₄ = cc
 pub run-law : (limit n : ℕ) (rs : List (List ℕ)) (st : State) → ((r : List ℕ) → List·Memᴰ r rs → length r ≡ n) → st .found + length rs ≤ limit → st .at ≤ length (st .buf)
     → run limit st rs ≡ afterAll n st rs (fitting n (length rs) (length (st .buf) - st .at))
 unfolding run flat
-run-law limit n [] st h l i = start (fitting n 0 (length (st .buf) - st .at)) (fitting-none n (length (st .buf) - st .at))
+run-law limit n [] st h l i =
+    start (fitting n 0 (length (st .buf) - st .at)) (fitting-none n (length (st .buf) - st .at))
   where
     start : (s : ℕ) → s ≡ 0 → st ≡ afterAll n st [] s
     start zero e =
         state-eq (omega arith) (omega arith) (omega arith)
-        (sym (ap (λ (x : ℕ). take (st .at) (st .buf) ++ [] ++ drop x (st .buf)) (let z : st .at + 0 * n ≡ st .at = omega arith in z) ∙ ap (λ (x : List ℕ). x ++ drop (st .at) (st .buf)) (append-nil (take (st .at) (st .buf))) ∙ take-append-drop (st .at) (st .buf)))
+        (sym
+        (ap (λ (x : ℕ). take (st .at) (st .buf) ++ [] ++ drop x (st .buf)) (let z : st .at + 0 * n ≡ st .at = omega arith in z) ∙ ap
+        (λ (x : List ℕ). x ++ drop (st .at) (st .buf)) (append-nil (take (st .at) (st .buf))) ∙ take-append-drop (st .at) (st .buf)))
     start (suc s) e = absurd (omega arith)
 run-law limit n (r ∷ rs) st h l i = go (decLe (st .at + n) (length (st .buf))) (λ x a b. run-law limit n rs x (λ y m. h y (List·Memᴰ·tail m)) a b)
   where

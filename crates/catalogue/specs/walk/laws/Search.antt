@@ -18,10 +18,9 @@ use borrow.Author.Tests.{eqb-true}
 use Rattle.linear.specs.Basis.{insert, inserts, basisOf, Reduced, dim}
 use Rattle.linear.specs.Entry.{generator, chosen, generatorsIn, space, entries}
 use Rattle.linear.specs.Order.{Rising}
-use Rattle.linear.specs.Walk.{Next, spans, walk}
+use Rattle.linear.specs.Walk.{Next, spans, walk, Steps}
 use Rattle.linear.specs.Word.{word}
 use Rattle.linear.specs.laws.Insert.{insert-reduced}
-use Rattle.linear.specs.laws.Canonical.{Steps}
 use Rattle.linear.specs.laws.Walk.{walk-is, Free, walk-none, free-steps}
 use Rattle.residues.specs.children.Residues.{residues, known, withResidue}
 use Rattle.residues.specs.children.laws.Known.{known-yes, known-no}

@@ -1,13 +1,8 @@
--- `catalogue_reports::put_counts` meets its contract. Assumes nothing.
+-- `catalogue_text::report::put_counts` meets its contract. Assumes nothing.
 use borrow.Author.Needs.{needs}
 use Rattle.catalogue_text.specs.report.laws.Catalogue.{counts-put}
 use Rattle.catalogue_text.proofs.report.put_counts.Statement.{statement}
 use Rattle.catalogue_text.proofs.report.put_counts.Tie as tie
-use Rattle.catalogue_text.proofs.report.put_counts.Reads as reads
-use Rattle.catalogue_text.proofs.report.put_counts.Lts as lts
-use Rattle.printing.proofs.fields.put_field.Reads as put-field-reads
-use Rattle.printing.proofs.fields.put_sizes.Reads as put-sizes-reads
-use Rattle.printing.proofs.put_bytes.Reads as put-bytes-reads
 
 returns : tie.Need-returns
 returns c =
@@ -25,14 +20,5 @@ returns c =
 pub put-counts-spec : {M : Type 1} → statement M
 put-counts-spec =
     tie.close
-    (tie.spec
-    (λ c. search needs)
-    (λ c κs. search needs)
-    (λ c κs. search needs)
-    (λ c κs. search needs)
-    (λ c κs. search needs)
-    (λ c κs. search needs)
-    (λ c. search needs)
-    (λ c κs. search needs)
-    (λ c. search needs)
-    returns)
+    (tie.spec (λ c. search needs) (λ c κs. search needs) (λ c κs. search needs) (λ c κs. search needs) (λ c κs. search needs) (λ c κs. search needs)
+    (λ c. search needs) (λ c κs. search needs) (λ c. search needs) returns)

@@ -1,11 +1,11 @@
 -- The Catalogue's text from its pieces.
---   counts-put, names-then, catalogue-put   the first two lines, the entries under their names, the whole
---   records-at, beyond-ell                  the records at another place; the dimensions beyond ℓ
+--   counts-put, catalogue-put   the first two lines, the whole
+--   records-at, beyond-ell      the records at another place; the dimensions beyond ℓ
 -- Assumes nothing.
 use Prim.Native.Nat.{ℕ, _+_, _-_, _*_, _<_, _≤_}
 use mathlib.Core.Path.{_≡_, sym, subst}
 use mathlib.Core.Logic.{_⊎_, inl, inr}
-use mathlib.Core.List.{List, [], _∷_, _++_, append-assoc}
+use mathlib.Core.List.{List, [], _∷_}
 use native.Mathlib.Omega.{arith}
 use Rattle.text.specs.Line.{LF}
 use Rattle.printing.specs.fields.Piece.{Piece}
@@ -13,7 +13,6 @@ use Rattle.printing.specs.fields.laws.Pieces.{Put, piece, piece-then}
 use Rattle.kinds.specs.declared.Kind.{Kind}
 use Rattle.printing.specs.fields.Fields.{fieldText, sizesText}
 use Rattle.printing.specs.record_lines.RecordLines.{Records}
-use Rattle.printing.specs.record_lines.laws.Lines.{weaker}
 use Rattle.catalogue_text.specs.report.CatalogueReports.{entriesText, catalogueNames, entryNames, countsText, catalogueText}
 
 pub counts-put : (kind : Kind) (p q r k ell found shown a b c d e f : ℕ) (o o₁ o₂ o₃ o₄ o₅ o₆ : List ℕ) → Put o 0 catalogueNames o₁ a → Piece o₁ a (sizesText kind p q r k) 89 o₂ b
@@ -23,19 +22,14 @@ unfolding countsText
 counts-put kind p q r k ell found shown a b c d e f o o₁ o₂ o₃ o₄ o₅ o₆ h hs h₁ h₂ h₃ hl =
     piece-then (piece-then (piece-then (piece-then (piece-then (piece o 0 catalogueNames 29 o₁ a h (omega arith)) hs) h₁) h₂) h₃) (piece o₅ e (LF ∷ []) 1 o₆ f hl (omega arith))
 
-pub names-then : (xs : List ℕ) (at a e m : ℕ) (o o₁ o₂ : List ℕ) → Put o at entryNames o₁ a → Piece o₁ a xs m o₂ e → Piece o at (entryNames ++ xs) (22 + m) o₂ e
-names-then xs at a e m o o₁ o₂ h P = piece-then (piece o at entryNames 22 o₁ a h (omega arith)) P
-
-pub catalogue-put : (kind : Kind) (p q r k ell found shown a e d : ℕ) (listing o o₁ o₂ : List ℕ) → d ≡ k - ell → Piece o 0 (countsText kind p q r k ell found shown) 182 o₁ a
-    → Piece o₁ a (entryNames ++ entriesText d k 0 shown listing) (22 + (21 * (shown * (d + k)) + 25 * shown)) o₂ e
-    → Piece o 0 (catalogueText kind p q r k ell found shown listing) (204 + (21 * (shown * ((k - ell) + k)) + 25 * shown)) o₂ e
+pub catalogue-put : (kind : Kind) (p q r k ell found shown a b e d : ℕ) (listing o o₁ o₂ o₃ : List ℕ) → d ≡ k - ell
+    → Piece o 0 (countsText kind p q r k ell found shown) 182 o₁ a → Put o₁ a entryNames o₂ b
+    → Piece o₂ b (entriesText d k 0 shown listing) (21 * (shown * (d + k)) + 25 * shown) o₃ e
+    → Piece o 0 (catalogueText kind p q r k ell found shown listing) (204 + (21 * (shown * ((k - ell) + k)) + 25 * shown)) o₃ e
 unfolding catalogueText
-catalogue-put kind p q r k ell found shown a e d listing o o₁ o₂ z A B =
-    let B′ = subst (λ (x : ℕ). Piece o₁ a (entryNames ++ entriesText x k 0 shown listing) (22 + (21 * (shown * (x + k)) + 25 * shown)) o₂ e) z B in
-    let P = piece-then A B′ in
-    let t : countsText kind p q r k ell found shown ++ (entryNames ++ entriesText (k - ell) k 0 shown listing) ≡ countsText kind p q r k ell found shown ++ entryNames ++ entriesText (k - ell) k 0 shown listing =
-    sym (append-assoc (countsText kind p q r k ell found shown) entryNames (entriesText (k - ell) k 0 shown listing)) in
-    subst (λ (x : List ℕ). Piece o 0 x (204 + (21 * (shown * ((k - ell) + k)) + 25 * shown)) o₂ e) t (weaker o (countsText kind p q r k ell found shown ++ (entryNames ++ entriesText (k - ell) k 0 shown listing)) o₂ 0 e (182 + (22 + (21 * (shown * ((k - ell) + k)) + 25 * shown))) (204 + (21 * (shown * ((k - ell) + k)) + 25 * shown)) (omega arith) P)
+catalogue-put kind p q r k ell found shown a b e d listing o o₁ o₂ o₃ z A N B =
+    let B′ = subst (λ (x : ℕ). Piece o₂ b (entriesText x k 0 shown listing) (21 * (shown * (x + k)) + 25 * shown) o₃ e) z B in
+    piece-then (piece-then A (piece o₁ a entryNames 22 o₂ b N (omega arith))) B′
 
 pub records-at : (listing : List ℕ) (d d₀ k n at at₀ : ℕ) → Records listing d₀ k n at₀ → d ≡ d₀ → at ≤ 1000000 → Records listing d k n at
 records-at listing d d₀ k n at at₀ R e h =

@@ -1,77 +1,33 @@
--- `replies::put_check` meets its contract. Assumes nothing.
+-- `check_text::replies::put_check` meets its contract. Assumes nothing.
+use Prim.Native.Nat.{_≤_}
 use borrow.Author.Needs.{needs}
 use native.Mathlib.Omega.{arith}
 use Rattle.check_text.specs.replies.laws.Pieces.{check-put}
 use Rattle.check_text.proofs.replies.put_check.Statement.{statement}
 use Rattle.check_text.proofs.replies.put_check.Tie as tie
 
-put-sizes-requires : tie.Need-put-sizes-requires
-put-sizes-requires c κs =
-    let put-bytes = c .before .before .before .put-bytes in
-    omega (arith, put-bytes .ensures .0)
+-- where the counts, the verdict and the adders end
+sizes-end : (c : tie.After-put-sizes) → c .put-sizes .result ≤ 124
+sizes-end c = omega (arith, c .before .before .before .before .put-bytes .ensures .0, c .put-sizes .ensures .after, c .put-sizes .ensures .most)
 
-put-verdict-requires : tie.Need-put-verdict-requires
-put-verdict-requires c κs =
-    let put-bytes = c .before .before .before .before .before .before .before .put-bytes in
-    let put-sizes = c .before .before .before .put-sizes in
-    omega (arith, put-bytes .ensures .0, put-sizes .ensures .after, put-sizes .ensures .most)
+verdict-end : (c : tie.After-put-verdict) → c .put-verdict .result ≤ 151
+verdict-end c = omega (arith, sizes-end (c .before .before .before .before), c .put-verdict .ensures .after, c .put-verdict .ensures .most)
 
-put-field-requires : tie.Need-put-field-requires
-put-field-requires c κs =
-    let put-bytes = c .before .before .before .before .before .before .before .before .before .before .before .put-bytes in
-    let put-sizes = c .before .before .before .before .before .before .before .put-sizes in
-    let put-verdict = c .before .before .before .put-verdict in
-    omega (arith, put-bytes .ensures .0, put-sizes .ensures .after, put-sizes .ensures .most, put-verdict .ensures .after, put-verdict .ensures .most)
-
-put-bytes-requires-2 : tie.Need-put-bytes-requires-2
-put-bytes-requires-2 c κs =
-    let far = c .before .before .before .before .before .before .before .before .before .before .before .before in
-    let the-put-bytes = far .before .before .before .before .put-bytes in
-    let the-put-sizes = c .before .before .before .before .before .before .before .before .before .before .before .before .put-sizes in
-    let the-put-verdict = c .before .before .before .before .before .before .before .before .put-verdict in
-    let the-put-field = c .before .before .before .before .put-field in
-    let put-bytes = the-put-bytes in
-    let put-sizes = the-put-sizes in
-    let put-verdict = the-put-verdict in
-    let put-field = the-put-field in
-    omega (
-      arith,
-      put-bytes .ensures .0,
-      put-sizes .ensures .after,
-      put-sizes .ensures .most,
-      put-verdict .ensures .after,
-      put-verdict .ensures .most,
-      put-field .ensures .after,
-      put-field .ensures .most,
-    )
+adders-end : (c : tie.After-put-field) → c .put-field .result ≤ 172
+adders-end c = omega (arith, verdict-end (c .before .before .before .before), c .put-field .ensures .after, c .put-field .ensures .most)
 
 returns : tie.Need-returns
 returns c =
-    let far = c .before .before .before .before .before .before .before .before .before .before .before .before in
-    let the-args = far .before .before .before .before .before .before .before .before .before .before .before .args in
-    let the-put-bytes = far .before .before .before .before .before .before .before .put-bytes in
-    let the-put-sizes = far .before .before .before .put-sizes in
-    let the-put-verdict = c .before .before .before .before .before .before .before .before .before .before .before .put-verdict in
-    let the-put-field = c .before .before .before .before .before .before .before .put-field in
-    let args = the-args in
-    let put-bytes = the-put-bytes in
-    let put-sizes = the-put-sizes in
-    let put-verdict = the-put-verdict in
-    let put-field = the-put-field in
-    let put-bytes2 = c .before .before .put-bytes2 in
-    check-put (args .kind) _ _ _ _ (args .v) _ _ _ _ _ _ _ _ _ _ _ _ (put-bytes .ensures) (put-sizes .ensures) (put-verdict .ensures)
-    (put-field .ensures) (put-bytes2 .ensures)
+    let f = c .before .before .before .before .before .before .before in
+    let v = f .before .before .before .before in
+    let s = v .before .before .before .before in
+    let n = s .before .before .before .before in
+    check-put (n .before .before .before .before .args .kind) _ _ _ _ (n .before .before .before .before .args .v) _ _ _ _ _ _ _ _ _ _ _ _ (n .put-bytes .ensures) (s .put-sizes .ensures)
+    (v .put-verdict .ensures) (f .put-field .ensures) (c .before .before .put-bytes2 .ensures)
 
 pub put-check-spec : {M : Type 1} → statement M
 put-check-spec =
     tie.close
-    (tie.spec
-    (λ c. search needs)
-    (λ c κs. search needs)
-    put-sizes-requires
-    put-verdict-requires
-    put-field-requires
-    (λ c. search needs)
-    put-bytes-requires-2
-    (λ c. search needs)
-    returns)
+    (tie.spec (λ c. search needs) (λ c κs. search needs) (λ c κs. omega (arith, c .before .before .before .put-bytes .ensures .0))
+    (λ c κs. omega (arith, sizes-end (c .before .before .before))) (λ c κs. omega (arith, verdict-end (c .before .before .before)))
+    (λ c. search needs) (λ c κs. omega (arith, adders-end (c .before .before .before .before))) (λ c. search needs) returns)

@@ -1,12 +1,9 @@
--- `replies::put_verdict` meets its contract. Assumes nothing.
+-- `check_text::replies::put_verdict` meets its contract. Assumes nothing.
 use borrow.Author.Needs.{needs}
 use native.Mathlib.Omega.{arith}
 use Rattle.check_text.specs.replies.laws.Pieces.{right-put, wrong-put}
 use Rattle.check_text.proofs.replies.put_verdict.Statement.{statement}
 use Rattle.check_text.proofs.replies.put_verdict.Tie as tie
-
-enum-told : tie.Need-enum-told
-enum-told c = search needs
 
 put-field-requires : tie.Need-put-field-requires
 put-field-requires c κs =
@@ -30,15 +27,5 @@ returns-2 c =
 pub put-verdict-spec : {M : Type 1} → statement M
 put-verdict-spec =
     tie.close
-    (tie.spec
-    enum-told
-    (λ c. search needs)
-    (λ c κs. search needs)
-    (λ c. search needs)
-    (λ c. search needs)
-    (λ c κs. search needs)
-    put-field-requires
-    (λ c. search needs)
-    returns
-    (λ c. search needs)
-    returns-2)
+    (tie.spec (λ c. search needs) (λ c. search needs) (λ c κs. search needs) (λ c. search needs) (λ c. search needs) (λ c κs. search needs)
+    put-field-requires (λ c. search needs) returns (λ c. search needs) returns-2)

@@ -1,4 +1,4 @@
--- `products::mask` meets its contract. Assumes nothing.
+-- `forms::products::mask` meets its contract. Assumes nothing.
 use mathlib.Core.Path.{_≡_, ap, _∙_}
 use Prim.Native.Nat.{ℕ, _-_, _^_, min}
 use native.Mathlib.Omega.{arith}

@@ -1,4 +1,4 @@
--- `products::product` meets its contract: after i turns the form has the rows of the first i variables a. Assumes nothing.
+-- `forms::products::product` meets its contract: after i turns the form has the rows of the first i variables a. Assumes nothing.
 use mathlib.Core.Path.{_≡_, ap, _∙_}
 use mathlib.Core.Logic.{⊎-elim}
 use Prim.Native.Nat.{ℕ, _-_, _^_, min}
@@ -87,16 +87,4 @@ returns c =
 pub product-spec : {M : Type 1} → statement M
 product-spec =
     tie.close
-    (tie.spec
-    Inv-loop
-    μ-loop
-    width-requires
-    mask-requires
-    loop-holds
-    shr-if1
-    shl-form
-    add-i
-    add-at
-    loop-less
-    loop-again
-    returns)
+    (tie.spec Inv-loop μ-loop width-requires mask-requires loop-holds shr-if1 shl-form add-i add-at loop-less loop-again returns)

@@ -1,4 +1,4 @@
--- `products::width` meets its contract: a quotient tells whether the product exceeds 64. Assumes nothing.
+-- `forms::products::width` meets its contract: a quotient tells whether the product exceeds 64. Assumes nothing.
 use mathlib.Core.Path.{_≡_, ap, _∙_}
 use Prim.Native.Nat.{ℕ, _*_, _/_, _<_, _≤_, min}
 use native.Mathlib.Nat.{div-lt-iff-lt-mul, le-div-iff-mul-le, mul-zero}

@@ -1,6 +1,6 @@
--- `sums::adders_of` meets its contract. Assumes nothing.
+-- `formula_check::sums::adders_of` meets its contract. Assumes nothing.
 use borrow.Author.Needs.{needs}
--- `sums::adders_of` meets its contract. Assumes nothing.
+-- `formula_check::sums::adders_of` meets its contract. Assumes nothing.
 use mathlib.Core.Path.{_≡_}
 use mathlib.Core.Logic.{⊎-elim}
 use Prim.Native.Nat.{_+_, _-_, _*_, _≤_}
@@ -50,16 +50,5 @@ returns c =
 pub adders-of-spec : {M : Type 1} → statement M
 adders-of-spec =
     tie.close
-    (tie.spec
-    Inv-loop
-    μ-loop
-    loop-holds
-    (λ c. omega arith)
-    (λ c. omega arith)
-    (λ c κs. search needs)
-    (λ c. omega arith)
-    add-sum
-    (λ c. omega arith)
-    (λ c. omega arith)
-    loop-again
-    returns)
+    (tie.spec Inv-loop μ-loop loop-holds (λ c. omega arith) (λ c. omega arith) (λ c κs. search needs) (λ c. omega arith) add-sum (λ c. omega arith)
+    (λ c. omega arith) loop-again returns)

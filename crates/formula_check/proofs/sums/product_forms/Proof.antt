@@ -1,6 +1,6 @@
--- `sums::product_forms` meets its contract. Assumes nothing.
+-- `formula_check::sums::product_forms` meets its contract. Assumes nothing.
 use borrow.Author.Needs.{needs}
--- `sums::product_forms` meets its contract. Assumes nothing.
+-- `formula_check::sums::product_forms` meets its contract. Assumes nothing.
 use mathlib.Core.Path.{_≡_, refl, sym, ap, _∙_}
 use mathlib.Core.List.{_++_}
 use Prim.Native.Nat.{ℕ, _+_, _-_, _≤_}
@@ -54,18 +54,5 @@ returns c =
 pub product-forms-spec : {M : Type 1} → statement M
 product-forms-spec =
     tie.close
-    (tie.spec
-    Inv-loop
-    μ-loop
-    loop-holds
-    (λ c. omega arith)
-    (λ c. omega arith)
-    (λ c. omega arith)
-    (λ c. omega arith)
-    (λ c κs. search needs)
-    (λ c. omega arith)
-    (λ c. omega arith)
-    (λ c. omega arith)
-    (λ c. omega arith)
-    loop-again
-    returns)
+    (tie.spec Inv-loop μ-loop loop-holds (λ c. omega arith) (λ c. omega arith) (λ c. omega arith) (λ c. omega arith) (λ c κs. search needs)
+    (λ c. omega arith) (λ c. omega arith) (λ c. omega arith) (λ c. omega arith) loop-again returns)

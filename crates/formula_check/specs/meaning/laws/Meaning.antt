@@ -14,22 +14,22 @@ use lib.Dec.{eqb, ltb}
 use lib.Bits.{xor-lt}
 use lib.Pow.{pow-pos}
 use borrow.Author.Tests.{eq-eqb, ne-eqb, eqb-true, not-false}
-use Rattle.linear.specs.Bit.{bit}
+use Rattle.linear.specs.Bit.{bit, xorB}
 use Rattle.linear.specs.Word.{scaleW}
-use Rattle.linear.specs.laws.Bit.{xorB}
 use Rattle.kinds.specs.Kinds.{kindNumbered}
 use Rattle.kinds.specs.Sizes.{sizes}
-use Rattle.kinds.specs.SizeLaws.{sizes-bounds}
+use Rattle.kinds.specs.laws.Sizes.{sizes-bounds}
 use Rattle.kinds.specs.Refusal.{accepted, need}
-use Rattle.kinds.specs.RefusalLaws.{accepted-inj, need-inv, refuse-inv, neither}
+use Rattle.kinds.specs.laws.Refusal.{accepted-inj, need-inv, refuse-inv, neither}
 use Rattle.words.specs.Masks.{wide, zeroIn}
 use Rattle.kinds.specs.declared.Kind.{Kind}
 use Rattle.kinds.specs.declared.Kind.the-variants as kind
-use Rattle.forms.specs.products.Product.{productForm, product-below}
+use Rattle.forms.specs.products.Product.{productForm}
+use Rattle.forms.specs.products.laws.Product.{product-below}
 use Rattle.maps.specs.Textbook.{output}
 use Rattle.maps.specs.Target.{value, targetForm}
 use Rattle.maps.specs.Meaning.{target-value, target-below, value-xor, value-zero, value-product, value-equal, value-differs}
-use Rattle.formula_check.specs.Formula.{formulaOutput, firstWrong, adders, known, lengths, judged, check}
+use Rattle.formula_check.specs.Formula.{formulaOutput, firstWrong, adders, knownMap, lengths, judged, check}
 use Rattle.formula_check.specs.sums.Sums.{productForms}
 use Rattle.forms.specs.Row.{rowForm}
 use Rattle.formula_check.specs.meaning.Meaning.{gives, Agrees, Right, FirstDiffers, Means}
@@ -206,7 +206,7 @@ module _ (kd : Kind) (p q r n m : ℕ) (xs ys rows : List ℕ) (sized : sizes kd
 
 -- ---- an accepted reply
 -- a kind that has formulae is the one named, and not list
-known-inv : (o : Option Kind) (kd : Kind) → known o ≡ some kd → (o ≡ some kd) × (kd ≢ kind.List)
+known-inv : (o : Option Kind) (kd : Kind) → knownMap o ≡ some kd → (o ≡ some kd) × (kd ≢ kind.List)
 known-inv none kd e = absurd (let z : _≡_ {A = ℕ} 0 1 = cc in omega arith)
 known-inv (some kind.Poly) kd e = (e, λ z. absurd (let z : _≡_ {A = ℕ} 0 1 = cc in omega arith))
 known-inv (some kind.Short) kd e = (e, λ z. absurd (let z : _≡_ {A = ℕ} 0 1 = cc in omega arith))
@@ -233,9 +233,11 @@ judged-inv kd p q r n m u k xs ys rows x e =
 
 pub check-means : (number p q r k : ℕ) (xs ys rows : List ℕ) (v : Option ℕ) (w : ℕ) → check number p q r k xs ys rows ≡ accepted (v, w) → Means number p q r k xs ys rows v w
 unfolding check
-check-means number p q r k xs ys rows v w e = go (need-inv 2 (known (kindNumbered number)) _ (v, w) e)
+check-means number p q r k xs ys rows v w e =
+    go (need-inv 2 (knownMap (kindNumbered number)) _ (v, w) e)
   where
-    step : (kd : Kind) → known (kindNumbered number) ≡ some kd → (z : ℕ × ℕ × ℕ) → sizes kd p q r ≡ some z → judged kd p q r (z .0) (z .1) (z .2) k xs ys rows ≡ accepted (v, w) → Means number p q r k xs ys rows v w
+    step : (kd : Kind) → knownMap (kindNumbered number) ≡ some kd → (z : ℕ × ℕ × ℕ) → sizes kd p q r ≡ some z → judged kd p q r (z .0) (z .1) (z .2) k
+        xs ys rows ≡ accepted (v, w) → Means number p q r k xs ys rows v w
     step kd K z S j =
         let i = judged-inv kd p q r (z .0) (z .1) (z .2) k xs ys rows (v, w) j in
         let l = lengths-inv k (z .2) xs ys rows (i .0) in
@@ -251,10 +253,12 @@ check-means number p q r k xs ys rows v w e = go (need-inv 2 (known (kindNumbere
           sized = T;
           products = l .0;
           pairs = l .1;
-          right = subst (λ (o : Option ℕ). (o ≡ none) ↔ Right kd p q r (z .0) (z .1) xs ys rows) E (right-iff kd p q r (z .0) (z .1) xs ys rows T (N .1));
-          wrong = λ t. subst (λ (o : Option ℕ). (o ≡ some t) ↔ FirstDiffers kd p q r (z .0) (z .1) xs ys rows t) E (wrong-iff kd p q r (z .0) (z .1) xs ys rows T (N .1) t);
+          right = subst (λ (o : Option ℕ). (o ≡ none) ↔ Right kd p q r (z .0) (z .1) xs ys rows) E
+              (right-iff kd p q r (z .0) (z .1) xs ys rows T (N .1));
+          wrong = λ t. subst (λ (o : Option ℕ). (o ≡ some t) ↔ FirstDiffers kd p q r (z .0) (z .1) xs ys rows t) E
+              (wrong-iff kd p q r (z .0) (z .1) xs ys rows T (N .1) t);
           cost = sym (ap (λ (x : Option ℕ × ℕ). x .1) (i .1));
         }
 
-    go : (kd : Kind) × (known (kindNumbered number) ≡ some kd) × ((need 3 (sizes kd p q r) λ z. judged kd p q r (z .0) (z .1) (z .2) k xs ys rows) ≡ accepted (v, w)) → Means number p q r k xs ys rows v w
+    go : (kd : Kind) × (knownMap (kindNumbered number) ≡ some kd) × ((need 3 (sizes kd p q r) λ z. judged kd p q r (z .0) (z .1) (z .2) k xs ys rows) ≡ accepted (v, w)) → Means number p q r k xs ys rows v w
     go (kd, K, f) = let s = need-inv 3 (sizes kd p q r) (λ z. judged kd p q r (z .0) (z .1) (z .2) k xs ys rows) (v, w) f in step kd K (s .0) (s .1) (s .2)

@@ -1,93 +1,39 @@
--- `lines::product_line` meets its contract. Assumes nothing.
+-- `formula_files::lines::product_line` meets its contract. Assumes nothing.
 use native.Mathlib.Nat.{le-refl}
 use borrow.Author.Needs.{needs}
-use mathlib.Core.Path.{ap, _∙_}
+use Prim.Native.Nat.{ℕ, _+_}
+use mathlib.Core.List.{List}
 use native.Mathlib.Omega.{arith}
-use Rattle.text.specs.Views.{seenField}
-use Rattle.text.specs.laws.Line.{field-from, field-no, field-fit, field-fits}
+use Rattle.text.specs.Line.{maskField, maskLine}
+use Rattle.text.specs.laws.Line.{FieldAt, field-first, field-none, field-next, field-no}
 use Rattle.formula_files.specs.lines.laws.Loops.{product-first, product-second, product-is}
 use Rattle.formula_files.proofs.lines.product_line.Statement.{statement}
 use Rattle.formula_files.proofs.lines.product_line.Tie as tie
 
-enum-known-x : tie.Need-enum-known-x
-enum-known-x c = c .match .keys1
+abbrev s : tie.After-known-told → List ℕ
+s c = c .before .before .before .before .before .args .s .now
 
-enum-told : tie.Need-enum-told
-enum-told c = c .match .keys2
+first : (c : tie.After-known-told) → FieldAt maskField (s c) 0 (c .before .x .given .0 .0) (c .before .x .given .0 .1 .0)
+first c = field-first maskField _ _ _ _ (c .before .before .before .field-at .ensures) (c .before .x .given .1)
 
-returns : tie.Need-returns
-returns c =
-    let field-at = c .before .before .field-at in
-    let args = c .before .before .before .before .args in
-    (product-first _ (field-at .ensures .0 ∙ ap (seenField (args .s .now)) (c .enum-told .given .1)), omega arith)
-
-sub-field-at : tie.Need-sub-field-at
-sub-field-at c =
-    let field-at = c .before .before .before .field-at in
-    (field-fit _ _ _ _ (field-at .ensures .1) (c .before .x .given .1))
-
-part-field-at-start : tie.Need-part-field-at-start
-part-field-at-start c =
-    let field-at = c .before .before .before .field-at in
-    (field-fit _ _ _ _ (field-at .ensures .1) (c .before .x .given .1))
-
-part-field-at-end : tie.Need-part-field-at-end
-part-field-at-end c = le-refl _
-
-enum-known-y : tie.Need-enum-known-y
-enum-known-y c = c .match2 .keys1
-
-enum-told-2 : tie.Need-enum-told-2
-enum-told-2 c = c .match2 .keys2
+second : (c : tie.After-known-told2) →
+    let f = c .before .before .before .before .before in
+    let u = f .before .x .given .0 .1 .0 in
+    FieldAt maskLine (s f) u (c .before .y .given .0 .0) (u + c .before .y .given .0 .1 .0)
+second c =
+    let f = c .before .before .before .before .before in
+    field-next maskLine (s f) _ _ _ _ (c .before .before .before .field-at2 .ensures) (c .before .y .given .1) (first f .fits)
 
 returns-2 : tie.Need-returns-2
 returns-2 c =
-    let field-at = c .before .before .before .before .before .before .before .field-at in
-    let args = c .before .before .before .before .before .before .before .before .before .args in
-    let x = c .before .before .before .before .before .x in
-    let field-at2 = c .before .before .field-at2 in
-    (product-second _ _ _ (field-at .ensures .0 ∙ ap (seenField (args .s .now)) (x .given .1)) (field-no _ _ _ (args .s .now) _ _ (field-at2 .ensures .0) (c .enum-told2 .given .1)), omega arith)
-
-add-t9 : tie.Need-add-t9
-add-t9 c =
-    let args = c .before .before .before .before .before .before .before .before .before .before .args in
-    let field-at2 = c .before .before .before .field-at2 in
-    let field-at = c .before .before .before .before .before .before .before .before .field-at in
-    let x = c .before .before .before .before .before .before .x in
-    let good = c .before .before .before .before .before .before .before .before .before .before .good in
-    let h = (field-fits (args .s .now) _ _ _ _ (field-at2 .ensures .1) (c .before .y .given .1) (field-fit _ _ _ _ (field-at .ensures .1) (x .given .1))) in
-    omega (arith, h, good)
-
-returns-3 : tie.Need-returns-3
-returns-3 c =
-    let the-args = c .before .before .before .before .before .before .before .before .before .before .args in
-    let the-field-at = c .before .before .before .before .before .before .before .before .field-at in
-    let the-x = c .before .before .before .before .before .before .x in
-    let the-field-at2 = c .before .before .before .field-at2 in
-    let field-at = the-field-at in
-    let args = the-args in
-    let x = the-x in
-    let field-at2 = the-field-at2 in (
-      product-is _ _ _ _ _ (field-at .ensures .0 ∙ ap (seenField (args .s .now)) (x .given .1))
-          (field-from _ _ _ (args .s .now) _ _ _ _ (field-at2 .ensures .0) (c .before .y .given .1)),
-      (field-fits (args .s .now) _ _ _ _ (field-at2 .ensures .1) (c .before .y .given .1)
-          (field-fit _ _ _ _ (field-at .ensures .1) (x .given .1))),
-    )
+    let f = c .before .before .before .before in
+    (product-second _ _ _ (first f .is) (field-no maskLine (s f) _ _ (c .before .before .field-at2 .ensures .0) (c .enum-told2 .given .1)), omega arith)
 
 pub product-line-spec : {M : Type 1} → statement M
 product-line-spec =
     tie.close
-    (tie.spec
-    (λ c κs. search needs)
-    enum-known-x
-    enum-told
-    returns
-    sub-field-at
-    part-field-at-start
-    part-field-at-end
-    (λ c κs. search needs)
-    enum-known-y
-    enum-told-2
-    returns-2
-    add-t9
-    returns-3)
+    (tie.spec (λ c κs. search needs) (λ c. c .match .keys1) (λ c. c .match .keys2)
+    (λ c. (product-first _ (field-none maskField _ _ (c .before .before .field-at .ensures .0) (c .enum-told .given .1)), omega arith))
+    (λ c. first c .fits) (λ c. first c .fits) (λ c. le-refl _) (λ c κs. search needs) (λ c. c .match2 .keys1) (λ c. c .match2 .keys2) returns-2
+    (λ c. omega (arith, second c .fits, c .before .before .before .before .before .before .before .before .before .before .good))
+    (λ c. (product-is _ _ _ _ _ (first (c .before .before .before .before .before) .is) (second c .is), second c .fits)))

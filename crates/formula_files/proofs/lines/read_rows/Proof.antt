@@ -1,14 +1,16 @@
--- `lines::read_rows` meets its contract. The invariant: the lines that are left read as the whole. Assumes nothing.
+-- `formula_files::lines::read_rows` meets its contract. The invariant: the lines that are left read as the whole. Assumes nothing.
 use native.Mathlib.Nat.{le-refl}
 use mathlib.Core.Path.{_≡_, refl, _∙_}
-use Prim.Native.Nat.{_≤_, _-_}
+use Prim.Native.Nat.{_+_, _≤_, _-_}
 use native.Mathlib.Omega.{arith}
 use borrow.Author.Needs.{needs}
 use mathlib.Core.Bool.{false}
 use native.Mathlib.Nat.{sub-zero}
 use lib.ListN.{length, drop}
-use Rattle.text.specs.laws.Line.{field-from, field-no, field-fits}
-use Rattle.formula_files.specs.lines.laws.Loops.{rowsFrom, rows-turn, rows-stop, rows-end}
+use Rattle.text.specs.Line.{maskLine}
+use Rattle.text.specs.laws.Line.{FieldAt, field-next, field-no}
+use Rattle.formula_files.specs.lines.Buffered.{rowsFrom}
+use Rattle.formula_files.specs.lines.laws.Loops.{rows-turn, rows-stop, rows-end}
 use Rattle.formula_files.proofs.lines.read_rows.Statement.{statement}
 use Rattle.formula_files.proofs.lines.read_rows.Tie as tie
 
@@ -20,85 +22,35 @@ Inv-loop s t k d₀ i₀ at₀ wide₀ d i at wide =
 abbrev μ-loop : tie.MeasureT-loop
 μ-loop s t k d₀ i₀ at₀ wide₀ d i at wide = t - i
 
-loop-holds : tie.Need-loop-holds Inv-loop μ-loop
-loop-holds c = (omega arith, omega arith, refl, rw sub-zero)
-
-part-field-at-end : tie.Need-part-field-at-end Inv-loop μ-loop
-part-field-at-end c = le-refl _
-
-enum-known-x : tie.Need-enum-known-x Inv-loop μ-loop
-enum-known-x c = c .match .keys1
-
-enum-told : tie.Need-enum-told Inv-loop μ-loop
-enum-told c = c .match .keys2
-
-same-length : tie.Need-same-length Inv-loop μ-loop
-same-length c =
-    let loop = c .before .before .before .before .before .loop in
-    loop .inv .2
+-- the row that is read
+row : (c : tie.After-known-told Inv-loop μ-loop) →
+    let loop = c .before .before .before .before .before .before .loop in
+    FieldAt maskLine (c .before .before .before .before .before .before .before .before .before .args .s .now) (loop .at) (c .before .x .given .0 .0) (loop .at + c .before .x .given .0 .1 .0)
+row c =
+    let loop = c .before .before .before .before .before .before .loop in
+    field-next maskLine (c .before .before .before .before .before .before .before .before .before .args .s .now) (loop .at) _ _ _
+    (c .before .before .before .field-at .ensures) (c .before .x .given .1) (omega (arith, loop))
 
 returns : tie.Need-returns Inv-loop μ-loop
 returns c =
-    let loop = c .before .before .before .before .before .loop in
-    let args = c .before .before .before .before .before .before .before .before .args in
-    let loop-test = c .before .before .before .before .loop-test in
-    let field-at = c .before .before .field-at in
-    (loop .inv .3 ∙ rows-stop _ _ (loop .at) _ (args .s .now) _ _ (loop-test .taken) (field-no _ _ _ (args .s .now) (loop .at) _ (field-at .ensures .0) (c .enum-told .given .1)), omega arith)
-
-put-word-requires : tie.Need-put-word-requires Inv-loop μ-loop
-put-word-requires c κs = tt
-
-wider-requires : tie.Need-wider-requires Inv-loop μ-loop
-wider-requires c κs = tt
-
-add-at : tie.Need-add-at Inv-loop μ-loop
-add-at c =
-    let args = c .before .before .before .before .before .before .before .before .before .before .before .before .before .before .args in
-    let loop = c .before .before .before .before .before .before .before .before .before .before .before .loop in
-    let field-at = c .before .before .before .before .before .before .before .before .field-at in
-    let x = c .before .before .before .before .before .before .x in
-    let good = c .before .before .before .before .before .before .before .before .before .before .before .before .before .before .good in
-    let h = field-fits (args .s .now) (loop .at) _ _ _ (field-at .ensures .1) (x .given .1) (omega (arith, loop)) in
-    omega (arith, h, good)
-
-add-i : tie.Need-add-i Inv-loop μ-loop
-add-i c =
-    let loop = c .before .before .before .before .before .before .before .before .before .before .before .loop in
-    let loop-test = c .before .before .before .before .before .before .before .before .before .before .loop-test in
-    let fits = c .before .before .before .before .before .before .before .before .before .before .before .before .before .before .fits in
-    omega (arith, loop, loop-test, fits)
-
-loop-less : tie.Need-loop-less Inv-loop μ-loop
-loop-less c =
-    let loop = c .before .before .before .before .before .before .before .before .before .before .before .loop in
-    let loop-test = c .before .before .before .before .before .before .before .before .before .before .loop-test in
-    omega (arith, loop, loop-test)
+    let z = c .before .before .before .before in
+    let s = z .before .before .before .before .args .s .now in
+    let at = z .before .loop .at in
+    let no = field-no maskLine s at _ (c .before .before .field-at .ensures .0) (c .enum-told .given .1) in
+    (z .before .loop .inv .3 ∙ rows-stop _ _ at _ s _ _ (z .loop-test .taken) no, omega arith)
 
 loop-again : tie.Need-loop-again Inv-loop μ-loop
 loop-again c =
-    let far = c .before .before .before .before .before .before .before .before .before .before .before .before in
-    let the-args = far .before .before .args in
-    let the-loop = c .before .before .before .before .before .before .before .before .before .before .before .loop in
-    let the-loop-test = c .before .before .before .before .before .before .before .before .before .before .loop-test in
-    let the-field-at = c .before .before .before .before .before .before .before .before .field-at in
-    let the-x = c .before .before .before .before .before .before .x in
-    let the-put-word = c .before .before .before .put-word in
-    let args = the-args in
-    let loop = the-loop in
-    let field-at = the-field-at in
-    let x = the-x in
-    let loop-test = the-loop-test in
-    let put-word = the-put-word in
-    let h = field-fits (args .s .now) (loop .at) _ _ _ (field-at .ensures .1) (x .given .1) (omega (arith, loop)) in (
+    let put-word = c .before .before .before .put-word in
+    let z = c .before .before .before .before .before in
+    let loop = z .before .before .before .before .before .before .loop in
+    let loop-test = z .before .before .before .before .before .loop-test in (
       omega (arith, loop-test),
-      h,
+      row z .fits,
       put-word .kept .0 ∙ loop .inv .2,
-      loop .inv .3 ∙ rows-turn _ _ (loop .at) _ (args .s .now) _ _ _ _ _ _ (loop-test .taken)
-          (field-from _ _ _ (args .s .now) (loop .at) _ _ _ (field-at .ensures .0) (x .given .1)) (put-word .ensures) (c .wider .ensures),
+      loop .inv .3 ∙ rows-turn _ _ (loop .at) _ (z .before .before .before .before .before .before .before .before .before .args .s .now) _ _ _ _ _ _
+          (loop-test .taken) (row z .is) (put-word .ensures) (c .wider .ensures),
     )
-
-same-length-2 : tie.Need-same-length-2 Inv-loop μ-loop
-same-length-2 c = c .before .loop .inv .2
 
 returns-2 : tie.Need-returns-2 Inv-loop μ-loop
 returns-2 c =
@@ -110,22 +62,14 @@ pub read-rows-spec : {M : Type 1} → statement M
 read-rows-spec =
     tie.close
     (tie.spec
-    Inv-loop
-    μ-loop
-    loop-holds
-    (λ c. search needs)
-    (λ c. search needs)
-    part-field-at-end
-    (λ c κs. search needs)
-    enum-known-x
-    enum-told
-    same-length
-    returns
-    put-word-requires
-    wider-requires
-    add-at
-    add-i
-    loop-less
+    Inv-loop μ-loop
+    (λ c. (omega arith, omega arith, refl, rw sub-zero))
+    (λ c. search needs) (λ c. search needs) (λ c. le-refl _) (λ c κs. search needs) (λ c. c .match .keys1) (λ c. c .match .keys2)
+    (λ c. c .before .before .before .before .before .loop .inv .2)
+    returns (λ c κs. tt) (λ c κs. tt)
+    (λ c. let z = c .before .before .before .before .before in omega (arith, row z .fits, z .before .before .before .before .before .before .before .before .before .good))
+    (λ c. let z = c .before .before .before .before .before .before .before .before .before .before in omega (arith, z .before .loop, z .loop-test, z .before .before .before .before .fits))
+    (λ c. let z = c .before .before .before .before .before .before .before .before .before .before in omega (arith, z .before .loop, z .loop-test))
     loop-again
-    same-length-2
+    (λ c. c .before .loop .inv .2)
     returns-2)

@@ -1,34 +1,23 @@
--- `formula_refusals::refusal` meets its contract. Assumes nothing.
-use mathlib.Core.Path.{sym, _∙_}
+-- `formula_files::refusals::refusal` meets its contract. Assumes nothing.
+use mathlib.Core.Path.{_≡_, sym, _∙_}
+use mathlib.Core.Bool.{false}
+use lib.Dec.{ltb}
 use borrow.Author.Tests.{lt-ltb, le-ltb}
 use Rattle.formula_files.proofs.refusals.refusal.Statement.{statement}
 use Rattle.formula_files.proofs.refusals.refusal.Tie as tie
+use Rattle.kinds.specs.Limits.{mostProducts}
 
-returns : tie.Need-returns
-returns c = rw (c .if1 .taken)
-
-returns-2 : tie.Need-returns-2
-returns-2 c = rw (c .before .if1 .left, c .if2 .taken)
-
-returns-3 : tie.Need-returns-3
-returns-3 c = rw (c .before .before .if1 .left, c .before .if2 .left, lt-ltb 64 (c .before .before .before .args .k) (c .if3 .taken))
-
-too-short-requires : tie.Need-too-short-requires
-too-short-requires c κs = tt
-
-returns-4 : tie.Need-returns-4
-returns-4 c =
-    let args = c .before .before .before .before .before .args in
-    let if1 = c .before .before .before .before .if1 in
-    let if2 = c .before .before .before .if2 in
-    rw (if1 .left, if2 .left, le-ltb 64 (args .k) (c .before .before .if3 .left), sym (c .before .too-short .ensures) ∙ c .if4 .taken)
-
-returns-5 : tie.Need-returns-5
-returns-5 c =
-    let args = c .before .before .before .before .before .args in
-    let if1 = c .before .before .before .before .if1 in
-    let if2 = c .before .before .before .if2 in
-    rw (if1 .left, if2 .left, le-ltb 64 (args .k) (c .before .before .if3 .left), sym (c .before .too-short .ensures) ∙ c .if4 .left)
+-- none of 6 to 8 applies
+none-yet : (c : tie.Else3) → let args = c .before .before .before .args in (args .wide ≡ false) × (args .zero ≡ false) × (ltb mostProducts (args .k) ≡ false)
+none-yet c = (c .before .before .if1 .left, c .before .if2 .left, le-ltb mostProducts (c .before .before .before .args .k) (c .if3 .left))
 
 pub refusal-spec : {M : Type 1} → statement M
-refusal-spec = tie.close (tie.spec returns returns-2 returns-3 too-short-requires returns-4 returns-5)
+refusal-spec =
+    tie.close
+    (tie.spec
+    (λ c. rw (c .if1 .taken))
+    (λ c. rw (c .before .if1 .left, c .if2 .taken))
+    (λ c. rw (c .before .before .if1 .left, c .before .if2 .left, lt-ltb mostProducts (c .before .before .before .args .k) (c .if3 .taken)))
+    (λ c κs. tt)
+    (λ c. let n = none-yet (c .before .before) in rw (n .0, n .1, n .2, sym (c .before .too-short .ensures) ∙ c .if4 .taken))
+    (λ c. let n = none-yet (c .before .before) in rw (n .0, n .1, n .2, sym (c .before .too-short .ensures) ∙ c .if4 .left)))

@@ -1,4 +1,4 @@
--- `formula_refusals::too_short` meets its contract. Assumes nothing.
+-- `formula_files::refusals::too_short` meets its contract. Assumes nothing.
 use borrow.Author.Tests.{lt-ltb, le-ltb}
 use Rattle.formula_files.proofs.refusals.too_short.Statement.{statement}
 use Rattle.formula_files.proofs.refusals.too_short.Tie as tie

@@ -20,7 +20,8 @@ use Rattle.text.specs.Line.{nameLine}
 use Rattle.text.specs.laws.Line.{read-at}
 use Rattle.formula_files.specs.lines.Formula.{products, rows, body, ended, productNames, rowName}
 use Rattle.formula_files.specs.lines.Views.{seenProducts, bytesProducts, seenRows, seenLast}
-use Rattle.formula_files.specs.lines.laws.Loops.{productsFrom, rowsFrom, products-from, rows-from}
+use Rattle.formula_files.specs.lines.Buffered.{productsFrom, rowsFrom, productsPart, rowsPart, bodyRun}
+use Rattle.formula_files.specs.lines.laws.Loops.{products-from, rows-from}
 use Rattle.formula_files.specs.declared.lines.Products.{Products}
 use Rattle.formula_files.specs.declared.lines.Products.the-variants as pds
 use Rattle.formula_files.specs.declared.lines.Rows.{Rows}
@@ -29,23 +30,6 @@ use Rattle.formula_files.specs.declared.lines.LastRows.{LastRows}
 use Rattle.formula_files.specs.declared.lines.LastRows.the-variants as last
 
 -- ---- the body, as the code reads it
-unfoldable pub productsPart : (n m k : ℕ) (s a b : List ℕ) → Option (List ℕ × List ℕ × List ℕ × Bool × Bool)
-productsPart n m k s a b = do
-  u ← nameLine productNames s
-  productsFrom n m k u 0 a b false false
-
-unfoldable pub rowsPart : (k t : ℕ) (s d : List ℕ) → Option (List ℕ × Bool)
-rowsPart k t s d = do
-  v ← nameLine rowName s
-  r ← rowsFrom k t v 0 d false
-  given (ended (r .0)) (r .1, r .2)
-
-unfoldable pub bodyRun : (n m k t : ℕ) (s a b d : List ℕ) → Option (List ℕ × List ℕ × List ℕ × Bool × Bool)
-bodyRun n m k t s a b d = do
-  p ← productsPart n m k s a b
-  r ← rowsPart k t (p .0) d
-  some (p .1, p .2, r .0, p .3 || r .1, p .4)
-
 module _ (n m k : ℕ) (s a b : List ℕ) where
   pub products-unnamed : nameLine productNames s ≡ none → productsPart n m k s a b ≡ none
   unfolding productsPart
@@ -81,7 +65,8 @@ module _ (n m k t : ℕ) (s a b d : List ℕ) where
   unfolding bodyRun
   run-2 u a₁ b₁ w z e f = rw (e, f)
 
-  pub run-is : (u a₁ b₁ d₁ : List ℕ) (w z w′ o : Bool) → productsPart n m k s a b ≡ some (u, a₁, b₁, w, z) → rowsPart k t u d ≡ some (d₁, w′) → o ≡ (w || w′) → bodyRun n m k t s a b d ≡ some (a₁, b₁, d₁, o, z)
+  pub run-is : (u a₁ b₁ d₁ : List ℕ) (w z w′ o : Bool) → productsPart n m k s a b ≡ some (u, a₁, b₁, w, z) → rowsPart k t u d ≡ some (d₁, w′)
+      → o ≡ (w || w′) → bodyRun n m k t s a b d ≡ some (a₁, b₁, d₁, o, z)
   unfolding bodyRun
   run-is u a₁ b₁ d₁ w z w′ o e f g = rw (e, f, g)
 
@@ -107,30 +92,46 @@ unfolding bodyRun productsPart rowsPart body bodyKept
 body-run n m k t s a b d = first (nameLine productNames s)
   where
     fourth : (p : List ℕ × List ℕ × List ℕ) (q : Option (List ℕ × List ℕ))
-        → (_>>=_ {A = List ℕ × Bool} {B = List ℕ × List ℕ × List ℕ × Bool × Bool} (_>>=_ {A = List ℕ × List ℕ × Bool} {B = List ℕ × Bool} (q >>= λ e. some (e .1, sets d 0 (e .0), false || wide k (e .0))) λ r. given (ended (r .0)) (r .1, r .2)) λ r. some (sets a 0 (p .0), sets b 0 (p .1), r .0, (false || (wide n (p .0) || wide m (p .1))) || r .1, false || (zeroIn (p .0) || zeroIn (p .1))))
+        → (_>>=_ {A = List ℕ × Bool} {B = List ℕ × List ℕ × List ℕ × Bool × Bool}
+        (_>>=_ {A = List ℕ × List ℕ × Bool} {B = List ℕ × Bool} (q >>= λ e. some (e .1, sets d 0 (e .0), false || wide k (e .0))) λ r. given
+        (ended (r .0)) (r .1, r .2)) λ r. some (
+          sets a 0 (p .0),
+          sets b 0 (p .1),
+          r .0,
+          (false || (wide n (p .0) || wide m (p .1))) || r .1,
+          false ||
+              (zeroIn (p .0) || zeroIn (p .1)),
+        ))
         ≡ ((q >>= λ r. given (ended (r .1)) (p .0, p .1, r .0)) >>= bodyKept n m k a b d)
     fourth p none = refl
     fourth p (some e) = fifth (ended (e .1))
       where
-        fifth : (o : Bool) → (_>>=_ {A = List ℕ × Bool} {B = List ℕ × List ℕ × List ℕ × Bool × Bool} (given o (sets d 0 (e .0), wide k (e .0))) λ r. some (sets a 0 (p .0), sets b 0 (p .1), r .0, (wide n (p .0) || wide m (p .1)) || r .1, zeroIn (p .0) || zeroIn (p .1))) ≡ (given {A = List ℕ × List ℕ × List ℕ} o (p .0, p .1, e .0) >>= bodyKept n m k a b d)
+        fifth : (o : Bool) → (_>>=_ {A = List ℕ × Bool} {B = List ℕ × List ℕ × List ℕ × Bool × Bool}
+            (given o (sets d 0 (e .0), wide k (e .0)))
+            λ r. some (sets a 0 (p .0), sets b 0 (p .1), r .0, (wide n (p .0) || wide m (p .1)) || r .1, zeroIn (p .0) || zeroIn (p .1)))
+            ≡ (given {A = List ℕ × List ℕ × List ℕ} o (p .0, p .1, e .0) >>= bodyKept n m k a b d)
         fifth true = refl
         fifth false = refl
 
     third : (p : List ℕ × List ℕ × List ℕ) (o : Option (List ℕ))
-        → (_>>=_ {A = List ℕ × Bool} {B = List ℕ × List ℕ × List ℕ × Bool × Bool} (o >>= λ v. rowsFrom k t v 0 d false >>= λ r. given (ended (r .0)) (r .1, r .2)) λ r. some (sets a 0 (p .0), sets b 0 (p .1), r .0, (false || (wide n (p .0) || wide m (p .1))) || r .1, false || (zeroIn (p .0) || zeroIn (p .1))))
+        → (_>>=_ {A = List ℕ × Bool} {B = List ℕ × List ℕ × List ℕ × Bool × Bool}
+        (o >>= λ v. rowsFrom k t v 0 d false >>= λ r. given (ended (r .0)) (r .1, r .2)) λ r. some
+        (sets a 0 (p .0), sets b 0 (p .1), r .0, (false || (wide n (p .0) || wide m (p .1))) || r .1, false || (zeroIn (p .0) || zeroIn (p .1))))
         ≡ ((o >>= λ v. rows t v >>= λ r. given (ended (r .1)) (p .0, p .1, r .0)) >>= bodyKept n m k a b d)
     third p none = refl
     third p (some v) = rw (rows-from k t v 0 d false) (fourth p (rows t v))
 
     second : (q : Option (List ℕ × List ℕ × List ℕ))
-        → (_>>=_ {A = List ℕ × List ℕ × List ℕ × Bool × Bool} {B = List ℕ × List ℕ × List ℕ × Bool × Bool} (q >>= λ e. some (e .2, sets a 0 (e .0), sets b 0 (e .1), false || (wide n (e .0) || wide m (e .1)), false || (zeroIn (e .0) || zeroIn (e .1))))
+        → (_>>=_ {A = List ℕ × List ℕ × List ℕ × Bool × Bool} {B = List ℕ × List ℕ × List ℕ × Bool × Bool}
+        (q >>= λ e. some (e .2, sets a 0 (e .0), sets b 0 (e .1), false || (wide n (e .0) || wide m (e .1)), false || (zeroIn (e .0) || zeroIn (e .1))))
         λ p. rowsPart k t (p .0) d >>= λ r. some (p .1, p .2, r .0, p .3 || r .1, p .4))
         ≡ ((q >>= λ p. nameLine rowName (p .2) >>= λ v. rows t v >>= λ r. given (ended (r .1)) (p .0, p .1, r .0)) >>= bodyKept n m k a b d)
     second none = refl
     second (some p) = third p (nameLine rowName (p .2))
 
     first : (o : Option (List ℕ))
-        → (_>>=_ {A = List ℕ × List ℕ × List ℕ × Bool × Bool} {B = List ℕ × List ℕ × List ℕ × Bool × Bool} (o >>= λ u. productsFrom n m k u 0 a b false false) λ p. rowsPart k t (p .0) d >>= λ r. some (p .1, p .2, r .0, p .3 || r .1, p .4))
+        → (_>>=_ {A = List ℕ × List ℕ × List ℕ × Bool × Bool} {B = List ℕ × List ℕ × List ℕ × Bool × Bool}
+        (o >>= λ u. productsFrom n m k u 0 a b false false) λ p. rowsPart k t (p .0) d >>= λ r. some (p .1, p .2, r .0, p .3 || r .1, p .4))
         ≡ ((o >>= λ u. products k u >>= λ p. nameLine rowName (p .2) >>= λ v. rows t v >>= λ r. given (ended (r .1)) (p .0, p .1, r .0)) >>= bodyKept n m k a b d)
     first none = refl
     first (some u) = rw (products-from n m k u 0 a b false false) (second (products k u))
@@ -140,20 +141,28 @@ products-fit r v len w z e h = rw h at e
 
 -- ---- the parts of the body, read at the part of s from u on
 module _ (s : List ℕ) (u : ℕ) where
-  pub products-at : (n m k : ℕ) (a b a₁ b₁ : List ℕ) (r : Products) (v : ℕ) (w z : Bool) → productsFrom n m k (take (length s - u) (drop u s)) 0 a b false false ≡ seenProducts (take (length s - u) (drop u s)) a₁ b₁ r → r ≡ pds.Are v w z → productsFrom n m k (drop u s) 0 a b false false ≡ some (drop (u + v) s, a₁, b₁, w, z)
+  pub products-at : (n m k : ℕ) (a b a₁ b₁ : List ℕ) (r : Products) (v : ℕ) (w z : Bool)
+      → productsFrom n m k (take (length s - u) (drop u s)) 0 a b false false ≡ seenProducts (take (length s - u) (drop u s)) a₁ b₁ r
+      → r ≡ pds.Are v w z → productsFrom n m k (drop u s) 0 a b false false ≡ some (drop (u + v) s, a₁, b₁, w, z)
   products-at n m k a b a₁ b₁ r v w z e h =
       read-at s u r (pds.Are v w z) (λ t. productsFrom n m k t 0 a b false false) (λ t. seenProducts t a₁ b₁) e h
       ∙ ap (λ (x : List ℕ). some (x, a₁, b₁, w, z)) (drop-drop v u s)
 
-  pub products-not : (n m k : ℕ) (a b a₁ b₁ : List ℕ) (r : Products) → productsFrom n m k (take (length s - u) (drop u s)) 0 a b false false ≡ seenProducts (take (length s - u) (drop u s)) a₁ b₁ r → r ≡ pds.No → productsFrom n m k (drop u s) 0 a b false false ≡ none
+  pub products-not : (n m k : ℕ) (a b a₁ b₁ : List ℕ) (r : Products)
+      → productsFrom n m k (take (length s - u) (drop u s)) 0 a b false false ≡ seenProducts (take (length s - u) (drop u s)) a₁ b₁ r → r ≡ pds.No
+      → productsFrom n m k (drop u s) 0 a b false false ≡ none
   products-not n m k a b a₁ b₁ r e h = read-at s u r pds.No (λ t. productsFrom n m k t 0 a b false false) (λ t. seenProducts t a₁ b₁) e h
 
-  pub rows-at : (k t : ℕ) (d d₁ : List ℕ) (r : Rows) (v : ℕ) (w : Bool) → rowsFrom k t (take (length s - u) (drop u s)) 0 d false ≡ seenRows (take (length s - u) (drop u s)) d₁ r → r ≡ rws.Are v w → rowsFrom k t (drop u s) 0 d false ≡ some (drop (u + v) s, d₁, w)
+  pub rows-at : (k t : ℕ) (d d₁ : List ℕ) (r : Rows) (v : ℕ) (w : Bool)
+      → rowsFrom k t (take (length s - u) (drop u s)) 0 d false ≡ seenRows (take (length s - u) (drop u s)) d₁ r → r ≡ rws.Are v w
+      → rowsFrom k t (drop u s) 0 d false ≡ some (drop (u + v) s, d₁, w)
   rows-at k t d d₁ r v w e h =
       read-at s u r (rws.Are v w) (λ x. rowsFrom k t x 0 d false) (λ x. seenRows x d₁) e h
       ∙ ap (λ (x : List ℕ). some (x, d₁, w)) (drop-drop v u s)
 
-  pub rows-not : (k t : ℕ) (d d₁ : List ℕ) (r : Rows) → rowsFrom k t (take (length s - u) (drop u s)) 0 d false ≡ seenRows (take (length s - u) (drop u s)) d₁ r → r ≡ rws.No → rowsFrom k t (drop u s) 0 d false ≡ none
+  pub rows-not : (k t : ℕ) (d d₁ : List ℕ) (r : Rows)
+      → rowsFrom k t (take (length s - u) (drop u s)) 0 d false ≡ seenRows (take (length s - u) (drop u s)) d₁ r → r ≡ rws.No
+      → rowsFrom k t (drop u s) 0 d false ≡ none
   rows-not k t d d₁ r e h = read-at s u r rws.No (λ x. rowsFrom k t x 0 d false) (λ x. seenRows x d₁) e h
 
   pub last-at : (k t : ℕ) (d d₁ : List ℕ) (r : LastRows) (w : Bool) → rowsPart k t (take (length s - u) (drop u s)) d ≡ seenLast d₁ r → r ≡ last.Are w → rowsPart k t (drop u s) d ≡ some (d₁, w)

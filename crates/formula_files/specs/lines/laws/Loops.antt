@@ -22,21 +22,7 @@ use Rattle.formula_files.specs.lines.Formula.{productLine, products, row
 use Rattle.formula_files.specs.lines.Views.{seenProduct}
 use Rattle.formula_files.specs.declared.lines.Product.{Product}
 use Rattle.formula_files.specs.declared.lines.Product.the-variants as product
-
--- k product lines from s on, the i-th next; a and b as far as they are written, and the two flags
-unfoldable pub productsFrom : (n m : ℕ) → ℕ → List ℕ → ℕ → List ℕ → List ℕ → Bool → Bool → Option (List ℕ × List ℕ × List ℕ × Bool × Bool)
-productsFrom n m zero s i a b w z = some (s, a, b, w, z)
-productsFrom n m (suc k) s i a b w z = do
-  l ← productLine s
-  productsFrom n m k (l .2) (i + 1) (set a i (l .0)) (set b i (l .1))
-      ((w || outside n (l .0)) || outside m (l .1))
-      ((z || eqb (l .0) 0) || eqb (l .1) 0)
-
-unfoldable pub rowsFrom : ℕ → ℕ → List ℕ → ℕ → List ℕ → Bool → Option (List ℕ × List ℕ × Bool)
-rowsFrom k zero s i d w = some (s, d, w)
-rowsFrom k (suc t) s i d w = do
-  l ← maskLine s
-  rowsFrom k t (l .1) (i + 1) (set d i (l .0)) (w || outside k (l .0))
+use Rattle.formula_files.specs.lines.Buffered.{productsFrom, rowsFrom}
 
 -- ---- one turn
 pub products-step : (n m k s-at i : ℕ) (s : List ℕ) (a b : List ℕ) (w z : Bool) (x y : ℕ) (t : List ℕ) → i < k → productLine (drop s-at s) ≡ some (x, y, t)
@@ -139,7 +125,8 @@ products-from n m (suc k) s i a b w z =
           or-mixed z (eqb (l .0) 0) (eqb (l .1) 0) (zeroIn (d .0)) (zeroIn (d .1)),
         )
 
-    step : (o : Option Line) → ((l : Line) → run l ≡ (products k (l .2) >>= end (i + 1) (set a i (l .0)) (set b i (l .1)) ((w || outside n (l .0)) || outside m (l .1)) ((z || eqb (l .0) 0) || eqb (l .1) 0)))
+    step : (o : Option Line)
+        → ((l : Line) → run l ≡ (products k (l .2) >>= end (i + 1) (set a i (l .0)) (set b i (l .1)) ((w || outside n (l .0)) || outside m (l .1)) ((z || eqb (l .0) 0) || eqb (l .1) 0)))
         → (o >>= run) ≡ ((o >>= λ l. products k (l .2) >>= λ e. some (l .0 ∷ e .0, l .1 ∷ e .1, e .2)) >>= end i a b w z)
     step none ih = refl
     step (some l) ih = ih l ∙ join l (products k (l .2))
@@ -188,5 +175,7 @@ pub product-is : (s t u : List ℕ) (x y : ℕ) → maskField s ≡ some (x, t) 
 unfolding productLine
 product-is s t u x y e f = rw (e, f)
 
-pub product-at : (s : List ℕ) (u : ℕ) (r : Product) (x y w : ℕ) → productLine (take (length s - u) (drop u s)) ≡ seenProduct (take (length s - u) (drop u s)) r → r ≡ product.Is x y w → productLine (drop u s) ≡ some (x, y, drop (u + w) s)
+pub product-at : (s : List ℕ) (u : ℕ) (r : Product) (x y w : ℕ)
+    → productLine (take (length s - u) (drop u s)) ≡ seenProduct (take (length s - u) (drop u s)) r → r ≡ product.Is x y w
+    → productLine (drop u s) ≡ some (x, y, drop (u + w) s)
 product-at s u r x y w e h = read-at s u r (product.Is x y w) productLine seenProduct e h ∙ ap (λ (t : List ℕ). some (x, y, t)) (drop-drop w u s)

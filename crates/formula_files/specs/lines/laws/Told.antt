@@ -1,7 +1,6 @@
 -- What the code's answer on the lines under the first two says of them.
 --   body-long, body-lengths   a body has as many factors and rows as it should
 --   body-told, body-none      what the answer says
---   body-at, body-not         the same, read at a part of the text
 -- Assumes nothing.
 use Prim.Native.Nat.{ℕ, zero, suc, _-_}
 use mathlib.Core.Path.{_≡_, refl, sym, ap, _∙_}
@@ -9,18 +8,15 @@ use mathlib.Core.List.{List, _∷_}
 use mathlib.Core.Bool.{Bool, true, false, _||_}
 use mathlib.Core.Option.{Option, none, some}
 use native.Mathlib.Omega.{arith}
-use lib.ListN.{length, take, drop}
+use lib.ListN.{length}
 use lib.Seq.{sets}
 use Rattle.kinds.specs.Sizes.{given}
 use Rattle.words.specs.Masks.{wide, zeroIn}
 use Rattle.text.specs.Reading.{_>>=_}
 use Rattle.text.specs.Line.{nameLine, maskLine}
-use Rattle.text.specs.laws.Line.{read-at}
 use Rattle.formula_files.specs.lines.Formula.{productLine, products, rows, body, ended, productNames, rowName}
-use Rattle.formula_files.specs.lines.Views.{seenBody}
-use Rattle.formula_files.specs.lines.laws.Body.{bodyRun, bodyKept, body-run}
-use Rattle.formula_files.specs.declared.lines.BodyRead.{BodyRead}
-use Rattle.formula_files.specs.declared.lines.BodyRead.the-variants as bdy
+use Rattle.formula_files.specs.lines.Buffered.{bodyRun}
+use Rattle.formula_files.specs.lines.laws.Body.{bodyKept, body-run}
 
 -- how long the lists are
 abbrev Long : ℕ → Option (List ℕ × List ℕ × List ℕ) → Type 0
@@ -114,7 +110,9 @@ body-told n m k t s a b d a₁ b₁ d₁ w z e = go (body k t s) refl (body-long
     go : (o : Option (List ℕ × List ℕ × List ℕ)) → body k t s ≡ o → LongBody k t o → (o >>= bodyKept n m k a b d) ≡ some (a₁, b₁, d₁, w, z) → Told n m k t s a b d a₁ b₁ d₁ w z
     go none h l f = absurd (let q : _≡_ {A = ℕ} 0 1 = cc in omega arith)
     go (some x) h l f =
-        let g : _≡_ {A = Five} (sets a 0 (x .0), sets b 0 (x .1), sets d 0 (x .2), (wide n (x .0) || wide m (x .1)) || wide k (x .2), zeroIn (x .0) || zeroIn (x .1)) (a₁, b₁, d₁, w, z) = ap (getFive (a₁, b₁, d₁, w, z)) f in
+        let g : _≡_ {A = Five}
+        (sets a 0 (x .0), sets b 0 (x .1), sets d 0 (x .2), (wide n (x .0) || wide m (x .1)) || wide k (x .2), zeroIn (x .0) || zeroIn (x .1))
+        (a₁, b₁, d₁, w, z) = ap (getFive (a₁, b₁, d₁, w, z)) f in
         record {
           xs = x .0;
           ys = x .1;
@@ -140,11 +138,3 @@ body-none n m k t s a b d e = go (body k t s) (sym (body-run n m k t s a b d) �
 
 pub body-lengths : (k t : ℕ) (s xs ys zs : List ℕ) → body k t s ≡ some (xs, ys, zs) → (length xs ≡ k) × (length ys ≡ k) × (length zs ≡ t)
 body-lengths k t s xs ys zs e = rw e at (body-long k t s)
-
--- ---- the body, read at the part of s from u on
-pub body-at : (n m k t : ℕ) (s : List ℕ) (u : ℕ) (a b d a₁ b₁ d₁ : List ℕ) (x : BodyRead) (w z : Bool) → bodyRun n m k t (take (length s - u) (drop u s)) a b d ≡ seenBody a₁ b₁ d₁ x → x ≡ bdy.Are w z → Told n m k t (drop u s) a b d a₁ b₁ d₁ w z
-body-at n m k t s u a b d a₁ b₁ d₁ x w z e h =
-    body-told n m k t (drop u s) a b d a₁ b₁ d₁ w z (read-at s u x (bdy.Are w z) (λ v. bodyRun n m k t v a b d) (λ v. seenBody a₁ b₁ d₁) e h)
-
-pub body-not : (n m k t : ℕ) (s : List ℕ) (u : ℕ) (a b d a₁ b₁ d₁ : List ℕ) (x : BodyRead) → bodyRun n m k t (take (length s - u) (drop u s)) a b d ≡ seenBody a₁ b₁ d₁ x → x ≡ bdy.No → body k t (drop u s) ≡ none
-body-not n m k t s u a b d a₁ b₁ d₁ x e h = body-none n m k t (drop u s) a b d (read-at s u x bdy.No (λ v. bodyRun n m k t v a b d) (λ v. seenBody a₁ b₁ d₁) e h)

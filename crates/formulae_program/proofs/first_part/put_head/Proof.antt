@@ -1,12 +1,8 @@
--- `formulae_start::put_head` meets its contract. Assumes nothing.
+-- `formulae_program::first_part::put_head` meets its contract. Assumes nothing.
 use Rattle.formulae_program.specs.first_part.laws.Start.{head-put}
 use borrow.Author.Needs.{needs}
 use Rattle.formulae_program.proofs.first_part.put_head.Statement.{statement}
 use Rattle.formulae_program.proofs.first_part.put_head.Tie as tie
-use Rattle.formulae_program.proofs.first_part.put_head.Reads as reads
-use Rattle.formulae_program.proofs.first_part.put_head.Lts as lts
-use Rattle.printing.proofs.put_bytes.Reads as put-bytes-reads
-use Rattle.catalogue_text.proofs.report.put_counts.Reads as put-counts-reads
 
 returns : tie.Need-returns
 returns c =
@@ -18,5 +14,4 @@ returns c =
 
 pub put-head-spec : {M : Type 1} → statement M
 put-head-spec =
-    tie.close
-    (tie.spec (λ c κs. search needs) (λ c. search needs) (λ c κs. search needs) (λ c. search needs) returns)
+    tie.close (tie.spec (λ c κs. search needs) (λ c. search needs) (λ c κs. search needs) (λ c. search needs) returns)

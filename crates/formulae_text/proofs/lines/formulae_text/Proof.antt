@@ -1,12 +1,8 @@
--- `formula_lines::formulae_text` meets its contract. Assumes nothing.
+-- `formulae_text::lines::formulae_text` meets its contract. Assumes nothing.
 use Rattle.formulae_text.specs.lines.laws.Lines.{text-put}
 use borrow.Author.Needs.{needs}
 use Rattle.formulae_text.proofs.lines.formulae_text.Statement.{statement}
 use Rattle.formulae_text.proofs.lines.formulae_text.Tie as tie
-use Rattle.formulae_text.proofs.lines.formulae_text.Reads as reads
-use Rattle.formulae_text.proofs.lines.formulae_text.Lts as lts
-use Rattle.formulae_text.proofs.lines.put_formulae.Reads as put-formulae-reads
-use Rattle.formulae_text.proofs.lines.put_left.Reads as put-left-reads
 
 returns : tie.Need-returns
 returns c =

@@ -1,14 +1,10 @@
--- `formula_lines::put_left` meets its contract. Assumes nothing.
+-- `formulae_text::lines::put_left` meets its contract. Assumes nothing.
 use native.Mathlib.Omega.{arith}
 use Rattle.printing.specs.fields.laws.Pieces.{number-short}
 use Rattle.formulae_text.specs.lines.laws.Lines.{left-none, left-one}
 use borrow.Author.Needs.{needs}
 use Rattle.formulae_text.proofs.lines.put_left.Statement.{statement}
 use Rattle.formulae_text.proofs.lines.put_left.Tie as tie
-use Rattle.formulae_text.proofs.lines.put_left.Reads as reads
-use Rattle.formulae_text.proofs.lines.put_left.Lts as lts
-use Rattle.printing.proofs.put_bytes.Reads as put-bytes-reads
-use Rattle.printing.proofs.put_number.Reads as put-number-reads
 
 returns : tie.Need-returns
 returns c = left-none (c .before .before .args .entry) (c .before .before .args .whole) (c .before .before .args .at) _ (c .if1 .taken)
@@ -29,11 +25,4 @@ returns-2 c =
 
 pub put-left-spec : {M : Type 1} → statement M
 put-left-spec =
-    tie.close
-    (tie.spec
-    returns
-    (λ c κs. search needs)
-    (λ c. search needs)
-    put-bytes-requires
-    (λ c. search needs)
-    returns-2)
+    tie.close (tie.spec returns (λ c κs. search needs) (λ c. search needs) put-bytes-requires (λ c. search needs) returns-2)

@@ -5,21 +5,19 @@ use mathlib.Core.Path.{_≡_, refl, sym, subst}
 use mathlib.Core.Bool.{Bool, true, false}
 use mathlib.Core.List.{List, _∷_, _++_}
 use native.Mathlib.Omega.{arith}
-use lib.ListN.{length, set}
+use lib.ListN.{length}
 use Rattle.printing.specs.Print.{numberText}
 use Rattle.text.specs.Line.{comma}
 use Rattle.printing.specs.fields.Piece.{Piece}
 use Rattle.printing.specs.fields.laws.Pieces.{Put, piece, piece-then, number-short}
-use Rattle.printing.specs.record_lines.RecordLines.{entryText}
-use Rattle.printing.specs.record_lines.laws.Lines.{byte-then, weaker}
+use Rattle.printing.specs.record_lines.RecordLines.{leadText, entryText}
+use Rattle.printing.specs.record_lines.laws.Lines.{weaker, lead-then}
 use Rattle.formulae_text.specs.lines.FormulaLines.{formulaText, moreText, formulaLines, leftText, formulaeText}
 
-pub formula-put : (entry i : ℕ) (xs ys : List ℕ) (at a e : ℕ) (d d₁ d₂ d₃ : List ℕ) → Put d at (numberText entry) d₁ a → d₂ ≡ set d₁ a 44
-    → Piece d₂ (a + 1) (entryText i xs ys) (21 * length xs + 21 * length ys + 25) d₃ e → Piece d at (formulaText entry i xs ys) (21 * length xs + 21 * length ys + 46) d₃ e
+pub formula-put : (entry i : ℕ) (xs ys : List ℕ) (at a e : ℕ) (d d₁ d₂ : List ℕ) → Piece d at (leadText entry) 21 d₁ a
+    → Piece d₁ a (entryText i xs ys) (21 * length xs + 21 * length ys + 25) d₂ e → Piece d at (formulaText entry i xs ys) (21 * length xs + 21 * length ys + 46) d₂ e
 unfolding formulaText
-formula-put entry i xs ys at a e d d₁ d₂ d₃ p h q =
-    weaker d (numberText entry ++ (comma ∷ entryText i xs ys)) d₃ at e (20 + (21 * length xs + 21 * length ys + 25 + 1)) (21 * length xs + 21 * length ys + 46) (omega arith)
-    (piece-then (piece d at (numberText entry) 20 d₁ a p (number-short entry)) (byte-then 44 a e (21 * length xs + 21 * length ys + 25) d₁ d₂ d₃ (entryText i xs ys) h q))
+formula-put entry i xs ys at a e d d₁ d₂ P Q = weaker d (numberText entry ++ (comma ∷ entryText i xs ys)) d₂ at e _ _ (omega arith) (lead-then entry P Q)
 
 -- ---- where all are there, and where one was left out
 pub left-none : (entry : ℕ) (whole : Bool) (at : ℕ) (d : List ℕ) → whole ≡ true → Piece d at (leftText entry whole) 30 d at

@@ -1,4 +1,4 @@
--- `fills::fill_generators` meets its contract. Assumes nothing.
+-- `maps::form_lists::fill_generators` meets its contract. Assumes nothing.
 use native.Mathlib.Omega.{arith}
 use mathlib.Core.Path.{_≡_, refl, sym, ap, _∙_}
 use mathlib.Core.List.{_++_}
@@ -59,15 +59,4 @@ returns c =
 pub fill-generators-spec : {M : Type 1} → statement M
 fill-generators-spec =
     tie.close
-    (tie.spec
-    Inv-loop
-    μ-loop
-    loop-holds
-    generator-form-requires
-    mul-g
-    slice-write-g
-    add-j
-    (λ c. omega arith)
-    loop-again
-    same-length
-    returns)
+    (tie.spec Inv-loop μ-loop loop-holds generator-form-requires mul-g slice-write-g add-j (λ c. omega arith) loop-again same-length returns)

@@ -1,11 +1,11 @@
--- `fills::fill_targets` meets its contract. Assumes nothing.
+-- `maps::form_lists::fill_targets` meets its contract. Assumes nothing.
 use native.Mathlib.Omega.{arith}
 use mathlib.Core.Path.{_≡_, refl, _∙_}
 use mathlib.Core.List.{_++_}
 use mathlib.Core.Option.{some}
 use Prim.Native.Nat.{ℕ, _-_, _≤_}
 use lib.ListN.{length, take, length-set}
-use Rattle.kinds.specs.SizeLaws.{sizes-bounds}
+use Rattle.kinds.specs.laws.Sizes.{sizes-bounds}
 use Rattle.maps.specs.Generators.{listOf}
 use Rattle.maps.specs.Target.{targetForm}
 use Rattle.maps.specs.form_lists.laws.Filling.{listed-none, listed-next, listed-end}
@@ -73,15 +73,4 @@ returns c =
 pub fill-targets-spec : {M : Type 1} → statement M
 fill-targets-spec =
     tie.close
-    (tie.spec
-    Inv-loop
-    μ-loop
-    loop-holds
-    target-requires
-    mul-t
-    slice-write-t
-    add-i
-    (λ c. omega arith)
-    loop-again
-    same-length
-    returns)
+    (tie.spec Inv-loop μ-loop loop-holds target-requires mul-t slice-write-t add-i (λ c. omega arith) loop-again same-length returns)

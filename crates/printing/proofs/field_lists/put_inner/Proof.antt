@@ -1,4 +1,4 @@
--- `inner::put_inner` meets its contract. Assumes nothing.
+-- `printing::field_lists::put_inner` meets its contract. Assumes nothing.
 use borrow.Author.Needs.{needs}
 use native.Mathlib.Omega.{arith}
 use Prim.Native.Nat.{_-_}
@@ -7,11 +7,6 @@ use Rattle.printing.specs.laws.Print.{printed-fits}
 use Rattle.printing.specs.field_lists.laws.Inner.{inner-none, inner-some}
 use Rattle.printing.proofs.field_lists.put_inner.Statement.{statement}
 use Rattle.printing.proofs.field_lists.put_inner.Tie as tie
-use Rattle.printing.proofs.field_lists.put_inner.Reads as reads
-use Rattle.printing.proofs.field_lists.put_inner.Lts as lts
-use Rattle.printing.proofs.field_lists.put_spaced.Reads as put-spaced-reads
-use Rattle.printing.proofs.put_bytes.Reads as put-bytes-reads
-use Rattle.printing.proofs.put_number.Reads as put-number-reads
 
 returns : tie.Need-returns
 returns c =
@@ -58,16 +53,5 @@ returns-2 c =
 pub put-inner-spec : {M : Type 1} → statement M
 put-inner-spec =
     tie.close
-    (tie.spec
-    (λ c. search needs)
-    (λ c κs. search needs)
-    (λ c. search needs)
-    returns
-    (λ c. search needs)
-    put-number-requires
-    (λ c. search needs)
-    (λ c. search needs)
-    (λ c. search needs)
-    put-spaced-requires
-    (λ c. search needs)
-    returns-2)
+    (tie.spec (λ c. search needs) (λ c κs. search needs) (λ c. search needs) returns (λ c. search needs) put-number-requires (λ c. search needs)
+    (λ c. search needs) (λ c. search needs) put-spaced-requires (λ c. search needs) returns-2)

@@ -1,4 +1,4 @@
--- `inner::put_spaced` meets its contract. Assumes nothing.
+-- `printing::field_lists::put_spaced` meets its contract. Assumes nothing.
 use native.Mathlib.Omega.{arith}
 use mathlib.Core.Path.{_∙_}
 use Prim.Native.Nat.{_-_}
@@ -7,10 +7,6 @@ use borrow.Author.Needs.{needs}
 use Rattle.printing.specs.field_lists.laws.Inner.{Spacing, spacing-start, spacing-next, spacing-end}
 use Rattle.printing.proofs.field_lists.put_spaced.Statement.{statement}
 use Rattle.printing.proofs.field_lists.put_spaced.Tie as tie
-use Rattle.printing.proofs.field_lists.put_spaced.Reads as reads
-use Rattle.printing.proofs.field_lists.put_spaced.Lts as lts
-use Rattle.printing.proofs.put_byte.Reads as put-byte-reads
-use Rattle.printing.proofs.put_number.Reads as put-number-reads
 
 abbrev Inv-loop : tie.InvT-loop
 Inv-loop xs base most out₀ at e₀ i₀ out e i = Spacing xs base most out₀ at out e i
@@ -20,12 +16,6 @@ abbrev μ-loop : tie.MeasureT-loop
 
 loop-holds : tie.Need-loop-holds Inv-loop μ-loop
 loop-holds c = spacing-start (c .before .before .args .xs .now) (c .before .before .args .base) (c .before .before .args .most) (c .before .before .args .out .now) (c .before .before .args .at)
-
-add-put-number : tie.Need-add-put-number Inv-loop μ-loop
-add-put-number c =
-    let pre = c .before .before .before .before .before .before .before .before .before .before .pre in
-    let loop = c .before .before .before .before .before .before .before .loop in
-    let S = loop .inv in let a = S .is .after in let m = S .is .most in let w = S .within in let p = pre .place in let s = pre .short in omega arith
 
 put-number-requires : tie.Need-put-number-requires Inv-loop μ-loop
 put-number-requires c κs =
@@ -54,9 +44,6 @@ loop-again c =
     spacing-next (args .xs .now) (args .base) (args .most) (args .out .now) (args .at) (loop .out) _ _ (loop .e) _ (loop .i) (loop .inv)
     (loop-test .taken) (pre .few) (put-byte .ensures) (put-number .ensures) (put-number .kept .1 .1 .1 .0 ∙ put-byte .kept .0)
 
-same-length : tie.Need-same-length Inv-loop μ-loop
-same-length c = c .before .loop .inv .same
-
 returns : tie.Need-returns Inv-loop μ-loop
 returns c =
     let args = c .before .before .before .before .args in
@@ -66,17 +53,5 @@ returns c =
 pub put-spaced-spec : {M : Type 1} → statement M
 put-spaced-spec =
     tie.close
-    (tie.spec
-    Inv-loop
-    μ-loop
-    loop-holds
-    (λ c κs. search needs)
-    (λ c. omega arith)
-    (λ c. omega arith)
-    add-put-number
-    put-number-requires
-    (λ c. omega arith)
-    (λ c. omega arith)
-    loop-again
-    same-length
-    returns)
+    (tie.spec Inv-loop μ-loop loop-holds (λ c κs. search needs) (λ c. omega arith) (λ c. omega arith) (λ c. omega arith) put-number-requires
+    (λ c. omega arith) (λ c. omega arith) loop-again (λ c. c .before .loop .inv .same) returns)

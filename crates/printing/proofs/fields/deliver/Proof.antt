@@ -1,4 +1,4 @@
--- `pieces::deliver` meets its contract. Assumes nothing.
+-- `printing::fields::deliver` meets its contract. Assumes nothing.
 use borrow.Author.Needs.{needs}
 use Rattle.printing.specs.fields.laws.Pieces.{deliver-none, deliver-all}
 use Rattle.printing.proofs.fields.deliver.Statement.{statement}

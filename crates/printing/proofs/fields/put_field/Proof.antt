@@ -1,4 +1,4 @@
--- `pieces::put_field` meets its contract. Assumes nothing.
+-- `printing::fields::put_field` meets its contract. Assumes nothing.
 use borrow.Author.Needs.{needs}
 use Rattle.printing.specs.fields.laws.Pieces.{field-put}
 use Rattle.printing.proofs.fields.put_field.Statement.{statement}

@@ -1,14 +1,9 @@
--- `pieces::put_refused` meets its contract. Assumes nothing.
+-- `printing::fields::put_refused` meets its contract. Assumes nothing.
 use borrow.Author.Needs.{needs}
 use native.Mathlib.Omega.{arith}
 use Rattle.printing.specs.fields.laws.Pieces.{number-short, refused-put}
 use Rattle.printing.proofs.fields.put_refused.Statement.{statement}
 use Rattle.printing.proofs.fields.put_refused.Tie as tie
-
-put-number-requires : tie.Need-put-number-requires
-put-number-requires c κs =
-    let put-bytes = c .before .before .before .put-bytes in
-    omega (arith, put-bytes .ensures .0)
 
 put-bytes-requires-2 : tie.Need-put-bytes-requires-2
 put-bytes-requires-2 c κs =
@@ -28,11 +23,5 @@ returns c =
 pub put-refused-spec : {M : Type 1} → statement M
 put-refused-spec =
     tie.close
-    (tie.spec
-    (λ c. search needs)
-    (λ c κs. search needs)
-    put-number-requires
-    (λ c. search needs)
-    put-bytes-requires-2
-    (λ c. search needs)
-    returns)
+    (tie.spec (λ c. search needs) (λ c κs. search needs) (λ c κs. omega (arith, c .before .before .before .put-bytes .ensures .0))
+    (λ c. search needs) put-bytes-requires-2 (λ c. search needs) returns)

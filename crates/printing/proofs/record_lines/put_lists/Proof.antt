@@ -1,13 +1,8 @@
--- `record_lines::put_lists` meets its contract. Assumes nothing.
+-- `printing::record_lines::put_lists` meets its contract. Assumes nothing.
 use borrow.Author.Needs.{needs}
 use Rattle.printing.specs.record_lines.laws.Lines.{lists-put}
 use Rattle.printing.proofs.record_lines.put_lists.Statement.{statement}
 use Rattle.printing.proofs.record_lines.put_lists.Tie as tie
-use Rattle.printing.proofs.record_lines.put_lists.Reads as reads
-use Rattle.printing.proofs.record_lines.put_lists.Lts as lts
-use Rattle.printing.proofs.field_lists.put_inner.Reads as put-inner-reads
-use Rattle.printing.proofs.put_byte.Reads as put-byte-reads
-use Rattle.printing.proofs.put_bytes.Reads as put-bytes-reads
 
 returns : tie.Need-returns
 returns c =
@@ -22,12 +17,5 @@ returns c =
 pub put-lists-spec : {M : Type 1} → statement M
 put-lists-spec =
     tie.close
-    (tie.spec
-    (λ c κs. search needs)
-    (λ c κs. search needs)
-    (λ c. search needs)
-    (λ c κs. search needs)
-    (λ c. search needs)
-    (λ c κs. search needs)
-    (λ c. search needs)
-    returns)
+    (tie.spec (λ c κs. search needs) (λ c κs. search needs) (λ c. search needs) (λ c κs. search needs) (λ c. search needs) (λ c κs. search needs)
+    (λ c. search needs) returns)

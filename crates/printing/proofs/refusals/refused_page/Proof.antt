@@ -1,11 +1,8 @@
--- `pages::refused_page` meets its contract. Assumes nothing.
+-- `printing::refusals::refused_page` meets its contract. Assumes nothing.
 use Rattle.printing.specs.refusals.laws.Page.{refused-fits}
 use borrow.Author.Needs.{needs}
 use Rattle.printing.proofs.refusals.refused_page.Statement.{statement}
 use Rattle.printing.proofs.refusals.refused_page.Tie as tie
-use Rattle.printing.proofs.refusals.refused_page.Reads as reads
-use Rattle.printing.proofs.refusals.refused_page.Lts as lts
-use Rattle.printing.proofs.fields.refused_text.Reads as refused-text-reads
 
 returns : tie.Need-returns
 returns c =

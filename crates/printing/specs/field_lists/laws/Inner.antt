@@ -3,31 +3,24 @@
 --   Spacing ..            == the first i numbers stand in the buffer
 -- Assumes nothing.
 use Prim.Native.Nat.{ℕ, zero, suc, _+_, _-_, _*_, _<_, _≤_}
-use mathlib.Core.Path.{_≡_, refl, sym, ap, ap₂, _∙_, subst}
+use mathlib.Core.Path.{_≡_, refl, sym, ap, _∙_, subst}
 use mathlib.Core.List.{List, [], _∷_, _++_, append-nil, append-assoc}
 use native.Mathlib.Omega.{arith}
 use native.Mathlib.Numerals.{add-one}
-use lib.ListN.{length, getD, take, drop, set, length-append}
+use lib.ListN.{length, getD, take, drop, set}
 use lib.Seq.{sets, take-all}
 use borrow.Rule.Slice.PartAt.{part-to-end}
-use Rattle.printing.specs.Print.{printed}
-use Rattle.printing.specs.laws.Print.{sets-append, printed-fits}
+use Rattle.printing.specs.Print.{numeralText}
+use Rattle.printing.specs.laws.Print.{printed-fits}
 use Rattle.printing.specs.fields.Piece.{Piece}
 use Rattle.printing.specs.fields.laws.Pieces.{Put, piece, piece-then}
 use Rattle.printing.specs.field_lists.Inner.{spacedText, innerText}
 
-pub record Asked (xs : List ℕ) (base most at : ℕ) : Type 0 where
-  pub some : 0 < base
-  pub small : base ≤ 16
-  pub few : most ≤ 20
-  pub place : at ≤ 4294967296
-  pub short : length xs ≤ 100000000
-
-spaced-snoc : (base most : ℕ) (xs : List ℕ) (y : ℕ) → spacedText base most (xs ++ y ∷ []) ≡ spacedText base most xs ++ (32 ∷ printed base most y)
+spaced-snoc : (base most : ℕ) (xs : List ℕ) (y : ℕ) → spacedText base most (xs ++ y ∷ []) ≡ spacedText base most xs ++ (32 ∷ numeralText base most y)
 unfolding spacedText
-spaced-snoc base most [] y = append-nil (32 ∷ printed base most y)
+spaced-snoc base most [] y = append-nil (32 ∷ numeralText base most y)
 spaced-snoc base most (x ∷ xs) y =
-    ap (λ (r : List ℕ). (32 ∷ printed base most x) ++ r) (spaced-snoc base most xs y) ∙ sym (append-assoc (32 ∷ printed base most x) (spacedText base most xs) (32 ∷ printed base most y))
+    ap (λ (r : List ℕ). (32 ∷ numeralText base most x) ++ r) (spaced-snoc base most xs y) ∙ sym (append-assoc (32 ∷ numeralText base most x) (spacedText base most xs) (32 ∷ numeralText base most y))
 
 take-next : (xs : List ℕ) (i : ℕ) → i < length xs → take (i + 1) xs ≡ take i xs ++ getD xs i 0 ∷ []
 take-next xs i h = ap (λ (k : ℕ). take k xs) (let e : i + 1 ≡ suc i = omega arith in e) ∙ go xs i h
@@ -43,7 +36,7 @@ pub record Spacing (xs : List ℕ) (base most : ℕ) (d : List ℕ) (at : ℕ) (
   pub is : Piece d at (spacedText base most (take i xs)) (21 * i) out e
 
 -- a space and a number
-one-put : (base most n at e : ℕ) (d d₁ d₂ : List ℕ) → most ≤ 20 → d₁ ≡ set d at 32 → Put d₁ (at + 1) (printed base most n) d₂ e → Piece d at (32 ∷ printed base most n) 21 d₂ e
+one-put : (base most n at e : ℕ) (d d₁ d₂ : List ℕ) → most ≤ 20 → d₁ ≡ set d at 32 → Put d₁ (at + 1) (numeralText base most n) d₂ e → Piece d at (32 ∷ numeralText base most n) 21 d₂ e
 one-put base most n at e d d₁ d₂ m h p =
     record {
       after = omega (arith, p .0);
@@ -56,7 +49,7 @@ module _ (xs : List ℕ) (base most : ℕ) (d : List ℕ) (at : ℕ) where
   spacing-start = record { within = omega arith; same = refl; is = (unfold spacedText in record { after = omega arith; holds = refl; most = omega arith }) }
 
   pub spacing-next : (out out₁ out₂ : List ℕ) (e f i : ℕ) → Spacing xs base most d at out e i → i < length xs → most ≤ 20 → out₁ ≡ set out e 32
-      → Put out₁ (e + 1) (printed base most (getD xs i 0)) out₂ f → length out₂ ≡ length out → Spacing xs base most d at out₂ f (i + 1)
+      → Put out₁ (e + 1) (numeralText base most (getD xs i 0)) out₂ f → length out₂ ≡ length out → Spacing xs base most d at out₂ f (i + 1)
   spacing-next out out₁ out₂ e f i S h m p q l =
       let P = piece-then (S .is) (one-put base most (getD xs i 0) e f out out₁ out₂ m p q) in
       record {
@@ -70,7 +63,7 @@ module _ (xs : List ℕ) (base most : ℕ) (d : List ℕ) (at : ℕ) where
             };
       }
     where
-      text : spacedText base most (take (i + 1) xs) ≡ spacedText base most (take i xs) ++ (32 ∷ printed base most (getD xs i 0))
+      text : spacedText base most (take (i + 1) xs) ≡ spacedText base most (take i xs) ++ (32 ∷ numeralText base most (getD xs i 0))
       text = ap (spacedText base most) (take-next xs i h) ∙ spaced-snoc base most (take i xs) (getD xs i 0)
 
   pub spacing-end : (out : List ℕ) (e i : ℕ) → Spacing xs base most d at out e i → length xs ≤ i → Piece d at (spacedText base most xs) (21 * length xs) out e
@@ -90,12 +83,12 @@ unfolding innerText
 inner-none [] base most at e d d₁ z p = piece d at (45 ∷ []) 1 d₁ e p (omega arith)
 inner-none (x ∷ xs) base most at e d d₁ z p = absurd (omega arith)
 
-pub inner-some : (xs : List ℕ) (base most at a e : ℕ) (d d₁ d₂ : List ℕ) → (length xs ≡ 0 → ⊥) → most ≤ 20 → Put d at (printed base most (getD xs 0 0)) d₁ a
+pub inner-some : (xs : List ℕ) (base most at a e : ℕ) (d d₁ d₂ : List ℕ) → (length xs ≡ 0 → ⊥) → most ≤ 20 → Put d at (numeralText base most (getD xs 0 0)) d₁ a
     → Piece d₁ a (spacedText base most (take (length xs - 1) (drop 1 xs))) (21 * length (take (length xs - 1) (drop 1 xs))) d₂ e → Piece d at (innerText base most xs) (21 * length xs + 1) d₂ e
 unfolding innerText
 inner-some [] base most at a e d d₁ d₂ n m p s = absurd (n refl)
 inner-some (x ∷ xs) base most at a e d d₁ d₂ n m p s =
     let t : take (length (x ∷ xs) - 1) xs ≡ xs = part-to-end (x ∷ xs) 1 in
     let s′ : Piece d₁ a (spacedText base most xs) (21 * length xs) d₂ e = subst (λ (l : List ℕ). Piece d₁ a (spacedText base most l) (21 * length l) d₂ e) t s in
-    let P = piece-then (piece d at (printed base most x) 20 d₁ a p (omega (arith, printed-fits base most x, m))) s′ in
+    let P = piece-then (piece d at (numeralText base most x) 20 d₁ a p (omega (arith, printed-fits base most x, m))) s′ in
     record { after = P .after; holds = P .holds; most = (let z = P .most in omega arith) }

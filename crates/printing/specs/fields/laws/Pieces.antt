@@ -4,6 +4,7 @@
 --   number-short       a number has at most 20
 --   field-put .. refused-put   each text, from its pieces
 --   whole              what the page holds up to the text's end is the text
+--   page-part, page-told   a page's part, and that part handed over
 --   deliver-none, deliver-all   the two cases of handing it over
 -- Assumes nothing.
 use Prim.Native.Nat.{ℕ, _+_, _≤_, _<_}
@@ -12,7 +13,7 @@ use mathlib.Core.List.{List, [], _∷_, _++_}
 use native.Mathlib.Omega.{arith}
 use native.Mathlib.Numerals.{add-one}
 use lib.ListN.{length, set, take, drop, length-append}
-use lib.Seq.{sets, take-at}
+use lib.Seq.{sets, take-at, length-take-le}
 use borrow.Author.Tests.{lt-ltb, le-ltb}
 use Rattle.kinds.specs.declared.Kind.{Kind}
 use Rattle.kinds.specs.declared.Kind.the-variants as kind
@@ -81,6 +82,14 @@ whole t d d₁ m e P l =
 
 pub deliver-told : (t x d d₁ : List ℕ) (e : ℕ) → x ≡ t → (e ≡ bytesIn x d) × (d₁ ≡ writtenIn x d) → (e ≡ bytesIn t d) × (d₁ ≡ writtenIn t d)
 deliver-told t x d d₁ e h p = rw h at p
+
+-- a text on a page that is long enough for it, and that page's part handed over
+pub page-part : (t d d₁ : List ℕ) (m e : ℕ) → m ≤ length d → length d₁ ≡ length d → Piece d 0 t m d₁ e → e ≡ length (take e d₁)
+page-part t d d₁ m e l k P = sym (length-take-le e d₁ (omega (arith, l, k, P .after, P .most)))
+
+pub page-told : (t d d₁ o o₁ : List ℕ) (m e r : ℕ) → m ≤ length d → Piece d 0 t m d₁ e
+    → (r ≡ bytesIn (take e d₁) o) × (o₁ ≡ writtenIn (take e d₁) o) → (r ≡ bytesIn t o) × (o₁ ≡ writtenIn t o)
+page-told t d d₁ o o₁ m e r l P h = deliver-told t (take e d₁) o o₁ r (whole t d d₁ m e P l) h
 
 pub deliver-none : (t d : List ℕ) → length d < length t → (0 ≡ bytesIn t d) × (d ≡ writtenIn t d)
 unfolding bytesIn writtenIn

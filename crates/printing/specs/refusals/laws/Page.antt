@@ -1,6 +1,8 @@
 -- The line of a refusal fits every page of 32 bytes.
+--   page-takes   a page that is longer takes it
+--   refused-fits it stands on the page whole
 -- Assumes nothing.
-use Prim.Native.Nat.{ℕ, _≤_}
+use Prim.Native.Nat.{ℕ, _+_, _≤_}
 use mathlib.Core.Path.{_≡_, ap, ap₂, _∙_}
 use mathlib.Core.Bool.{Bool, false, cond}
 use mathlib.Core.List.{List, [], _∷_, _++_}
@@ -28,3 +30,6 @@ refused-fits n e d d₁ l p =
     let a : e ≡ length (refusedText n) = p .0 ∙ ap (λ (b : Bool). cond b 0 (length (refusedText n))) f in
     let b : d₁ ≡ filled (refusedText n) d = p .1 ∙ ap (λ (b : Bool). cond b d (filled (refusedText n) d)) f in
     (ap₂ take a b ∙ take-append-seam (refusedText n) (drop (length (refusedText n)) d), omega arith)
+
+pub page-takes : {n : ℕ} (m : ℕ) → n ≡ 32 + m → 32 ≤ n
+page-takes m h = omega arith

@@ -1,4 +1,4 @@
--- `problem_lines::handed` meets its contract. Assumes nothing.
+-- `problem_files::handed_forms::handed` meets its contract. Assumes nothing.
 use mathlib.Core.Path.{sym, ap, _∙_}
 use mathlib.Core.Bool.{Bool, cond}
 use Rattle.problem_files.proofs.handed_forms.handed.Statement.{statement}

@@ -1,4 +1,4 @@
--- `problem_lines::map_lines` meets its contract. Assumes nothing.
+-- `problem_files::handed_forms::map_lines` meets its contract. Assumes nothing.
 use mathlib.Core.Path.{ap, _∙_}
 use native.Mathlib.Omega.{arith}
 use borrow.Author.Needs.{needs}
@@ -27,5 +27,4 @@ returns-3 c =
 
 pub map-lines-spec : {M : Type 1} → statement M
 map-lines-spec =
-    tie.close
-    (tie.spec (λ c κs. search needs) (λ c. search needs) enum-told returns returns-2 returns-3)
+    tie.close (tie.spec (λ c κs. search needs) (λ c. search needs) enum-told returns returns-2 returns-3)

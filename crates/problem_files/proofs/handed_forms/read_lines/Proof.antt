@@ -1,4 +1,4 @@
--- `problem_lines::read_lines` meets its contract. Assumes nothing.
+-- `problem_files::handed_forms::read_lines` meets its contract. Assumes nothing.
 use mathlib.Core.Path.{sym, _∙_}
 use borrow.Author.Needs.{needs}
 use Rattle.problem_files.specs.handed_forms.laws.Lines.{ready-list, body-list, body-map}
@@ -11,12 +11,6 @@ list-lines-requires c κs =
     let pre = c .before .before .before .before .before .before .before .pre in
     let is-list = c .before .before .before .is-list in
     ready-list (args .kind) (args .r) (args .g .now) (args .t .now) pre (sym (is-list .ensures) ∙ c .before .before .if1 .taken)
-
-same-length : tie.Need-same-length
-same-length c = c .before .before .before .before .list-lines .kept .1 .1 .1 .0
-
-same-length-2 : tie.Need-same-length-2
-same-length-2 c = c .before .before .before .before .list-lines .kept .1 .1 .1 .1 .0
 
 returns : tie.Need-returns
 returns c =
@@ -36,11 +30,5 @@ returns-2 c =
 pub read-lines-spec : {M : Type 1} → statement M
 read-lines-spec =
     tie.close
-    (tie.spec
-    (λ c κs. search needs)
-    list-lines-requires
-    same-length
-    same-length-2
-    returns
-    (λ c κs. search needs)
-    returns-2)
+    (tie.spec (λ c κs. search needs) list-lines-requires (λ c. c .before .before .before .before .list-lines .kept .1 .1 .1 .0)
+    (λ c. c .before .before .before .before .list-lines .kept .1 .1 .1 .1 .0) returns (λ c κs. search needs) returns-2)

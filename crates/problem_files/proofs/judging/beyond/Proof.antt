@@ -1,4 +1,4 @@
--- `problem_judging::beyond` meets its contract. Assumes nothing.
+-- `problem_files::judging::beyond` meets its contract. Assumes nothing.
 use borrow.Author.Needs.{needs}
 use Rattle.bases.specs.Basis.{based-dim}
 use Rattle.problem_files.specs.judging.laws.Judging.{beyond-catalogue, beyond-rank}

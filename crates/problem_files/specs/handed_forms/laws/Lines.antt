@@ -16,34 +16,35 @@ use Rattle.kinds.specs.declared.Kind.{Kind}
 use Rattle.kinds.specs.declared.Kind.the-variants as kind
 use Rattle.kinds.specs.Sizes.{sizes, given}
 use Rattle.kinds.specs.Refusal.{refused, accepted, need}
-use Rattle.kinds.specs.RefusalLaws.{refuse-inv}
+use Rattle.kinds.specs.laws.Refusal.{refuse-inv}
 use Rattle.maps.specs.Generators.{countOf}
 use Rattle.problems.specs.Replies.{refusedBy}
 use Rattle.problems.specs.laws.Laying.{list-targets}
 use Rattle.formula_files.specs.lines.laws.Body.{ended-not, ended-yes}
 use Rattle.formula_files.specs.Outcome.{isList}
 use Rattle.problem_files.specs.list_lines.Roles.{listBody}
-use Rattle.problem_files.specs.handed_forms.ProblemLines.{handed, listLines, mapLines, bodyOf, Ready}
+use Rattle.problem_files.specs.handed_forms.ProblemLines.{handed, listLines, mapLines, bodyOf, FormRoom}
+use Rattle.kinds.specs.Limits.{mostGenerators, mostTargets}
 
-pub ready-list : (kd : Kind) (r : ℕ) (g t : List ℕ) → Ready kd r g t → isList kd ≡ true → (4095 ≤ length g) × (r ≤ length t)
+pub ready-list : (kd : Kind) (r : ℕ) (g t : List ℕ) → FormRoom kd r g t → isList kd ≡ true → (mostGenerators ≤ length g) × (r ≤ length t)
 ready-list kd r g t R e =
-    let f : r ≤ 64 = subst (λ (b : Bool). cond b r 0 ≤ 64) e (R .few) in
+    let f : r ≤ mostTargets = subst (λ (b : Bool). cond b r 0 ≤ mostTargets) e (R .few) in
     let h = R .targets in
     (R .generators, omega arith)
 
 -- ---- 4 and 5
 module _ (q r : ℕ) (s : List ℕ) where
-  pub list-many : 4095 < q → listLines q r s ≡ refused 4
+  pub list-many : mostGenerators < q → listLines q r s ≡ refused 4
   unfolding listLines
-  list-many h = rw (lt-ltb 4095 q h)
+  list-many h = rw (lt-ltb mostGenerators q h)
 
-  pub list-taken : (gs ts : List ℕ) (b : Bool) → q ≤ 4095 → listBody q r s ≡ given b (gs, ts) → b ≡ true → listLines q r s ≡ accepted (gs, ts)
+  pub list-taken : (gs ts : List ℕ) (b : Bool) → q ≤ mostGenerators → listBody q r s ≡ given b (gs, ts) → b ≡ true → listLines q r s ≡ accepted (gs, ts)
   unfolding listLines
-  list-taken gs ts b h e t = rw (le-ltb 4095 q h, e, t)
+  list-taken gs ts b h e t = rw (le-ltb mostGenerators q h, e, t)
 
-  pub list-not : (gs ts : List ℕ) (b : Bool) → q ≤ 4095 → listBody q r s ≡ given b (gs, ts) → b ≡ false → listLines q r s ≡ refused 5
+  pub list-not : (gs ts : List ℕ) (b : Bool) → q ≤ mostGenerators → listBody q r s ≡ given b (gs, ts) → b ≡ false → listLines q r s ≡ refused 5
   unfolding listLines
-  list-not gs ts b h e t = rw (le-ltb 4095 q h, e, t)
+  list-not gs ts b h e t = rw (le-ltb mostGenerators q h, e, t)
 
 module _ (n m : ℕ) (s : List ℕ) where
   pub map-many : countOf n m ≡ none → mapLines n m s ≡ refused 4
@@ -66,18 +67,18 @@ module _ (kd : Kind) (q r n m : ℕ) (s g t : List ℕ) (e : ℕ) where
   body-map k h = rw k h
 
 -- what a list's lines that are read say of its sizes
-list-few : (q r : ℕ) (s : List ℕ) (x : List ℕ × List ℕ) → listLines q r s ≡ accepted x → q ≤ 4095
+list-few : (q r : ℕ) (s : List ℕ) (x : List ℕ × List ℕ) → listLines q r s ≡ accepted x → q ≤ mostGenerators
 unfolding listLines
-list-few q r s x e = ltb-false 4095 q (refuse-inv 4 (ltb 4095 q) (need 5 (listBody q r s) accepted) x e .0)
+list-few q r s x e = ltb-false mostGenerators q (refuse-inv 4 (ltb mostGenerators q) (need 5 (listBody q r s) accepted) x e .0)
 
-pub body-few : (kd : Kind) (q r n m : ℕ) (s : List ℕ) (x : List ℕ × List ℕ) → bodyOf kd q r n m s ≡ accepted x → handed kd q ≤ 4095
+pub body-few : (kd : Kind) (q r n m : ℕ) (s : List ℕ) (x : List ℕ × List ℕ) → bodyOf kd q r n m s ≡ accepted x → handed kd q ≤ mostGenerators
 body-few kd q r n m s x = go (isList kd)
   where
-    go : (b : Bool) → cond b (listLines q r s) (mapLines n m s) ≡ accepted x → cond b q 0 ≤ 4095
+    go : (b : Bool) → cond b (listLines q r s) (mapLines n m s) ≡ accepted x → cond b q 0 ≤ mostGenerators
     go true e = list-few q r s x e
     go false e = omega arith
 
-pub body-targets : (kd : Kind) (p q r : ℕ) (z : ℕ × ℕ × ℕ) → sizes kd p q r ≡ some z → handed kd r ≤ 64
+pub body-targets : (kd : Kind) (p q r : ℕ) (z : ℕ × ℕ × ℕ) → sizes kd p q r ≡ some z → handed kd r ≤ mostTargets
 body-targets kind.Poly p q r z e = omega arith
 body-targets kind.Short p q r z e = omega arith
 body-targets kind.Circ p q r z e = omega arith

@@ -10,11 +10,11 @@ use Rattle.kinds.specs.declared.Kind.{Kind}
 use Rattle.kinds.specs.declared.Kind.the-variants as kind
 use Rattle.kinds.specs.Kinds.{numberOf, kind-numbered}
 use Rattle.kinds.specs.Refusal.{accepted}
-use Rattle.kinds.specs.RefusalLaws.{follow-inv}
+use Rattle.kinds.specs.laws.Refusal.{follow-inv}
 use Rattle.problems.specs.Problem.{Problem, posed}
 use Rattle.problems.specs.Theorems.{IsMap, posed-map, posed-list}
 use Rattle.problem_files.specs.handed_forms.ProblemLines.{handed}
-use Rattle.problem_files.specs.judging.Judged.{ProblemFile, settled, judged}
+use Rattle.problem_files.specs.judging.Judged.{ProblemFile, settled, problemJudged}
 use Rattle.problem_files.specs.ProblemFile.{problemFile}
 use Rattle.problem_files.specs.laws.Accepted.{problem-went}
 use Rattle.problem_files.specs.declared.judging.Purpose.{Purpose}
@@ -34,8 +34,8 @@ module _ (p q r : ℕ) (gs ts : List ℕ) (x : Problem) where
   counted kind.Mat e = none-of kind.Mat refl refl (posed-map p q r gs ts [] x 3 e kind.Mat (kind-numbered kind.Mat) (λ z. absurd (let y : _≡_ {A = ℕ} 0 1 = cc in omega arith)))
   counted kind.List e = let T = posed-list p q r gs ts [] x 4 e (kind-numbered kind.List) in record { generators = T .generators; targets = T .targets }
 
-judged-counted : (a : Purpose) (kd : Kind) (p q r k u v : ℕ) (gs ts : List ℕ) (P : ProblemFile) → judged a kd p q r k u v gs ts ≡ accepted P → Counted kd q r gs ts
-unfolding judged
+judged-counted : (a : Purpose) (kd : Kind) (p q r k u v : ℕ) (gs ts : List ℕ) (P : ProblemFile) → problemJudged a kd p q r k u v gs ts ≡ accepted P → Counted kd q r gs ts
+unfolding problemJudged
 judged-counted a kd p q r k u v gs ts P e =
     let i = follow-inv (posed (numberOf kd) p q r gs ts []) (λ x. settled a kd p q r k u v (x .targets) gs ts) P e in
     counted p q r gs ts (i .0) kd (i .1)

@@ -15,13 +15,13 @@ use Rattle.linear.specs.Word.{word}
 use Rattle.kinds.specs.declared.Kind.{Kind}
 use Rattle.kinds.specs.Kinds.{numberOf}
 use Rattle.kinds.specs.Refusal.{Answer, refused, accepted, refuse, follow}
-use Rattle.kinds.specs.RefusalLaws.{accepted-inj, refuse-inv, follow-inv}
+use Rattle.kinds.specs.laws.Refusal.{accepted-inj, refuse-inv, follow-inv}
 use Rattle.problems.specs.Problem.{Problem, posed}
-use Rattle.problems.specs.Replies.{seenPosed, Laid, Room, Fits}
+use Rattle.problems.specs.Replies.{seenPosed, Laid, Room, PosedFits}
 use Rattle.problems.specs.declared.Posed.{Posed}
 use Rattle.problems.specs.declared.Posed.the-variants as answer
 use Rattle.problem_files.specs.handed_forms.ProblemLines.{handed}
-use Rattle.problem_files.specs.judging.Judged.{ProblemFile, problemOf, beyond, short, settled, judged, seenProblem, Settled}
+use Rattle.problem_files.specs.judging.Judged.{ProblemFile, problemOf, beyond, short, settled, problemJudged, seenProblem, Settled}
 use Rattle.problem_files.specs.declared.judging.Purpose.{Purpose}
 use Rattle.problem_files.specs.declared.judging.Purpose.the-variants as purpose
 use Rattle.problem_files.specs.declared.judging.ProblemRead.{ProblemRead}
@@ -56,21 +56,21 @@ module _ (a : Purpose) (kd : Kind) (p q r k u v : ℕ) (gs ts g t : List ℕ) (x
   posed-is : posed (numberOf kd) p q r gs ts [] ≡ seenPosed g t x
   posed-is = ap (λ (i : ℕ). posed i p q r gs ts []) (sym N) ∙ L .answer
 
-  pub judged-refused : (e : ℕ) → x ≡ answer.Refused e → judged a kd p q r k u v gs ts ≡ refused e
-  unfolding judged
+  pub judged-refused : (e : ℕ) → x ≡ answer.Refused e → problemJudged a kd p q r k u v gs ts ≡ refused e
+  unfolding problemJudged
   judged-refused e h = ap (λ (y : Answer Problem). follow y (λ x. settled a kd p q r k u v (x .targets) gs ts)) (posed-is ∙ ap (seenPosed g t) h)
 
-  pub judged-made : (c o : ℕ) (y : ProblemRead) → x ≡ answer.Are c o → Settled a kd p q r k u v (take o t) y → judged a kd p q r k u v gs ts ≡ seenProblem gs ts y
-  unfolding judged
+  pub judged-made : (c o : ℕ) (y : ProblemRead) → x ≡ answer.Are c o → Settled a kd p q r k u v (take o t) y → problemJudged a kd p q r k u v gs ts ≡ seenProblem gs ts y
+  unfolding problemJudged
   judged-made c o y h S = ap (λ (y : Answer Problem). follow y (λ x. settled a kd p q r k u v (x .targets) gs ts)) (posed-is ∙ ap (seenPosed g t) h) ∙ S .by gs ts
 
   pub made-room : (c o : ℕ) → x ≡ answer.Are c o → Room c o
-  made-room c o h = subst Fits h (L .room)
+  made-room c o h = subst PosedFits h (L .room)
 
 -- an accepted problem is of the kind and the counts that were asked
-pub judged-is : (a : Purpose) (kd : Kind) (p q r k u v : ℕ) (gs ts : List ℕ) (P : ProblemFile) → judged a kd p q r k u v gs ts ≡ accepted P
+pub judged-is : (a : Purpose) (kd : Kind) (p q r k u v : ℕ) (gs ts : List ℕ) (P : ProblemFile) → problemJudged a kd p q r k u v gs ts ≡ accepted P
     → (short kd q r u v ≡ false) × (problemOf kd p q r k gs ts ≡ P)
-unfolding judged settled
+unfolding problemJudged settled
 judged-is a kd p q r k u v gs ts P e =
     let b = follow-inv (posed (numberOf kd) p q r gs ts []) (λ x. settled a kd p q r k u v (x .targets) gs ts) P e in
     let nine : Answer ProblemFile = refuse 9 (short kd q r u v) (accepted (problemOf kd p q r k gs ts)) in

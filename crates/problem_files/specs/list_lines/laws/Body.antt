@@ -37,12 +37,15 @@ module _ (q r : ℕ) (s : List ℕ) where
   unfolding listBody
   list-3 u g v e f h = rw (e, f, h)
 
-  pub list-is : (u g v t w : List ℕ) (b : Bool) → nameLine roleNames s ≡ some u → roleLines generatorRole q u ≡ some (g, v) → roleLines targetRole r v ≡ some (t, w) → ended w ≡ b → listBody q r s ≡ given b (g, t)
+  pub list-is : (u g v t w : List ℕ) (b : Bool) → nameLine roleNames s ≡ some u → roleLines generatorRole q u ≡ some (g, v)
+      → roleLines targetRole r v ≡ some (t, w) → ended w ≡ b → listBody q r s ≡ given b (g, t)
   unfolding listBody
   list-is u g v t w b e f h i = rw (e, f, h, i)
 
 module _ (s : List ℕ) (u : ℕ) where
-  pub roles-at : (c n : ℕ) (xs : List ℕ) (x : Used) (v : ℕ) → roleLines c n (take (length s - u) (drop u s)) ≡ seenRoles (take (length s - u) (drop u s)) xs x → x ≡ used.Is v → roleLines c n (drop u s) ≡ some (xs, drop (u + v) s)
+  pub roles-at : (c n : ℕ) (xs : List ℕ) (x : Used) (v : ℕ)
+      → roleLines c n (take (length s - u) (drop u s)) ≡ seenRoles (take (length s - u) (drop u s)) xs x → x ≡ used.Is v
+      → roleLines c n (drop u s) ≡ some (xs, drop (u + v) s)
   roles-at c n xs x v e h = read-at s u x (used.Is v) (roleLines c n) (λ t. seenRoles t xs) e h ∙ ap (λ (t : List ℕ). some (xs, t)) (drop-drop v u s)
 
   pub roles-not : (c n : ℕ) (xs : List ℕ) (x : Used) → roleLines c n (take (length s - u) (drop u s)) ≡ seenRoles (take (length s - u) (drop u s)) xs x → x ≡ used.No → roleLines c n (drop u s) ≡ none

@@ -14,7 +14,7 @@ use borrow.Author.Tests.{le-ltb}
 use Rattle.kinds.specs.declared.Kind.{Kind}
 use Rattle.kinds.specs.Kinds.{numberOf}
 use Rattle.kinds.specs.Refusal.{Answer, accepted, refuse, follow}
-use Rattle.kinds.specs.RefusalLaws.{follow-inv, refuse-inv}
+use Rattle.kinds.specs.laws.Refusal.{follow-inv, refuse-inv}
 use Rattle.words.specs.Buffers.{filled}
 use Rattle.linear.specs.Basis.{dim}
 use Rattle.linear.specs.Formulae as formulae
@@ -25,20 +25,21 @@ use Rattle.linear.specs.laws.Dimension.{dim-length}
 use Rattle.first_formula.specs.Choice.{formulaRecord}
 use Rattle.problems.specs.Problem.{Problem, posed}
 use Rattle.problems.specs.Theorems.{posed-few}
-use Rattle.problem_files.specs.judging.Judged.{ProblemFile, problemOf, beyond, short, settled, judged}
+use Rattle.problem_files.specs.judging.Judged.{ProblemFile, problemOf, beyond, short, settled, problemJudged}
 use Rattle.problem_files.specs.ProblemFile.{problemFile}
 use Rattle.problem_files.specs.laws.Accepted.{problem-went}
 use Rattle.problem_files.specs.declared.judging.Purpose.{Purpose}
 use Rattle.rank.specs.fewest.Fewest.{Ranking, is, above, beyond as never, written, ranking}
-use Rattle.catalogue.specs.Catalogue.{Catalogued, listing, catalogue}
+use Rattle.catalogue.specs.Catalogue.{Catalogued, entryListing, catalogue}
 use Rattle.rank.specs.Rank.{rank}
 use Rattle.printing.specs.refusals.Pages.{listingRoom}
+use Rattle.text.specs.Limits.{programWords}
 
 abbrev Posed : Purpose → ProblemFile → Type 0
 Posed a F = (x : Problem) × (posed (numberOf (F .kind)) (F .p) (F .q) (F .r) (F .generators) (F .targets) [] ≡ accepted x) × (beyond a (F .k) (x .targets) ≡ false)
 
-judged-posed : (a : Purpose) (kd : Kind) (p q r k u v : ℕ) (gs ts : List ℕ) (P : ProblemFile) → judged a kd p q r k u v gs ts ≡ accepted P → Posed a (problemOf kd p q r k gs ts)
-unfolding judged settled
+judged-posed : (a : Purpose) (kd : Kind) (p q r k u v : ℕ) (gs ts : List ℕ) (P : ProblemFile) → problemJudged a kd p q r k u v gs ts ≡ accepted P → Posed a (problemOf kd p q r k gs ts)
+unfolding problemJudged settled
 judged-posed a kd p q r k u v gs ts P e =
     let i = follow-inv (posed (numberOf kd) p q r gs ts []) (λ x. settled a kd p q r k u v (x .targets) gs ts) P e in
     let j = refuse-inv 8 (beyond a k (i .0 .targets)) (refuse 9 (short kd q r u v) (accepted (problemOf kd p q r k gs ts))) P (i .2) in
@@ -51,12 +52,13 @@ file-posed a s u v P e =
     subst (Posed a) (W .is) (judged-posed a (W .kd) (h .p) (h .q) (h .r) (h .k) u v (W .forms .0) (W .forms .1) P (W .judge))
 
 module _ (number p q r k : ℕ) (gs ts : List ℕ) where
-  pub catalogue-accepted : (old : List ℕ) (x : Problem) → posed number p q r gs ts [] ≡ accepted x → ltb (dim word (x .targets) + 6) k ≡ false → (c : Catalogued) × (catalogue number p q r k gs ts old ≡ accepted c)
+  pub catalogue-accepted : (old : List ℕ) (x : Problem) → posed number p q r gs ts [] ≡ accepted x → ltb (dim word (x .targets) + 6) k ≡ false
+      → (c : Catalogued) × (catalogue number p q r k gs ts old ≡ accepted c)
   unfolding catalogue
   catalogue-accepted old x e h = (
-    listing x k old,
-    ap (λ (o : Answer Problem). follow o λ y. refuse 8 (ltb (dim word (y .targets) + 6) k) (accepted (listing y k old))) e
-        ∙ ap (λ (b : Bool). refuse 8 b (accepted (listing x k old))) h,
+    entryListing x k old,
+    ap (λ (o : Answer Problem). follow o λ y. refuse 8 (ltb (dim word (y .targets) + 6) k) (accepted (entryListing y k old))) e
+        ∙ ap (λ (b : Bool). refuse 8 b (accepted (entryListing x k old))) h,
   )
 
   few-words : (x : Problem) → length (x .targets) ≤ 64 → (f : Fewest) → fewest word (x .generators) (x .targets) ≡ f → (a : Ranking) × (written (x .generators) (x .targets) listingRoom f ≡ accepted a)
@@ -64,7 +66,7 @@ module _ (number p q r k : ℕ) (gs ts : List ℕ) where
       let n = rank-formula word (x .generators) (x .targets) es e .near in
       let d = dim-length word (x .targets) in (
         is (length es) (filled (formulaRecord (x .generators) (x .targets) es) listingRoom),
-        ap (λ (b : Bool). refuse 9 b (accepted (is (length es) (filled (formulaRecord (x .generators) (x .targets) es) listingRoom)))) (le-ltb 4096 (length es + length (x .targets)) (omega arith)),
+        ap (λ (b : Bool). refuse 9 b (accepted (is (length es) (filled (formulaRecord (x .generators) (x .targets) es) listingRoom)))) (le-ltb programWords (length es + length (x .targets)) (omega arith)),
       )
   few-words x t formulae.above e = (above, refl)
   few-words x t formulae.beyond e = (never, refl)

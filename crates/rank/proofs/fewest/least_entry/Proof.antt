@@ -1,4 +1,4 @@
--- `fewest::least_entry` meets its contract: no number of dimensions below k has an entry. Assumes nothing.
+-- `rank::fewest::least_entry` meets its contract: no number of dimensions below k has an entry. Assumes nothing.
 use native.Mathlib.Omega.{arith}
 use mathlib.Core.Path.{sym, _∙_}
 use Prim.Native.Nat.{_+_, _-_, _<_}
@@ -71,16 +71,5 @@ returns-2 c =
 pub least-entry-spec : {M : Type 1} → statement M
 least-entry-spec =
     tie.close
-    (tie.spec
-    Inv-loop
-    μ-loop
-    add-end
-    loop-holds
-    list-entries-requires
-    same-length
-    returns
-    (λ c. omega arith)
-    (λ c. omega arith)
-    loop-again
-    same-length-2
-    returns-2)
+    (tie.spec Inv-loop μ-loop add-end loop-holds list-entries-requires same-length returns (λ c. omega arith) (λ c. omega arith) loop-again
+    same-length-2 returns-2)

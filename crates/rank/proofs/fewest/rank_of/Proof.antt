@@ -1,4 +1,4 @@
--- `fewest::rank_of` meets its contract. Assumes nothing.
+-- `rank::fewest::rank_of` meets its contract. Assumes nothing.
 use native.Mathlib.Omega.{arith}
 use borrow.Author.Needs.{needs}
 use mathlib.Core.Path.{refl, sym, ap, _∙_}
@@ -123,22 +123,6 @@ finish-requires c κs =
 pub rank-of-spec : {M : Type 1} → statement M
 rank-of-spec =
     tie.close
-    (tie.spec
-    (λ c κs. search needs)
-    (λ c κs. search needs)
-    returns
-    (λ c κs. search needs)
-    (λ c. search needs)
-    least-entry-requires
-    (λ c. search needs)
-    enum-told
-    returns-2
-    sub-d
-    add-finish
-    mul-finish
-    (λ c. search needs)
-    (λ c. search needs)
-    part-finish-end
-    finish-requires
-    (λ c. search needs)
-    (λ c. search needs))
+    (tie.spec (λ c κs. search needs) (λ c κs. search needs) returns (λ c κs. search needs) (λ c. search needs) least-entry-requires
+    (λ c. search needs) enum-told returns-2 sub-d add-finish mul-finish (λ c. search needs) (λ c. search needs) part-finish-end finish-requires
+    (λ c. search needs) (λ c. search needs))

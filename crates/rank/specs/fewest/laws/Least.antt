@@ -24,7 +24,8 @@ use Rattle.linear.specs.Select.{anyOf}
 use Rattle.linear.specs.Formulae.{first, orElse, formula, leastFrom, missed, fewest}
 use Rattle.linear.specs.Word.{word}
 use Rattle.linear.specs.laws.Entry.{entries-sound}
-use Rattle.linear.specs.laws.Extension.{extension, extension-length}
+use Rattle.linear.specs.Extension.{extension}
+use Rattle.linear.specs.laws.Extension.{extension-length}
 use Rattle.linear.specs.laws.Rank.{solution-within}
 use Rattle.linear.specs.laws.Formulae.{first-some, free}
 use Rattle.linear.specs.laws.Fewest.{least-some, fewest-entry, fewest-none, fewest-missed}
@@ -39,43 +40,17 @@ use Rattle.first_formula.specs.laws.Writing.{numbers-length, written-first}
 use Rattle.bases.specs.rows.Rows.{rowOf}
 use Rattle.rank.specs.declared.fewest.Least.{Least as Answered}
 use Rattle.rank.specs.declared.fewest.Least.the-variants as answered
-use Rattle.rank.specs.fewest.Fewest.{is, above, beyond, written, ranking}
+use Rattle.rank.specs.fewest.Fewest.{is, above, beyond, written, ranking, Asking, Here, Found, Finishing}
 
 module _ (gens targets : List ℕ) where
-  pub record Asking (ell : ℕ) (buffer : List ℕ) : Type 0 where
-    pub small : length gens ≤ 4095
-    pub dims : ell ≡ dim word targets
-    pub narrow : ell ≤ 64
-    pub room : length buffer ≡ 128
-
   pub record Looking (ell k : ℕ) (buffer : List ℕ) : Type 0 where
     pub from : ell ≤ k
     pub upto : k ≤ ell + 7
     pub room : length buffer ≡ 128
     pub is : leastFrom word gens targets 7 ell ≡ leastFrom word gens targets (ell + 7 - k) k
 
-  -- the first entry for the least number of dimensions, k, and where its rows stand
-  pub record Here (ell k : ℕ) (buffer : List ℕ) : Type 0 where
-    pub entry : List ℕ
-    pub least : leastFrom word gens targets 7 ell ≡ some entry
-    pub rows : take k (drop (k - ell) buffer) ≡ space word gens targets entry
-    pub from : ell ≤ k
-    pub near : k ≤ ell + 6
-    pub room : length buffer ≡ 128
-
-  abbrev pub Found : ℕ → Answered → List ℕ → Type 0
-  Found ell answered.No buffer = leastFrom word gens targets 7 ell ≡ none
-  Found ell (answered.Is k) buffer = Here ell k buffer
-
-  pub record Finishing (w : List ℕ) : Type 0 where
-    pub entry : List ℕ
-    pub least : leastFrom word gens targets 7 (dim word targets) ≡ some entry
-    pub rows : w ≡ space word gens targets entry
-    pub all : missed word gens targets ≡ false
-    pub few : length (extension word gens [] w) ≤ 64
-
   -- ---- looking
-  pub looking-start : (ell : ℕ) (buffer : List ℕ) → Asking ell buffer → Looking ell ell buffer
+  pub looking-start : (ell : ℕ) (buffer : List ℕ) → Asking gens targets ell buffer → Looking ell ell buffer
   looking-start ell buffer A = record { from = omega arith; upto = omega arith; room = A .room; is = ap (λ (n : ℕ). leastFrom word gens targets n ell) (let e : 7 ≡ ell + 7 - ell = omega arith in e) }
 
   step : (ell k : ℕ) → k < ell + 7 → leastFrom word gens targets (ell + 7 - k) k ≡ orElse (first (entries word gens targets k)) (leastFrom word gens targets (ell + 7 - (k + 1)) (k + 1))
@@ -149,7 +124,7 @@ module _ (gens targets : List ℕ) where
           head = unfold flat in ap (λ (x : List (List ℕ)). flat (take 1 x)) listed ∙ append-nil (es ++ space word gens targets es)
 
   pub looking-found : (ell k : ℕ) (before after : List ℕ) (r : Listing) → Looking ell k before → ell ≡ dim word targets → ell ≤ 64 → k < ell + 7 → Listed gens targets k 1 before after r → r .found ≢ 0
-      → length after ≡ length before → Here ell k after
+      → length after ≡ length before → Here gens targets ell k after
   looking-found ell k before after r L d w h D n m =
       record {
         entry = F .entry;
@@ -179,8 +154,8 @@ module _ (gens targets : List ℕ) where
       let r = first-some (entries word gens targets (L .dims)) es (L .is) in
       (L .dims, entries-sound word gens targets (L .dims) es (subst (List·Memᴰ es) (sym (r .1)) (List·Memᴰ·head refl)))
 
-  pub finishing : (ell k : ℕ) (buffer w : List ℕ) (b : Basis) → Here ell k buffer → ell ≡ dim word targets → missed word gens targets ≡ false → Holds (basisOf word gens) b → w ≡ take k (drop (k - ell) buffer)
-      → Finishing w
+  pub finishing : (ell k : ℕ) (buffer w : List ℕ) (b : Basis) → Here gens targets ell k buffer → ell ≡ dim word targets → missed word gens targets ≡ false → Holds (basisOf word gens) b → w ≡ take k (drop (k - ell) buffer)
+      → Finishing gens targets w
   finishing ell k buffer w b H d q B e =
       record {
         entry = H .entry;
@@ -205,7 +180,7 @@ module _ (gens targets : List ℕ) where
           let r = B .valid .room in
           omega arith
 
-  module _ (w old : List ℕ) (F : Finishing w) (c : Choice) (C : Chose gens (extension word gens [] w) c) where
+  module _ (w old : List ℕ) (F : Finishing gens targets w) (c : Choice) (C : Chose gens (extension word gens [] w) c) where
     said : fewest word gens targets ≡ formula (numbersOf c)
     said =
         fewest-entry word gens targets (F .entry) (F .all) (F .least) ∙ ap (λ (x : List ℕ). formula (extension word gens [] x)) (sym (F .rows)) ∙ ap formula (sym (C .numbers))
@@ -243,11 +218,11 @@ module _ (gens targets : List ℕ) where
   missed-is t b B e = unfold missed in ap (λ (C : List ℕ). anyOf (λ t. not (inside word C t)) targets) (sym (B .is)) ∙ sym e
 
   -- ---- what `least_entry` said, by its answer
-  pub found-none : (ell : ℕ) (r : Answered) (buffer : List ℕ) → Found ell r buffer → r ≡ answered.No → ell ≡ dim word targets → leastFrom word gens targets 7 (dim word targets) ≡ none
-  found-none ell r buffer F e d = ap (leastFrom word gens targets 7) (sym d) ∙ subst (λ (x : Answered). Found ell x buffer) e F
+  pub found-none : (ell : ℕ) (r : Answered) (buffer : List ℕ) → Found gens targets ell r buffer → r ≡ answered.No → ell ≡ dim word targets → leastFrom word gens targets 7 (dim word targets) ≡ none
+  found-none ell r buffer F e d = ap (leastFrom word gens targets 7) (sym d) ∙ subst (λ (x : Answered). Found gens targets ell x buffer) e F
 
-  pub found-here : (ell : ℕ) (r : Answered) (k : ℕ) (buffer : List ℕ) → Found ell r buffer → r ≡ answered.Is k → Here ell k buffer
-  found-here ell r k buffer F e = subst (λ (x : Answered). Found ell x buffer) e F
+  pub found-here : (ell : ℕ) (r : Answered) (k : ℕ) (buffer : List ℕ) → Found gens targets ell r buffer → r ≡ answered.Is k → Here gens targets ell k buffer
+  found-here ell r k buffer F e = subst (λ (x : Answered). Found gens targets ell x buffer) e F
 
 -- the part of a slice from d to d + k
 pub part-is : (d k : ℕ) (buffer : List ℕ) → take (d + k - d) (drop d buffer) ≡ take k (drop d buffer)

@@ -1,13 +1,9 @@
--- `rank_reports::far_rank_text` meets its contract. Assumes nothing.
+-- `rank_text::report::far_rank_text` meets its contract. Assumes nothing.
 use borrow.Author.Needs.{needs}
 use mathlib.Core.Bool.{true, false}
 use Rattle.rank_text.specs.report.laws.Rank.{far-said}
 use Rattle.rank_text.proofs.report.far_rank_text.Statement.{statement}
 use Rattle.rank_text.proofs.report.far_rank_text.Tie as tie
-use Rattle.rank_text.proofs.report.far_rank_text.Reads as reads
-use Rattle.rank_text.proofs.report.far_rank_text.Lts as lts
-use Rattle.printing.proofs.put_bytes.Reads as put-bytes-reads
-use Rattle.rank_text.proofs.report.put_rank_head.Reads as put-rank-head-reads
 
 returns : tie.Need-returns
 returns c =
@@ -28,13 +24,5 @@ returns-2 c =
 pub far-rank-text-spec : {M : Type 1} → statement M
 far-rank-text-spec =
     tie.close
-    (tie.spec
-    (λ c κs. search needs)
-    (λ c. search needs)
-    (λ c κs. search needs)
-    (λ c. search needs)
-    returns
-    (λ c. search needs)
-    (λ c κs. search needs)
-    (λ c. search needs)
-    returns-2)
+    (tie.spec (λ c κs. search needs) (λ c. search needs) (λ c κs. search needs) (λ c. search needs) returns (λ c. search needs)
+    (λ c κs. search needs) (λ c. search needs) returns-2)

@@ -1,13 +1,8 @@
--- `rank_reports::put_rank_head` meets its contract. Assumes nothing.
+-- `rank_text::report::put_rank_head` meets its contract. Assumes nothing.
 use borrow.Author.Needs.{needs}
 use Rattle.rank_text.specs.report.laws.Rank.{head-put}
 use Rattle.rank_text.proofs.report.put_rank_head.Statement.{statement}
 use Rattle.rank_text.proofs.report.put_rank_head.Tie as tie
-use Rattle.rank_text.proofs.report.put_rank_head.Reads as reads
-use Rattle.rank_text.proofs.report.put_rank_head.Lts as lts
-use Rattle.printing.proofs.fields.put_field.Reads as put-field-reads
-use Rattle.printing.proofs.fields.put_sizes.Reads as put-sizes-reads
-use Rattle.printing.proofs.put_bytes.Reads as put-bytes-reads
 
 returns : tie.Need-returns
 returns c =
@@ -20,10 +15,4 @@ returns c =
 pub put-rank-head-spec : {M : Type 1} → statement M
 put-rank-head-spec =
     tie.close
-    (tie.spec
-    (λ c. search needs)
-    (λ c κs. search needs)
-    (λ c κs. search needs)
-    (λ c κs. search needs)
-    (λ c. search needs)
-    returns)
+    (tie.spec (λ c. search needs) (λ c κs. search needs) (λ c κs. search needs) (λ c κs. search needs) (λ c. search needs) returns)

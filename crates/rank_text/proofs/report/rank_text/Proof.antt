@@ -1,14 +1,8 @@
--- `rank_reports::rank_text` meets its contract. Assumes nothing.
+-- `rank_text::report::rank_text` meets its contract. Assumes nothing.
 use borrow.Author.Needs.{needs}
 use Rattle.rank_text.specs.report.laws.Rank.{rank-put}
 use Rattle.rank_text.proofs.report.rank_text.Statement.{statement}
 use Rattle.rank_text.proofs.report.rank_text.Tie as tie
-use Rattle.rank_text.proofs.report.rank_text.Reads as reads
-use Rattle.rank_text.proofs.report.rank_text.Lts as lts
-use Rattle.printing.proofs.fields.put_field.Reads as put-field-reads
-use Rattle.printing.proofs.put_bytes.Reads as put-bytes-reads
-use Rattle.printing.proofs.record_lines.put_lists.Reads as put-lists-reads
-use Rattle.rank_text.proofs.report.put_rank_head.Reads as put-rank-head-reads
 
 returns : tie.Need-returns
 returns c =
@@ -23,11 +17,5 @@ returns c =
 pub rank-text-spec : {M : Type 1} → statement M
 rank-text-spec =
     tie.close
-    (tie.spec
-    (λ c κs. search needs)
-    (λ c κs. search needs)
-    (λ c. search needs)
-    (λ c κs. search needs)
-    (λ c κs. search needs)
-    (λ c. search needs)
+    (tie.spec (λ c κs. search needs) (λ c κs. search needs) (λ c. search needs) (λ c κs. search needs) (λ c κs. search needs) (λ c. search needs)
     returns)

@@ -39,7 +39,8 @@ pub rank-put : (kind : Kind) (p q r k ell a b c e : ℕ) (xs ys o o₁ o₂ o₃
     → Piece o 0 (rankText kind p q r k ell xs ys) (21 * length xs + 21 * length ys + 172) o₄ e
 rank-put kind p q r k ell a b c e xs ys o o₁ o₂ o₃ o₄ P Q h L =
     subst (λ (t : List ℕ). Piece o 0 t (21 * length xs + 21 * length ys + 172) o₄ e) text
-    (weaker o (rankHead kind p q r k ell ++ fieldText (length xs) ++ ((LF ∷ []) ++ formulaNames) ++ listsText xs ys) o₄ 0 e (132 + 21 + 15 + (21 * length xs + 21 * length ys + 4)) (21 * length xs + 21 * length ys + 172) (omega arith)
+    (weaker o (rankHead kind p q r k ell ++ fieldText (length xs) ++ ((LF ∷ []) ++ formulaNames) ++ listsText xs ys) o₄ 0 e
+    (132 + 21 + 15 + (21 * length xs + 21 * length ys + 4)) (21 * length xs + 21 * length ys + 172) (omega arith)
     (piece-then (piece-then (piece-then P Q) (piece o₂ b ((LF ∷ []) ++ formulaNames) 15 o₃ c h (omega arith))) L))
   where
     front : List ℕ

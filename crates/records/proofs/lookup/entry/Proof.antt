@@ -1,4 +1,4 @@
--- `lookup::entry` meets its contract. Assumes nothing.
+-- `records::lookup::entry` meets its contract. Assumes nothing.
 use native.Mathlib.Omega.{arith}
 use borrow.Author.Needs.{needs}
 use Rattle.records.specs.lookup.laws.Lookup.{not-shown, below, too-long, no-size, runs-past, fits-in, held}
@@ -72,23 +72,6 @@ returns-6 c =
 pub entry-spec : {M : Type 1} → statement M
 entry-spec =
     tie.close
-    (tie.spec
-    (λ c. search needs)
-    returns
-    (λ c. search needs)
-    returns-2
-    (λ c. search needs)
-    returns-3
-    (λ c. search needs)
-    (λ c. search needs)
-    returns-4
-    (λ c. search needs)
-    (λ c. search needs)
-    returns-5
-    mul-at
-    add-result
-    mul-result
-    (λ c. search needs)
-    (λ c. search needs)
-    part-result-end
-    returns-6)
+    (tie.spec (λ c. search needs) returns (λ c. search needs) returns-2 (λ c. search needs) returns-3 (λ c. search needs) (λ c. search needs)
+    returns-4 (λ c. search needs) (λ c. search needs) returns-5 mul-at add-result mul-result (λ c. search needs) (λ c. search needs)
+    part-result-end returns-6)

@@ -19,7 +19,7 @@ use lib.Seq.{getD-set-other}
 use Rattle.linear.specs.Span.{Span}
 use Rattle.linear.specs.Basis.{clear, reduce, insert, inserts, Reduced, dim}
 use Rattle.linear.specs.Entry.{inside, generator, chosen, generatorsIn}
-use Rattle.linear.specs.Walk.{Next}
+use Rattle.linear.specs.Walk.{Next, Steps}
 use Rattle.linear.specs.Word.{word}
 use Rattle.linear.specs.laws.Span.{mem-cons, span-mem, span-bind, span-head}
 use Rattle.linear.specs.laws.Reduce.{member}
@@ -29,7 +29,7 @@ use Rattle.linear.specs.laws.Select.{mem-only}
 use Rattle.linear.specs.laws.Entry.{yes-inside}
 use Rattle.linear.specs.laws.Greedy.{inserts-within}
 use Rattle.linear.specs.laws.Residue.{residue-span}
-use Rattle.linear.specs.laws.Canonical.{Steps, steps-low, steps-length}
+use Rattle.linear.specs.laws.Canonical.{steps-low, steps-length}
 use Rattle.residues.specs.children.Residues.{residues, known, withResidue}
 use Rattle.residues.specs.children.Barren.{Barren}
 use Rattle.residues.specs.children.Found.{Leads, Spared, Met, MetBy, Grown, Found, FoundBy, Finished, LeftOver}
@@ -38,14 +38,14 @@ use Rattle.residues.specs.children.laws.Child.{residue-at, child-residue
 use Rattle.residues.specs.children.laws.Leads.{leads-one, leads-none, leads-unknown}
 
 -- the value of a number at D
-pub value : (gens d D : List ℕ) → d ≡ residues gens D → (n : ℕ) → getD d n 0 ≡ reduce word D (generator word gens n)
-value gens d D f n = ap (λ (x : List ℕ). getD x n 0) f ∙ residue-at gens D n
+pub valueAt : (gens d D : List ℕ) → d ≡ residues gens D → (n : ℕ) → getD d n 0 ≡ reduce word D (generator word gens n)
+valueAt gens d D f n = ap (λ (x : List ℕ). getD x n 0) f ∙ residue-at gens D n
 
 pub child : (gens d D : List ℕ) → Reduced word D → d ≡ residues gens D → (n : ℕ) → getD d n 0 ≢ 0
     → map (clear word (getD d n 0)) d ≡ residues gens (insert word D (generator word gens n))
 child gens d D σ f n ne =
-    ap₂ (λ (v : ℕ) (x : List ℕ). map (clear word v) x) (value gens d D f n) f ∙ child-residues gens D σ (generator word gens n) (λ z. ne
-    (value gens d D f n ∙ z))
+    ap₂ (λ (v : ℕ) (x : List ℕ). map (clear word v) x) (valueAt gens d D f n) f ∙ child-residues gens D σ (generator word gens n) (λ z. ne
+    (valueAt gens d D f n ∙ z))
 
 stay : (marks : List ℕ) → Grown marks marks
 stay marks = record { stays = λ j n. n }
@@ -78,7 +78,7 @@ module _ (gens h d : List ℕ) (start k m : ℕ) (dead : List ℕ) (n : ℕ) whe
           (T .none (S .number) (S .dies)
           (residue-span word D W (λ v t. L .fills .over v (unfold inserts in inserts-within word gens (generator word gens n ∷ []) D v t))
           (generator word gens n) (generator word gens (S .number))
-          (sym (value gens d D f n) ∙ sym (S .value) ∙ value gens d D f (S .number)) (L .fills .over (generator word gens n) (insert-span word D
+          (sym (valueAt gens d D f n) ∙ sym (S .value) ∙ valueAt gens d D f (S .number)) (L .fills .over (generator word gens n) (insert-span word D
           (generator word gens n) (generator word gens n) .1 (span-head word (generator word gens n) D)))))
 
 -- ---- no dimension missing
@@ -116,15 +116,15 @@ module _ (gens h d : List ℕ) (start k : ℕ) (dead : List ℕ) (n : ℕ) where
           w = leads-none gens C D W start k 0 j ρ σ L refl
 
           in-C : (i : ℕ) → getD h i 0 ≡ 0 → Span word C (generator word gens i)
-          in-C i z = member word C ρ (generator word gens i) .1 (sym (value gens h C e i) ∙ z)
+          in-C i z = member word C ρ (generator word gens i) .1 (sym (valueAt gens h C e i) ∙ z)
 
           at-d : (i : ℕ) → Span word W (generator word gens i) → getD E i 0 ≡ 0
-          at-d i s = value gens E D q i ∙ member word D σ (generator word gens i) .0 (subst (λ (X : List ℕ). Span word X (generator word gens i)) w s)
+          at-d i s = valueAt gens E D q i ∙ member word D σ (generator word gens i) .0 (subst (λ (X : List ℕ). Span word X (generator word gens i)) w s)
 
           low : (i : ℕ) → i < j → getD E i 0 ≡ 0 → getD h i 0 ≡ 0
           low i l z =
-              let s : Span word D (generator word gens i) = member word D σ (generator word gens i) .1 (sym (value gens E D q i) ∙ z) in
-              value gens h C e i ∙ member word C ρ (generator word gens i) .0 (L .first i l (subst (λ (X : List ℕ). Span word X (generator word gens i))
+              let s : Span word D (generator word gens i) = member word D σ (generator word gens i) .1 (sym (valueAt gens E D q i) ∙ z) in
+              valueAt gens h C e i ∙ member word C ρ (generator word gens i) .0 (L .first i l (subst (λ (X : List ℕ). Span word X (generator word gens i))
               (sym w) s))
 
 -- ---- number by number
@@ -145,7 +145,7 @@ module _ (gens h d : List ℕ) (start k m : ℕ) (dead : List ℕ) where
           g = generator word gens n
 
           at : Dec (Span word W g) → (getD marks′ j 0 ≢ 0) ⊎ Spared gens W (set gone n 1)
-          at (yes s) = inl (M .met ne .all C D W ρ σ e f j (leads-one gens C D W start k m j ρ σ L g (λ z. ne (value gens d D f n ∙ z)) s) F)
+          at (yes s) = inl (M .met ne .all C D W ρ σ e f j (leads-one gens C D W start k m j ρ σ L g (λ z. ne (valueAt gens d D f n ∙ z)) s) F)
           at (no s) = inr (record { none = λ i q. spare i q (ℕ-discrete i n) })
             where
               spare : (i : ℕ) → getD (set gone n 1) i 0 ≢ 0 → Dec (i ≡ n) → ¬ Span word W (generator word gens i)
@@ -171,7 +171,7 @@ closed-met gens h d start k m dead n p marks ne P M = record { all = each }
     each : (C D W : List ℕ) → Reduced word C → Reduced word D → h ≡ residues gens C → d ≡ residues gens D
         → (j : ℕ) → Leads gens C (insert word D (generator word gens n)) W start k m j → Spared gens W dead → getD marks j 0 ≢ 0
     each C D W ρ σ e f j L F =
-        M (c .at) (c .from) (c .below) (λ z. let l : 0 < getD p (c .at) 0 = c .picked in omega arith) (λ z. c .fresh (sym (value gens E B q
+        M (c .at) (c .from) (c .below) (λ z. let l : 0 < getD p (c .at) 0 = c .picked in omega arith) (λ z. c .fresh (sym (valueAt gens E B q
         (c .at)) ∙ z)) .all C B W ρ τ e q j
         (leads-one gens C B W start k m j ρ τ L (generator word gens (c .at)) (c .fresh) (c .has)) F
       where

@@ -24,7 +24,7 @@ use Rattle.residues.specs.children.Found.{Leads, Spared}
 use Rattle.residues.specs.children.Weighed.{points, rankOf, Shared, Owner, Weighed, Pick, Apart, Joined, PickedBy}
 use Rattle.residues.specs.children.laws.Child.{clear-zero, clear-self, zero-clear, clear-at}
 use Rattle.residues.specs.children.laws.Leads.{Chosen, leads-heavy}
-use Rattle.residues.specs.children.laws.Found.{value, child}
+use Rattle.residues.specs.children.laws.Found.{valueAt, child}
 use Rattle.residues.specs.children.laws.Weighed.{spared-alive}
 use Rattle.residues.specs.children.laws.Handed.{residue-mem, xor-back, rank-split}
 
@@ -60,10 +60,10 @@ module _ (gens d : List ℕ) (start k : ℕ) (gone w : List ℕ) (bound : ℕ �
 
     -- W has what is left of its generators at D, and the generators of which such is left
     left-in : (i : ℕ) → Span word W (gen i) → Span word W (getD d i 0)
-    left-in i s = let r = reduce-rest word D (gen i) in cast word (value gens d D f i) (span-rest word (r .2) (up (r .0) (r .1)) s)
+    left-in i s = let r = reduce-rest word D (gen i) in cast word (valueAt gens d D f i) (span-rest word (r .2) (up (r .0) (r .1)) s)
 
     in-left : (i : ℕ) → Span word W (getD d i 0) → Span word W (gen i)
-    in-left i s = let r = reduce-rest word D (gen i) in cast word (r .2 ∙ ap (bitXor (r .0)) (sym (value gens d D f i))) (span-add word (up (r .0) (r .1)) s)
+    in-left i s = let r = reduce-rest word D (gen i) in cast word (r .2 ∙ ap (bitXor (r .0)) (sym (valueAt gens d D f i))) (span-add word (up (r .0) (r .1)) s)
 
     -- no number that is gone has a value which W has
     none : (v : ℕ) → Span word W v → ¬ Shared d gone v
@@ -78,7 +78,7 @@ module _ (gens d : List ℕ) (start k : ℕ) (gone w : List ℕ) (bound : ℕ �
           from = o .from;
           below = omega (arith, o .below);
           has = held;
-          fresh = λ z. other (clear-zero x (getD d (o .at) 0) (sym (clear-at x d (o .at)) ∙ value gens E B (child gens d D σ f n ne) (o .at) ∙ z));
+          fresh = λ z. other (clear-zero x (getD d (o .at) 0) (sym (clear-at x d (o .at)) ∙ valueAt gens E B (child gens d D σ f n ne) (o .at) ∙ z));
           picked = some (ℕ-discrete (getD p (o .at) 0) 0);
         }
       where
@@ -133,7 +133,7 @@ module _ (gens d : List ℕ) (start k : ℕ) (gone w : List ℕ) (bound : ℕ �
         y = getD d (c .at) 0
 
         fresh : clear word x y ≢ 0
-        fresh z = c .fresh (sym (value gens E B q (c .at)) ∙ clear-at x d (c .at) ∙ z)
+        fresh z = c .fresh (sym (valueAt gens E B q (c .at)) ∙ clear-at x d (c .at) ∙ z)
 
         nz : y ≢ 0
         nz z = fresh (ap (clear word x) z ∙ zero-clear x)

@@ -7,7 +7,7 @@ use mathlib.Core.List.{List, [], _∷_, _++_}
 use mathlib.Core.Option.{some}
 use native.Mathlib.Omega.{arith}
 use lib.ListN.{length}
-use Rattle.words.specs.laws.Masks.{Below}
+use Rattle.words.specs.laws.Masks.{AllBelow}
 use Rattle.text.specs.Line.{LF, comma}
 use Rattle.printing.specs.Print.{maskText}
 use Rattle.round_trips.specs.formulae.laws.HeadBack.{mask-back, field-back, name-back}
@@ -21,7 +21,7 @@ product-back x y t hx hy =
     (field-back 16 16 comma x (maskText y ++ (LF ∷ t)) (omega arith) (mask-back x hx))
     (field-back 16 16 LF y t (omega arith) (mask-back y hy))
 
-products-back : (xs ys t : List ℕ) → length xs ≡ length ys → Below (2 ^ 64) xs → Below (2 ^ 64) ys → products (length xs) (productsText xs ys t) ≡ some (xs, ys, t)
+products-back : (xs ys t : List ℕ) → length xs ≡ length ys → AllBelow (2 ^ 64) xs → AllBelow (2 ^ 64) ys → products (length xs) (productsText xs ys t) ≡ some (xs, ys, t)
 unfolding products productsText
 products-back [] [] t e hx hy = refl
 products-back [] (y ∷ ys) t e hx hy = absurd (omega arith)
@@ -29,12 +29,12 @@ products-back (x ∷ xs) [] t e hx hy = absurd (omega arith)
 products-back (x ∷ xs) (y ∷ ys) t e hx hy =
     rw (product-back x y (productsText xs ys t) (hx .0) (hy .0), products-back xs ys t (omega arith) (hx .1) (hy .1))
 
-rows-back : (zs t : List ℕ) → Below (2 ^ 64) zs → rows (length zs) (rowsText zs t) ≡ some (zs, t)
+rows-back : (zs t : List ℕ) → AllBelow (2 ^ 64) zs → rows (length zs) (rowsText zs t) ≡ some (zs, t)
 unfolding rows rowsText
 rows-back [] t h = refl
 rows-back (z ∷ zs) t h = rw (field-back 16 16 LF z (rowsText zs t) (omega arith) (mask-back z (h .0)), rows-back zs t (h .1))
 
-pub body-back : (xs ys zs : List ℕ) → length xs ≡ length ys → Below (2 ^ 64) xs → Below (2 ^ 64) ys → Below (2 ^ 64) zs → body (length xs) (length zs) (bodyText xs ys zs) ≡ some (xs, ys, zs)
+pub body-back : (xs ys zs : List ℕ) → length xs ≡ length ys → AllBelow (2 ^ 64) xs → AllBelow (2 ^ 64) ys → AllBelow (2 ^ 64) zs → body (length xs) (length zs) (bodyText xs ys zs) ≡ some (xs, ys, zs)
 unfolding body bodyText ended
 body-back xs ys zs e hx hy hz =
     rw (

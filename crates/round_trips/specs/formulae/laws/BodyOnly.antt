@@ -8,7 +8,7 @@ use mathlib.Core.Bool.{true}
 use mathlib.Core.Option.{some}
 use native.Mathlib.Omega.{arith}
 use Rattle.kinds.specs.Sizes.{given}
-use Rattle.kinds.specs.SizeLaws.{given-some}
+use Rattle.kinds.specs.laws.Sizes.{given-some}
 use Rattle.text.specs.Reading.{_>>=_}
 use Rattle.text.specs.Line.{LF, comma, nameLine, maskField, maskLine}
 use Rattle.printing.specs.Print.{maskText}

@@ -1,6 +1,6 @@
 -- What is read is the text that is printed for it: nothing else is accepted.
 --   inv, inj       a reading of two steps has both; `some` is one to one
---   numeral-only, cut-only, same-only, name-only, field-only
+--   numeral-only, cut-only, name-only, field-only
 --   head-only      the first two lines of a kind that is known
 -- Assumes nothing.
 use Prim.Native.Nat.{ℕ, _<_, _≤_}
@@ -15,13 +15,14 @@ use borrow.Author.Tests.{lt-ltb, eq-eqb, eqb-true, eqb-false, ltb-false}
 use Rattle.kinds.specs.declared.Kind.{Kind}
 use Rattle.kinds.specs.Kinds.{nameOf, same, kindNamed, kinds, firstKind}
 use Rattle.kinds.specs.Sizes.{given}
-use Rattle.kinds.specs.SizeLaws.{given-some}
+use Rattle.kinds.specs.laws.Sizes.{given-some}
 use Rattle.text.specs.Reading.{_>>=_}
 use Rattle.text.specs.Numeral.{numeral, digits, count}
 use Rattle.text.specs.Line.{LF, comma, cut, nameLine, field, countField}
+use Rattle.text.specs.laws.Line.{same-only}
 use Rattle.text.specs.heads.Head.{Head, headNames, countFields, headLine, headLines}
-use Rattle.printing.specs.Print.{printed, countText}
-use Rattle.round_trips.specs.formulae.HeadText.{fieldsText, headText}
+use Rattle.printing.specs.Print.{numeralText, countText}
+use Rattle.round_trips.specs.formulae.HeadText.{fieldsText, fileHead}
 use Rattle.round_trips.specs.formulae.laws.Unique.{unique}
 
 -- a reading of two steps has both
@@ -32,7 +33,7 @@ inv (some a) f b e = (a, refl, e)
 pub inj : {A : Type 0} (p q : A) → some p ≡ some q → p ≡ q
 inj p q e = cc
 
-pub numeral-only : (base most n : ℕ) (s : List ℕ) → 2 ≤ base → base ≤ 16 → numeral base most s ≡ some n → s ≡ printed base most n
+pub numeral-only : (base most n : ℕ) (s : List ℕ) → 2 ≤ base → base ≤ 16 → numeral base most s ≡ some n → s ≡ numeralText base most n
 unfolding numeral
 numeral-only base most n s h₂ h₁₆ e = go (eqb (length s) 0) (ltb most (length s)) (ltb 1 (length s) && eqb (getD s 0 0) 48) refl refl refl e
   where
@@ -43,7 +44,7 @@ numeral-only base most n s h₂ h₁₆ e = go (eqb (length s) 0) (ltb most (len
         omega arith
 
     go : (a b c : Bool) → eqb (length s) 0 ≡ a → ltb most (length s) ≡ b → (ltb 1 (length s) && eqb (getD s 0 0) 48) ≡ c
-        → cond a none (cond b none (cond c none (digits base 0 s))) ≡ some n → s ≡ printed base most n
+        → cond a none (cond b none (cond c none (digits base 0 s))) ≡ some n → s ≡ numeralText base most n
     go true b c ha hb hc f = absurd (let q : _≡_ {A = ℕ} 0 1 = cc in omega arith)
     go false true c ha hb hc f = absurd (let q : _≡_ {A = ℕ} 0 1 = cc in omega arith)
     go false false true ha hb hc f = absurd (let q : _≡_ {A = ℕ} 0 1 = cc in omega arith)
@@ -76,16 +77,6 @@ cut-only c (b ∷ s) x t e = go (eqb b c) refl (cut-only c s) e
         inj : {p q : Two} → some p ≡ some q → p ≡ q
         inj e = cc
 
-pub same-only : (s t : List ℕ) → same s t ≡ true → s ≡ t
-same-only [] [] e = refl
-same-only [] (y ∷ t) e = absurd (let q : _≡_ {A = ℕ} 0 1 = cc in omega arith)
-same-only (x ∷ s) [] e = absurd (let q : _≡_ {A = ℕ} 0 1 = cc in omega arith)
-same-only (x ∷ s) (y ∷ t) e = go (eqb x y) refl (same-only s t) e
-  where
-    go : (a : Bool) → eqb x y ≡ a → (same s t ≡ true → s ≡ t) → (a && same s t) ≡ true → x ∷ s ≡ y ∷ t
-    go true h ih f = rw (eqb-true x y h, ih f)
-    go false h ih f = absurd (let q : _≡_ {A = ℕ} 0 1 = cc in omega arith)
-
 pub name-only : (n s t : List ℕ) → nameLine n s ≡ some t → s ≡ n ++ (LF ∷ t)
 unfolding nameLine
 name-only n s t e =
@@ -93,7 +84,7 @@ name-only n s t e =
     let j = given-some (same (i .0 .0) n) (i .0 .1) t (i .2) in
     cut-only LF s (i .0 .0) (i .0 .1) (i .1) ∙ ap₂ (λ (w r : List ℕ). w ++ (LF ∷ r)) (same-only (i .0 .0) n (j .0)) (j .1)
 
-pub field-only : (base most c : ℕ) (s : List ℕ) (f : ℕ × List ℕ) → 2 ≤ base → base ≤ 16 → field base most c s ≡ some f → s ≡ printed base most (f .0) ++ (c ∷ f .1)
+pub field-only : (base most c : ℕ) (s : List ℕ) (f : ℕ × List ℕ) → 2 ≤ base → base ≤ 16 → field base most c s ≡ some f → s ≡ numeralText base most (f .0) ++ (c ∷ f .1)
 unfolding field
 field-only base most c s f h₂ h₁₆ e =
     let i = inv (cut c s) (λ g. numeral base most (g .0) >>= λ v. some (v, g .1)) f e in
@@ -101,7 +92,7 @@ field-only base most c s f h₂ h₁₆ e =
     let g : _≡_ {A = ℕ × List ℕ} (j .0, i .0 .1) f = inj (j .0, i .0 .1) f (j .2) in
     cut-only c s (i .0 .0) (i .0 .1) (i .1)
     ∙ ap (λ (w : List ℕ). w ++ (c ∷ i .0 .1)) (numeral-only base most (j .0) (i .0 .0) h₂ h₁₆ (j .1))
-    ∙ ap (λ (w : ℕ × List ℕ). printed base most (w .0) ++ (c ∷ w .1)) g
+    ∙ ap (λ (w : ℕ × List ℕ). numeralText base most (w .0) ++ (c ∷ w .1)) g
 
 fields-only : (s : List ℕ) (n : ℕ × ℕ × ℕ × ℕ) → countFields s ≡ some n → s ≡ fieldsText (n .0) (n .1) (n .2) (n .3)
 unfolding countFields fieldsText
@@ -122,7 +113,8 @@ fields-only s n e =
 pub kind-only : (s : List ℕ) (k : Kind) → kindNamed s ≡ some k → s ≡ nameOf k
 kind-only s k e = go kinds e
   where
-    step : (x : Kind) (l : List Kind) (b : Bool) → same (nameOf x) s ≡ b → (firstKind (λ k. same (nameOf k) s) l ≡ some k → s ≡ nameOf k) → cond b (some x) (firstKind (λ k. same (nameOf k) s) l) ≡ some k → s ≡ nameOf k
+    step : (x : Kind) (l : List Kind) (b : Bool) → same (nameOf x) s ≡ b → (firstKind (λ k. same (nameOf k) s) l ≡ some k → s ≡ nameOf k)
+        → cond b (some x) (firstKind (λ k. same (nameOf k) s) l) ≡ some k → s ≡ nameOf k
     step x l true h ih f = sym (same-only (nameOf x) s h) ∙ ap nameOf (inj x k f)
     step x l false h ih f = ih f
 
@@ -136,7 +128,8 @@ line-only s h k e z =
     let i = inv (cut LF s) (λ l. cut comma (l .0) >>= λ f. countFields (f .1) >>= λ n. some (record { kind = kindNamed (f .0); p = n .0; q = n .1; r = n .2; k = n .3 }, l .1)) h e in
     let j = inv (cut comma (i .0 .0)) (λ f. countFields (f .1) >>= λ n. some (record { kind = kindNamed (f .0); p = n .0; q = n .1; r = n .2; k = n .3 }, i .0 .1)) h (i .2) in
     let m = inv (countFields (j .0 .1)) (λ n. some (record { kind = kindNamed (j .0 .0); p = n .0; q = n .1; r = n .2; k = n .3 }, i .0 .1)) h (j .2) in
-    let g : _≡_ {A = Head × List ℕ} (record { kind = kindNamed (j .0 .0); p = m .0 .0; q = m .0 .1; r = m .0 .2; k = m .0 .3 }, i .0 .1) h = inj (record { kind = kindNamed (j .0 .0); p = m .0 .0; q = m .0 .1; r = m .0 .2; k = m .0 .3 }, i .0 .1) h (m .2) in
+    let g : _≡_ {A = Head × List ℕ} (record { kind = kindNamed (j .0 .0); p = m .0 .0; q = m .0 .1; r = m .0 .2; k = m .0 .3 }, i .0 .1) h = inj
+    (record { kind = kindNamed (j .0 .0); p = m .0 .0; q = m .0 .1; r = m .0 .2; k = m .0 .3 }, i .0 .1) h (m .2) in
     let y : j .0 .0 ≡ nameOf k = kind-only (j .0 .0) k (ap (λ (w : Head × List ℕ). w .0 .kind) g ∙ z) in
     cut-only LF s (i .0 .0) (i .0 .1) (i .1)
     ∙ ap (λ (w : List ℕ). w ++ (LF ∷ i .0 .1))
@@ -144,8 +137,8 @@ line-only s h k e z =
     ∙ ap₂ (λ (x w : List ℕ). x ++ (comma ∷ w)) y (fields-only (j .0 .1) (m .0) (m .1)))
     ∙ ap (λ (w : Head × List ℕ). (nameOf k ++ (comma ∷ fieldsText (w .0 .p) (w .0 .q) (w .0 .r) (w .0 .k))) ++ (LF ∷ w .1)) g
 
-pub head-only : (s : List ℕ) (h : Head × List ℕ) (k : Kind) → headLines s ≡ some h → h .0 .kind ≡ some k → s ≡ headText k (h .0 .p) (h .0 .q) (h .0 .r) (h .0 .k) (h .1)
-unfolding headLines headText
+pub head-only : (s : List ℕ) (h : Head × List ℕ) (k : Kind) → headLines s ≡ some h → h .0 .kind ≡ some k → s ≡ fileHead k (h .0 .p) (h .0 .q) (h .0 .r) (h .0 .k) (h .1)
+unfolding headLines fileHead
 head-only s h k e z =
     let i = inv (nameLine headNames s) headLine h e in
     name-only headNames s (i .0) (i .1) ∙ ap (λ (w : List ℕ). headNames ++ (LF ∷ w)) (line-only (i .0) h k (i .2) z)

@@ -15,7 +15,7 @@ use lib.Dec.{ltb, leb}
 use borrow.Author.Tests.{lt-ltb, le-ltb, leb-true, ltb-true}
 use Rattle.text.specs.Reading.{_>>=_}
 use Rattle.text.specs.Numeral.{digit, digits}
-use Rattle.printing.specs.Print.{digitByte, printed}
+use Rattle.printing.specs.Print.{digitByte, numeralText}
 use Rattle.printing.specs.laws.Print.{printed-one, printed-more}
 use Rattle.round_trips.specs.formulae.laws.HeadBack.{digits-append}
 
@@ -89,15 +89,15 @@ module _ (base : ℕ) (two : 2 ≤ base) (sixteen : base ≤ 16) where
   unfolding digits
   nothing u e = cc
 
-  pub unique : (f : ℕ) (s : List ℕ) (n : ℕ) → 0 < length s → length s ≤ f → (1 < length s → getD s 0 0 ≡ 48 → ⊥) → digits base 0 s ≡ some n → printed base f n ≡ s
+  pub unique : (f : ℕ) (s : List ℕ) (n : ℕ) → 0 < length s → length s ≤ f → (1 < length s → getD s 0 0 ≡ 48 → ⊥) → digits base 0 s ≡ some n → numeralText base f n ≡ s
   unique zero s n l g z e = absurd (omega arith)
   unique (suc f) s n l g z e = view (snoc s) (unique f)
     where
       IH : Type 0
-      IH = (s : List ℕ) (n : ℕ) → 0 < length s → length s ≤ f → (1 < length s → getD s 0 0 ≡ 48 → ⊥) → digits base 0 s ≡ some n → printed base f n ≡ s
+      IH = (s : List ℕ) (n : ℕ) → 0 < length s → length s ≤ f → (1 < length s → getD s 0 0 ≡ 48 → ⊥) → digits base 0 s ≡ some n → numeralText base f n ≡ s
 
       -- i, then the last digit b
-      part : (i : List ℕ) (b : ℕ) → s ≡ i ++ (b ∷ []) → (o : Option ℕ) → digits base 0 i ≡ o → (o >>= λ u. digits base u (b ∷ [])) ≡ some n → IH → printed base (suc f) n ≡ i ++ (b ∷ [])
+      part : (i : List ℕ) (b : ℕ) → s ≡ i ++ (b ∷ []) → (o : Option ℕ) → digits base 0 i ≡ o → (o >>= λ u. digits base u (b ∷ [])) ≡ some n → IH → numeralText base (suc f) n ≡ i ++ (b ∷ [])
       part i b h none d q ih = absurd (let q : _≡_ {A = ℕ} 0 1 = cc in omega arith)
       part [] b h (some u) d q ih =
           let t = last u b n q in
@@ -115,7 +115,7 @@ module _ (base : ℕ) (two : 2 ≤ base) (sixteen : base ≤ 16) where
           printed-more base f n m
           ∙ rw (v, w, byte-back b (omega (arith, t)), ih (x ∷ i) u (omega arith) (omega arith) (λ c e. z (omega arith) (first ∙ e)) d)
 
-      view : (s ≡ []) ⊎ ((i : List ℕ) × (b : ℕ) × (s ≡ i ++ (b ∷ []))) → IH → printed base (suc f) n ≡ s
+      view : (s ≡ []) ⊎ ((i : List ℕ) × (b : ℕ) × (s ≡ i ++ (b ∷ []))) → IH → numeralText base (suc f) n ≡ s
       view (inl h) ih = absurd (omega (arith, ap length h))
       view (inr t) ih =
           part (t .0) (t .1) (t .2) (digits base 0 (t .0)) refl (sym (digits-append base 0 (t .0) (t .1 ∷ [])) ∙ ap (digits base 0) (sym (t .2)) ∙ e) ih ∙ sym (t .2)

@@ -16,13 +16,14 @@ use Rattle.kinds.specs.declared.Kind.{Kind}
 use Rattle.kinds.specs.declared.Kind.the-variants as kind
 use Rattle.kinds.specs.Kinds.{numberOf, kindNumbered, kind-numbered}
 use Rattle.kinds.specs.Sizes.{sizes, listSizes, within}
-use Rattle.kinds.specs.SizeLaws.{given-yes, given-some, sizes-bounds}
+use Rattle.kinds.specs.laws.Sizes.{given-yes, given-some, sizes-bounds}
 use Rattle.kinds.specs.Refusal.{Answer, accepted}
 use Rattle.words.specs.laws.Masks.{wide-words}
 use Rattle.maps.specs.Generators.{generatorCount, countOf}
 use Rattle.problems.specs.Problem.{Problem, posed}
 use Rattle.problems.specs.Theorems.{IsMap, posed-map, posed-list}
-use Rattle.problems.specs.laws.Taken.{ListTaken, posed-kind}
+use Rattle.problems.specs.Taken.{ListTaken}
+use Rattle.problems.specs.laws.Taken.{posed-kind}
 use Rattle.problems.specs.laws.Laying.{list-targets}
 use Rattle.formula_files.specs.Outcome.{isList}
 use Rattle.problem_files.specs.handed_forms.ProblemLines.{handed, listLines, mapLines, bodyOf}
@@ -30,6 +31,7 @@ use Rattle.problem_files.specs.handed_forms.laws.Lines.{list-taken, map-none}
 use Rattle.round_trips.specs.formulae.laws.FileBack.{sizes-few}
 use Rattle.round_trips.specs.problems.ProblemText.{listText, linesText}
 use Rattle.round_trips.specs.problems.laws.ListBack.{list-back}
+use Rattle.kinds.specs.Limits.{mostGenerators}
 
 pub record Forms (kd : Kind) (p q r : ℕ) (gs ts : List ℕ) : Type 0 where
   pub z : ℕ × ℕ × ℕ
@@ -45,12 +47,12 @@ empty : (xs : List ℕ) → length xs ≡ 0 → xs ≡ []
 empty [] e = refl
 empty (x ∷ xs) e = absurd (omega arith)
 
-counted : (n m : ℕ) → generatorCount n m ≤ 4095 → countOf n m ≡ some (generatorCount n m)
+counted : (n m : ℕ) → generatorCount n m ≤ mostGenerators → countOf n m ≡ some (generatorCount n m)
 unfolding countOf
-counted n m h = given-yes (leb (generatorCount n m) 4095) (generatorCount n m) (le-leb (generatorCount n m) 4095 h)
+counted n m h = given-yes (leb (generatorCount n m) mostGenerators) (generatorCount n m) (le-leb (generatorCount n m) mostGenerators h)
 
 -- ---- a map
-map-body : (n m : ℕ) (gs ts : List ℕ) → generatorCount n m ≤ 4095 → length gs ≡ 0 → length ts ≡ 0 → mapLines n m [] ≡ accepted (gs, ts)
+map-body : (n m : ℕ) (gs ts : List ℕ) → generatorCount n m ≤ mostGenerators → length gs ≡ 0 → length ts ≡ 0 → mapLines n m [] ≡ accepted (gs, ts)
 map-body n m gs ts h a b = rw (empty gs a, empty ts b) (map-none n m [] (generatorCount n m) (counted n m h) (omega arith))
 
 of-map : (kd : Kind) (p q r : ℕ) (gs ts : List ℕ) (P : Problem) → isList kd ≡ false → IsMap kd p q r gs ts [] P → Forms kd p q r gs ts

@@ -12,9 +12,9 @@ use lib.Dec.{eqb, ltb}
 use borrow.Author.Tests.{eqb-true}
 use Rattle.kinds.specs.declared.Kind.{Kind}
 use Rattle.kinds.specs.Sizes.{given}
-use Rattle.kinds.specs.SizeLaws.{given-some, both}
+use Rattle.kinds.specs.laws.Sizes.{given-some, both}
 use Rattle.kinds.specs.Refusal.{Answer, accepted, need, refuse}
-use Rattle.kinds.specs.RefusalLaws.{accepted-inj, need-inv, refuse-inv}
+use Rattle.kinds.specs.laws.Refusal.{accepted-inj, need-inv, refuse-inv}
 use Rattle.maps.specs.Generators.{countOf}
 use Rattle.text.specs.Reading.{_>>=_}
 use Rattle.text.specs.Line.{LF, comma, nameLine, maskLine}
@@ -25,6 +25,7 @@ use Rattle.problem_files.specs.list_lines.Roles.{roleNames, generatorRole, targ
 use Rattle.problem_files.specs.handed_forms.ProblemLines.{listLines, mapLines, bodyOf}
 use Rattle.round_trips.specs.formulae.laws.HeadOnly.{inv, inj, name-only, field-only}
 use Rattle.round_trips.specs.problems.ProblemText.{rolesText, listText, linesText}
+use Rattle.kinds.specs.Limits.{mostGenerators}
 
 role-only : (c : ℕ) (s : List ℕ) (l : ℕ × List ℕ) → roleLine c s ≡ some l → s ≡ c ∷ comma ∷ (maskText (l .0) ++ (LF ∷ l .1))
 unfolding roleLine
@@ -75,7 +76,7 @@ list-only q r s gs ts e =
 lines-only : (q r : ℕ) (s : List ℕ) (f : List ℕ × List ℕ) → listLines q r s ≡ accepted f → s ≡ listText (f .0) (f .1)
 unfolding listLines
 lines-only q r s f e =
-    let a = refuse-inv 4 (ltb 4095 q) (need 5 (listBody q r s) accepted) f e in
+    let a = refuse-inv 4 (ltb mostGenerators q) (need 5 (listBody q r s) accepted) f e in
     let b = need-inv 5 (listBody q r s) accepted f (a .1) in
     list-only q r s (b .0 .0) (b .0 .1) (b .1) ∙ ap (λ (w : List ℕ × List ℕ). listText (w .0) (w .1)) (accepted-inj (b .0) f (b .2))
 

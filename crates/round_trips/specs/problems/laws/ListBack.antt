@@ -9,7 +9,7 @@ use mathlib.Core.Bool.{true}
 use mathlib.Core.Option.{some}
 use native.Mathlib.Omega.{arith}
 use lib.ListN.{length}
-use Rattle.words.specs.laws.Masks.{Below}
+use Rattle.words.specs.laws.Masks.{AllBelow}
 use Rattle.text.specs.Line.{LF, comma}
 use Rattle.printing.specs.Print.{maskText}
 use Rattle.formula_files.specs.lines.Formula.{ended}
@@ -22,7 +22,7 @@ use Rattle.round_trips.specs.problems.ProblemText.{rolesText, listText}
 role-back : (c x : ℕ) (t : List ℕ) → x < 2 ^ 64 → roleLine c (c ∷ comma ∷ (maskText x ++ (LF ∷ t))) ≡ some (x, t)
 role-back c x t h = role-is c (c ∷ comma ∷ (maskText x ++ (LF ∷ t))) (omega arith) refl refl ∙ field-back 16 16 LF x t (omega arith) (mask-back x h)
 
-roles-back : (c : ℕ) (xs t : List ℕ) → Below (2 ^ 64) xs → roleLines c (length xs) (rolesText c xs t) ≡ some (xs, t)
+roles-back : (c : ℕ) (xs t : List ℕ) → AllBelow (2 ^ 64) xs → roleLines c (length xs) (rolesText c xs t) ≡ some (xs, t)
 unfolding roleLines rolesText
 roles-back c [] t h = refl
 roles-back c (x ∷ xs) t h = rw (role-back c x (rolesText c xs t) (h .0), roles-back c xs t (h .1))
@@ -31,7 +31,7 @@ ended-none : ended [] ≡ true
 unfolding ended
 ended-none = refl
 
-pub list-back : (gs ts : List ℕ) → Below (2 ^ 64) gs → Below (2 ^ 64) ts → listBody (length gs) (length ts) (listText gs ts) ≡ some (gs, ts)
+pub list-back : (gs ts : List ℕ) → AllBelow (2 ^ 64) gs → AllBelow (2 ^ 64) ts → listBody (length gs) (length ts) (listText gs ts) ≡ some (gs, ts)
 unfolding listText
 list-back gs ts hg ht =
     list-is (length gs) (length ts) (roleNames ++ (LF ∷ rolesText generatorRole gs (rolesText targetRole ts [])))

@@ -1,4 +1,4 @@
--- `selected::misfits` meets its contract. Assumes nothing.
+-- `selections::on_forms::misfits` meets its contract. Assumes nothing.
 use borrow.Author.Needs.{needs}
 use Rattle.selections.specs.on_forms.laws.Spanning.{misfit-outside, misfit-twice}
 use Rattle.selections.proofs.on_forms.misfits.Statement.{statement}

@@ -1,4 +1,4 @@
--- `selected::say_redundant` meets its contract. Assumes nothing.
+-- `selections::on_forms::say_redundant` meets its contract. Assumes nothing.
 use borrow.Author.Needs.{needs}
 use mathlib.Core.Path.{sym, ap, _∙_}
 use mathlib.Core.Bool.{true, false, not}
@@ -84,15 +84,5 @@ returns-5 c =
 pub say-redundant-spec : {M : Type 1} → statement M
 say-redundant-spec =
     tie.close
-    (tie.spec
-    (λ c κs. search needs)
-    returns
-    span-without-requires
-    (λ c κs. search needs)
-    returns-2
-    (λ c κs. search needs)
-    returns-3
-    span-without-requires-2
-    (λ c κs. search needs)
-    returns-4
-    returns-5)
+    (tie.spec (λ c κs. search needs) returns span-without-requires (λ c κs. search needs) returns-2 (λ c κs. search needs) returns-3
+    span-without-requires-2 (λ c κs. search needs) returns-4 returns-5)

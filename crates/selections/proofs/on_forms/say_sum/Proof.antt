@@ -1,4 +1,4 @@
--- `selected::say_sum` meets its contract. Assumes nothing.
+-- `selections::on_forms::say_sum` meets its contract. Assumes nothing.
 use borrow.Author.Needs.{needs}
 use mathlib.Core.Path.{sym, ap, _∙_}
 use Rattle.kinds.specs.Refusal.{accepted}
@@ -42,5 +42,4 @@ returns-3 c =
 
 pub say-sum-spec : {M : Type 1} → statement M
 say-sum-spec =
-    tie.close
-    (tie.spec (λ c κs. search needs) returns span-without-requires (λ c κs. search needs) returns-2 returns-3)
+    tie.close (tie.spec (λ c κs. search needs) returns span-without-requires (λ c κs. search needs) returns-2 returns-3)

@@ -1,4 +1,4 @@
--- `selected::span_without` meets its contract. Assumes nothing.
+-- `selections::on_forms::span_without` meets its contract. Assumes nothing.
 use native.Mathlib.Omega.{arith}
 use Prim.Native.Nat.{_-_}
 use lib.ListN.{length}
@@ -61,20 +61,5 @@ returns c =
 pub span-without-spec : {M : Type 1} → statement M
 span-without-spec =
     tie.close
-    (tie.spec
-    Inv-loop
-    μ-loop
-    (λ c κs. search needs)
-    loop-holds
-    (λ c. omega arith)
-    (λ c. omega arith)
-    (λ c. omega arith)
-    (λ c. omega arith)
-    loop-again
-    mul-insert
-    shared-slice-read-insert
-    insert-requires
-    (λ c. omega arith)
-    (λ c. omega arith)
-    loop-again-2
-    returns)
+    (tie.spec Inv-loop μ-loop (λ c κs. search needs) loop-holds (λ c. omega arith) (λ c. omega arith) (λ c. omega arith) (λ c. omega arith)
+    loop-again mul-insert shared-slice-read-insert insert-requires (λ c. omega arith) (λ c. omega arith) loop-again-2 returns)

@@ -11,7 +11,7 @@ use lib.ListN.{length, getD, drop, drop-of-length-le}
 use lib.Seq.{drop-cons}
 use lib.Dec.{eqb, ltb}
 use borrow.Author.Tests.{eq-eqb, ne-eqb, ltb-true, not-false}
-use Rattle.kinds.specs.RefusalLaws.{neither}
+use Rattle.kinds.specs.laws.Refusal.{neither}
 use Rattle.linear.specs.Basis.{insert, inserts, basisOf}
 use Rattle.linear.specs.Select.{anyOf, only}
 use Rattle.linear.specs.Entry.{generator, chosen}

@@ -1,16 +1,10 @@
--- `check_program::check_program` meets its contract. Assumes nothing.
+-- `service::check_program::check_program` meets its contract. Assumes nothing.
 use mathlib.Core.Path.{_∙_}
 use native.Mathlib.Omega.{arith}
 use Rattle.printing.specs.fields.RefusedText.{refusedText}
 use Rattle.service.specs.check_program.laws.Program.{bytes-most, reply-most, refused-length, print-text, print-refusal, program-long, program-short}
 use Rattle.service.proofs.check_program.check_program.Statement.{statement}
 use Rattle.service.proofs.check_program.check_program.Tie as tie
-
-refused-text-requires : tie.Need-refused-text-requires
-refused-text-requires c κs = tt
-
-same-length : tie.Need-same-length
-same-length c = c .before .before .refused-text .kept .1 .0
 
 returns : tie.Need-returns
 returns c =
@@ -21,12 +15,6 @@ returns c =
       (let e = refused-text .ensures .0 in let m = bytes-most (refusedText 1) (args .out .now) pre in omega arith),
     )
 
-gijpsando-check-requires : tie.Need-gijpsando-check-requires
-gijpsando-check-requires c κs = tt
-
-same-length-2 : tie.Need-same-length-2
-same-length-2 c = c .before .before .before .gijpsando-check .kept .1 .0
-
 returns-2 : tie.Need-returns-2
 returns-2 c =
     let args = c .before .before .before .before .before .before .before .before .args in
@@ -36,9 +24,6 @@ returns-2 c =
           (args .file .now) (omega arith),
       (let e = gijpsando-check .ensures .0 in let m = reply-most (args .file .now) (args .out .now) in omega arith),
     )
-
-refused-text-requires-2 : tie.Need-refused-text-requires-2
-refused-text-requires-2 c κs = tt
 
 same-length-3 : tie.Need-same-length-3
 same-length-3 c = c .before .before .refused-text2 .kept .1 .0 ∙ c .before .before .before .before .before .before .before .gijpsando-check .kept .1 .0
@@ -61,13 +46,5 @@ returns-3 c =
 pub check-program-spec : {M : Type 1} → statement M
 check-program-spec =
     tie.close
-    (tie.spec
-    refused-text-requires
-    same-length
-    returns
-    gijpsando-check-requires
-    same-length-2
-    returns-2
-    refused-text-requires-2
-    same-length-3
-    returns-3)
+    (tie.spec (λ c κs. tt) (λ c. c .before .before .refused-text .kept .1 .0) returns (λ c κs. tt)
+    (λ c. c .before .before .before .gijpsando-check .kept .1 .0) returns-2 (λ c κs. tt) same-length-3 returns-3)

@@ -25,7 +25,7 @@ use Rattle.formula_files.specs.lines.Formula.{body}
 use Rattle.text.specs.Line.{LF}
 use Rattle.formula_files.specs.Outcome.{Outcome, outcome, rest, isList}
 use Rattle.formula_files.specs.Outcome as file
-use Rattle.formula_check.specs.Formula.{firstWrong, adders, lengths, check, judged, known}
+use Rattle.formula_check.specs.Formula.{firstWrong, adders, lengths, check, judged, knownMap}
 use Rattle.formula_check.specs.sums.Sums.{productForms}
 use Rattle.formula_check.specs.declared.verdicts.Verdict.{Verdict}
 use Rattle.formula_check.specs.declared.verdicts.Verdict.the-variants as verdict
@@ -37,7 +37,9 @@ use Rattle.printing.specs.fields.Written.{bytesIn, writtenIn}
 use Rattle.printing.specs.fields.laws.Pieces.{name-short, number-short}
 use Rattle.check_text.specs.CheckAnswers.{verdictOf, replyText, replyOf, bytesOf}
 use Rattle.service.specs.Service.{checkRead, checkFile}
-use Rattle.service.specs.check_program.CheckProgram.{printed, programText}
+use Rattle.printing.specs.refusals.Pages.{answerText}
+use Rattle.service.specs.check_program.CheckProgram.{programText}
+use Rattle.text.specs.Limits.{mostBytes}
 
 -- ---- refusals are at most 9
 abbrev Small : {A : Type 0} → Answer A → Type 0
@@ -58,7 +60,7 @@ judged-small kd p q r n m u k xs ys rows =
 
 check-small : (number p q r k : ℕ) (xs ys rows : List ℕ) → Small (check number p q r k xs ys rows)
 unfolding check
-check-small number p q r k xs ys rows = kinded (known (kindNumbered number))
+check-small number p q r k xs ys rows = kinded (knownMap (kindNumbered number))
   where
     sized : (kd : Kind) (o : Option (ℕ × ℕ × ℕ)) → Small (need 3 o λ z. judged kd p q r (z .0) (z .1) (z .2) k xs ys rows)
     sized kd none = omega arith
@@ -80,11 +82,11 @@ four false false false true kd p q r k xs ys zs = omega arith
 four false false false false kd p q r k xs ys zs = tt
 
 rest-small : (h : Head) (s : List ℕ) (la lb lr : ℕ) → SmallRead (rest h s la lb lr)
-unfolding rest file.judged
+unfolding rest file.readJudged
 rest-small h s la lb lr = named (h .kind)
   where
     Judged : Kind → ℕ × ℕ × ℕ → List ℕ × List ℕ × List ℕ → Outcome
-    Judged kd z d = file.judged kd (h .p) (h .q) (h .r) (h .k) (z .0) (z .1) (z .2) la lb lr (d .0) (d .1) (d .2)
+    Judged kd z d = file.readJudged kd (h .p) (h .q) (h .r) (h .k) (z .0) (z .1) (z .2) la lb lr (d .0) (d .1) (d .2)
 
     lined : (kd : Kind) (z : ℕ × ℕ × ℕ) (o : Option (List ℕ × List ℕ × List ℕ)) → SmallRead (file.need 5 o (Judged kd z))
     lined kd z none = omega arith
@@ -187,10 +189,10 @@ unfolding bytesIn
 bytes-whole t d h = ap (λ (b : Bool). cond b 0 (length t)) (le-ltb (length d) (length t) h)
 
 -- the two replies told apart
-pub print-text : (s d d₁ : List ℕ) (n : ℕ) → length d ≡ 256 → n ≡ replyOf (checkFile s) d → d₁ ≡ bytesOf (checkFile s) d → 35 < n → take n d₁ ≡ printed (checkFile s)
+pub print-text : (s d d₁ : List ℕ) (n : ℕ) → length d ≡ 256 → n ≡ replyOf (checkFile s) d → d₁ ≡ bytesOf (checkFile s) d → 35 < n → take n d₁ ≡ answerText (checkFile s)
 print-text s d d₁ n l e f h = go (checkFile s) (file-fine s) e f
   where
-    go : (a : Answer (List ℕ)) → Fine a → n ≡ replyOf a d → d₁ ≡ bytesOf a d → take n d₁ ≡ printed a
+    go : (a : Answer (List ℕ)) → Fine a → n ≡ replyOf a d → d₁ ≡ bytesOf a d → take n d₁ ≡ answerText a
     go (refused x) g p q = absurd (omega arith)
     go (accepted t) g p q =
         let m : length t ≤ length d = omega (arith, g .1) in
@@ -198,10 +200,10 @@ print-text s d d₁ n l e f h = go (checkFile s) (file-fine s) e f
         ∙ written-take t d m
 
 pub print-refusal : (s d d₁ d₂ : List ℕ) (n e : ℕ) → length d ≡ 256 → n ≡ replyOf (checkFile s) d → d₁ ≡ bytesOf (checkFile s) d → n ≤ 35
-    → e ≡ bytesIn (refusedText n) d₁ → d₂ ≡ writtenIn (refusedText n) d₁ → take e d₂ ≡ printed (checkFile s)
+    → e ≡ bytesIn (refusedText n) d₁ → d₂ ≡ writtenIn (refusedText n) d₁ → take e d₂ ≡ answerText (checkFile s)
 print-refusal s d d₁ d₂ n e l p q h x y = go (checkFile s) (file-fine s) p q
   where
-    go : (a : Answer (List ℕ)) → Fine a → n ≡ replyOf a d → d₁ ≡ bytesOf a d → take e d₂ ≡ printed a
+    go : (a : Answer (List ℕ)) → Fine a → n ≡ replyOf a d → d₁ ≡ bytesOf a d → take e d₂ ≡ answerText a
     go (refused z) g p q =
         let m : length (refusedText n) ≤ length d₁ = let k = refused-most n in let j = ap length q in omega arith in
         ap₂ take x y ∙ written-take (refusedText n) d₁ m ∙ ap refusedText p
@@ -210,15 +212,15 @@ print-refusal s d d₁ d₂ n e l p q h x y = go (checkFile s) (file-fine s) p q
         let r : n ≡ length t = p ∙ ap (λ (b : Bool). cond b 9 (length t)) (le-ltb (length d) (length t) m) in
         absurd (omega (arith, g .0))
 
-pub program-long : (s d d₁ : List ℕ) (e : ℕ) → length d ≡ 256 → 65536 < length s → e ≡ bytesIn (refusedText 1) d → d₁ ≡ writtenIn (refusedText 1) d → take e d₁ ≡ programText s
+pub program-long : (s d d₁ : List ℕ) (e : ℕ) → length d ≡ 256 → mostBytes < length s → e ≡ bytesIn (refusedText 1) d → d₁ ≡ writtenIn (refusedText 1) d → take e d₁ ≡ programText s
 unfolding programText
 program-long s d d₁ e l h x y =
     ap₂ take x y ∙ written-take (refusedText 1) d (let k = refused-most 1 in omega arith)
-    ∙ sym (ap (λ (b : Bool). cond b (refusedText 1) (printed (checkFile s))) (lt-ltb 65536 (length s) h))
+    ∙ sym (ap (λ (b : Bool). cond b (refusedText 1) (answerText (checkFile s))) (lt-ltb mostBytes (length s) h))
 
-pub program-short : (s : List ℕ) → length s ≤ 65536 → printed (checkFile s) ≡ programText s
+pub program-short : (s : List ℕ) → length s ≤ mostBytes → answerText (checkFile s) ≡ programText s
 unfolding programText
-program-short s h = sym (ap (λ (b : Bool). cond b (refusedText 1) (printed (checkFile s))) (le-ltb 65536 (length s) h))
+program-short s h = sym (ap (λ (b : Bool). cond b (refusedText 1) (answerText (checkFile s))) (le-ltb mostBytes (length s) h))
 
 -- ---- what is printed fits 256 bytes
 pub bytes-most : (t d : List ℕ) → length d ≡ 256 → bytesIn t d ≤ 256

@@ -1,4 +1,4 @@
--- `dead::flag_before` meets its contract: the flags so far are those of new numbers. Assumes nothing.
+-- `sieve::dead_numbers::flag_before` meets its contract: the flags so far are those of new numbers. Assumes nothing.
 use mathlib.Core.Path.{_≡_, sym, _∙_, subst}
 use Prim.Native.Nat.{ℕ, _-_, _≤_}
 use native.Mathlib.Omega.{arith}
@@ -44,18 +44,5 @@ returns c =
 pub flag-before-spec : {M : Type 1} → statement M
 flag-before-spec =
     tie.close
-    (tie.spec
-    Inv-loop
-    μ-loop
-    loop-holds
-    (λ c. omega arith)
-    (λ c. omega arith)
-    slice-write-flags
-    (λ c. omega arith)
-    (λ c. omega arith)
-    loop-again
-    (λ c. omega arith)
-    (λ c. omega arith)
-    loop-again-2
-    same-length
-    returns)
+    (tie.spec Inv-loop μ-loop loop-holds (λ c. omega arith) (λ c. omega arith) slice-write-flags (λ c. omega arith) (λ c. omega arith) loop-again
+    (λ c. omega arith) (λ c. omega arith) loop-again-2 same-length returns)

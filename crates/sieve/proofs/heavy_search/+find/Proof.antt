@@ -1,4 +1,4 @@
--- `find::find` meets its contract, by recursion on the number of missing dimensions: the heavier numbers are gone. Up to the loop: Before. Assumes nothing.
+-- `sieve::heavy_search::find` meets its contract, by recursion on the number of missing dimensions: the heavier numbers are gone. Up to the loop: Before. Assumes nothing.
 mod Before
 use mathlib.Core.Path.{_≡_, sym, ap, _∙_, subst}
 use mathlib.Core.Logic.{⊎-elim}
@@ -6,7 +6,7 @@ use mathlib.Core.List.{List}
 use Prim.Native.Nat.{ℕ, _+_, _-_}
 use lib.ListN.{length, take}
 use lib.Seq.{length-take-le}
-use Rattle.residues.specs.children.laws.Numbers.{as-few, inside, within, some, falls-one, next-le, one-fits, eight-fits}
+use Rattle.residues.specs.children.laws.Numbers.{as-few, inside, within-numbers, some, falls-one, next-le, one-fits, eight-fits}
 use Rattle.residues.specs.children.Found.{Found, FoundBy}
 use Rattle.sieve.specs.heavy_search.laws.Near.{ready-of}
 use Rattle.sieve.specs.heavy_search.laws.Sweep.{sweep-more, sweep-end, sweep-picked, sweep-value, sweep-pairing, sweep-child, sweep-found}
@@ -20,7 +20,15 @@ use Rattle.residues.proofs.take.Reads as take-reads
 use Rattle.weights.proofs.fill.Reads as fill-reads
 use Rattle.sieve.proofs.heavy_search.+find.{statement}
 use Rattle.sieve.proofs.heavy_search.+find.Tie.{close}
-use Rattle.sieve.proofs.heavy_search.+find.Proof.Before.{as-lt, before-end, claims, fewer, find-Inv-loop, find-array-share-prefix-basis, find-at, find-fill-requires, find-light-requires, find-loop-again, find-loop-holds, find-loop-less, find-next-with-requires, find-next-with-requires-2, find-returns, find-same-length, find-slice-aggregate-fill, find-slice-aggregate-fill-2, find-slice-aggregate-fill-3, find-slice-aggregate-fill-4, find-slice-aggregate-next-with, find-slice-aggregate-next-with-2, find-sub-r, find-μ-loop, μ-find}
+use Rattle.sieve.proofs.heavy_search.+find.Proof.Before.{as-lt, before-end, claims, fewer, find-Inv-loop, find-array-share-prefix-basis}
+use Rattle.sieve.proofs.heavy_search.+find.Proof.Before.{find-at, find-fill-requires, find-light-requires, find-loop-again, find-loop-holds}
+use Rattle.sieve.proofs.heavy_search.+find.Proof.Before.{find-loop-less, find-next-with-requires, find-next-with-requires-2, find-returns}
+use Rattle.sieve.proofs.heavy_search.+find.Proof.Before.{find-same-length, find-slice-aggregate-fill, find-slice-aggregate-fill-2}
+use Rattle.sieve.proofs.heavy_search.+find.Proof.Before.{find-slice-aggregate-fill-3, find-slice-aggregate-fill-4}
+use Rattle.sieve.proofs.heavy_search.+find.Proof.Before.{find-slice-aggregate-next-with, find-slice-aggregate-next-with-2, find-sub-r}
+use Rattle.sieve.proofs.heavy_search.+find.Proof.Before.{find-μ-loop, μ-find}
+use Rattle.residues.specs.Room.{searchRoom}
+use Rattle.weights.specs.rank_rows.Stretch.{rowRoom}
 
 find-mul-take : (t : ℕ) → find-lts.Need-mul-take (claims t) (find-at t) find.Post find-Inv-loop find-μ-loop
 find-mul-take t c =
@@ -45,7 +53,7 @@ find-take-requires t c κs =
     let c₂ = c₁ .before .before .before .before .before .before .before .before .before .before in (
       c₂ .before .before .before .before .before .pre .1 .at .held .valid,
       c₂ .before .before .before .before .before .pre .1 .at .sizes .over,
-      within (as-few (sym (c₂ .before .before .before .before .before .pre .1 .at .sizes .over)) (c₂ .before .before .before .before .before .pre .1 .at .sizes .few))
+      within-numbers (as-few (sym (c₂ .before .before .before .before .before .pre .1 .at .sizes .over)) (c₂ .before .before .before .before .before .pre .1 .at .sizes .few))
           (c .before .before .before .before .loop .inv .0 .all),
     )
 
@@ -95,7 +103,7 @@ find-array-share-prefix-mine t c =
     let c₁ = c .before .before .before .before .before .before .before .before .before .before in
     let c₂ = c₁ .before .before .before .before .before .before .before .before .before .before in
     let c₃ = c₂ .before .before .before .before .before .before .before .before .before .before in
-    within (c₃ .before .before .before .before .before .before .before .before .before .pre .1 .at .sizes .few)
+    within-numbers (c₃ .before .before .before .before .before .before .before .before .before .pre .1 .at .sizes .few)
     (c .before .before .before .before .before .near .kept .1 .1 .1 .1 .1 .1 .1 .1 .1 .1 .1 .1 .0 ∙
     c₁ .before .before .before .before .before .before .before .before .loop .inv .4)
 
@@ -106,7 +114,7 @@ find-slice-aggregate-find t c =
     let c₃ = c₂ .before .before .before .before .before .before .before .before .before .before in
     let c₄ = c₃ .before .before .before .before .before .before .before .before .before .before in
     sym (length-take-le (length (c₄ .args .gens .now))
-    (c .before .before .before .before .before .before .near .last .1 .1 .1 .1 .1 .1 .1 .1 .1 .1 .1 .1 .0) (within (c₄ .pre .1 .at .sizes .few)
+    (c .before .before .before .before .before .before .near .last .1 .1 .1 .1 .1 .1 .1 .1 .1 .1 .1 .1 .0) (within-numbers (c₄ .pre .1 .at .sizes .few)
     (c .before .before .before .before .before .before .near .kept .1 .1 .1 .1 .1 .1 .1 .1 .1 .1 .1 .1 .0 ∙
     c₁ .before .before .before .before .before .before .before .before .before .loop .inv .4)))
 
@@ -177,7 +185,7 @@ find-next-with-requires-3 t c κs =
     let c₄ = c₃ .before .before .before .before .before .before .before .before .before .before in
     let l = c₁ .before .before .before .before .before .before .before .before .before .loop in (
       next-le (before-end (l .inv .0 .to) (c₁ .before .before .before .before .before .before .before .if2 .left)),
-      within (c₄ .pre .1 .at .sizes .few)
+      within-numbers (c₄ .pre .1 .at .sizes .few)
           (c₂ .before .before .before .before .before .before .before .before .fill .kept .1 .1 .1 .1 .1 .1 .1 .0),
     )
 
@@ -201,7 +209,7 @@ find-loop-again-2 t c =
     let N = c .before .before .before .before .before .before .before .near .ensures in
     let n = c .next-with3 in
     let v : FoundBy (a .gens .now) (a .h .now) (a .d .now) (a .start) (a .k) (a .missing - 1) (l .gone) (l .j) (l .marks)
-    (c .before .before .if3 .marks) × (length (c .before .before .if3 .rows) ≡ 32768) × (length (c .before .before .if3 .marks) ≡ 4096) =
+    (c .before .before .if3 .marks) × (length (c .before .before .if3 .rows) ≡ rowRoom) × (length (c .before .before .if3 .marks) ≡ searchRoom) =
     ⊎-elim
     (λ u. (
       subst (λ (m : List ℕ). FoundBy (a .gens .now) (a .h .now) (a .d .now) (a .start) (a .k) (a .missing - 1) (l .gone) (l .j) (l .marks) m) (sym

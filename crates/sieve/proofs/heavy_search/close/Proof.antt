@@ -1,4 +1,4 @@
--- `find::close` meets its contract: the picked numbers so far are done. Assumes nothing.
+-- `sieve::heavy_search::close` meets its contract: the picked numbers so far are done. Assumes nothing.
 use mathlib.Core.Path.{_≡_, sym, _∙_}
 use Prim.Native.Nat.{_-_}
 use native.Mathlib.Omega.{arith}
@@ -6,9 +6,10 @@ use lib.ListN.{length}
 use Rattle.sieve.specs.heavy_search.laws.Step.{Closing, closing-start, closing-next, closing-end}
 use Rattle.sieve.proofs.heavy_search.close.Statement.{statement}
 use Rattle.sieve.proofs.heavy_search.close.Tie as tie
+use Rattle.residues.specs.Room.{searchRoom}
 
 abbrev Inv-loop : tie.InvT-loop
-Inv-loop gens h d start k s gone picks marks₀ n i₀ marks i = Closing gens h d start k gone picks marks₀ i marks × (length marks ≡ 4096)
+Inv-loop gens h d start k s gone picks marks₀ n i₀ marks i = Closing gens h d start k gone picks marks₀ i marks × (length marks ≡ searchRoom)
 
 abbrev μ-loop : tie.MeasureT-loop
 μ-loop gens h d start k s gone picks marks₀ n i₀ marks i = length gens - i
@@ -94,15 +95,5 @@ returns c =
 pub close-spec : {M : Type 1} → statement M
 close-spec =
     tie.close
-    (tie.spec
-    Inv-loop
-    μ-loop
-    next-marked-requires
-    loop-holds
-    step-requires
-    add-next-marked
-    next-marked-requires-2
-    loop-less
-    loop-again
-    same-length
+    (tie.spec Inv-loop μ-loop next-marked-requires loop-holds step-requires add-next-marked next-marked-requires-2 loop-less loop-again same-length
     returns)

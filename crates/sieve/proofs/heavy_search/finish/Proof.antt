@@ -1,4 +1,4 @@
--- `find::finish` meets its contract, test by test. Assumes nothing.
+-- `sieve::heavy_search::finish` meets its contract, test by test. Assumes nothing.
 use mathlib.Core.Path.{sym, _∙_}
 use mathlib.Core.List.{map}
 use native.Mathlib.Omega.{arith}
@@ -43,12 +43,4 @@ returns-3 c =
 
 pub finish-spec : {M : Type 1} → statement M
 finish-spec =
-    tie.close
-    (tie.spec
-    first-new-requires
-    returns
-    known-requires
-    returns-2
-    slice-write-marks
-    (λ c. search needs)
-    returns-3)
+    tie.close (tie.spec first-new-requires returns known-requires returns-2 slice-write-marks (λ c. search needs) returns-3)

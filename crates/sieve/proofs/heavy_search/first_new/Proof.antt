@@ -1,4 +1,4 @@
--- `find::first_new` meets its contract: no number so far is new by h and not in the child. Assumes nothing.
+-- `sieve::heavy_search::first_new` meets its contract: no number so far is new by h and not in the child. Assumes nothing.
 use mathlib.Core.Path.{sym, _∙_}
 use mathlib.Core.List.{map}
 use Prim.Native.Nat.{_-_}
@@ -54,20 +54,5 @@ returns-2 c =
 pub first-new-spec : {M : Type 1} → statement M
 first-new-spec =
     tie.close
-    (tie.spec
-    Inv-loop
-    μ-loop
-    loop-holds
-    (λ c. omega arith)
-    (λ c. omega arith)
-    clear-requires
-    (λ c. omega arith)
-    (λ c. omega arith)
-    returns
-    (λ c. omega arith)
-    (λ c. omega arith)
-    loop-again
-    (λ c. omega arith)
-    (λ c. omega arith)
-    loop-again-2
-    returns-2)
+    (tie.spec Inv-loop μ-loop loop-holds (λ c. omega arith) (λ c. omega arith) clear-requires (λ c. omega arith) (λ c. omega arith) returns
+    (λ c. omega arith) (λ c. omega arith) loop-again (λ c. omega arith) (λ c. omega arith) loop-again-2 returns-2)

@@ -1,4 +1,4 @@
--- `find::light` meets its contract: a shift is a power of two, and a quotient times its divisor is at most what is divided. Assumes nothing.
+-- `sieve::heavy_search::light` meets its contract: a shift is a power of two, and a quotient times its divisor is at most what is divided. Assumes nothing.
 use native.Mathlib.Omega.{arith}
 use lib.Pow.{pow-pos}
 use Rattle.linear.specs.laws.Shift.{one-shift}
@@ -20,5 +20,4 @@ returns-2 c = let a = c .before .args in light-most (a .k) (a .missing) (a .n) _
 
 pub light-spec : {M : Type 1} → statement M
 light-spec =
-    tie.close
-    (tie.spec returns (λ c. omega arith) (λ c. omega arith) (λ c. omega arith) sub-result-3 div-result returns-2)
+    tie.close (tie.spec returns (λ c. omega arith) (λ c. omega arith) (λ c. omega arith) sub-result-3 div-result returns-2)

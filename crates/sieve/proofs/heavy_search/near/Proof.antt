@@ -1,4 +1,4 @@
--- `find::near` meets its contract, by the number of missing dimensions. Assumes nothing.
+-- `sieve::heavy_search::near` meets its contract, by the number of missing dimensions. Assumes nothing.
 use mathlib.Core.Path.{sym, _∙_}
 use native.Mathlib.Omega.{arith}
 use Rattle.sieve.specs.heavy_search.laws.Near.{near-flagged, near-none, near-last, near-two, near-child}
@@ -107,21 +107,5 @@ returns-5 c =
 pub near-spec : {M : Type 1} → statement M
 near-spec =
     tie.close
-    (tie.spec
-    returns
-    returns-2
-    mul-finish
-    shared-slice-read-finish
-    finish-requires
-    same-length
-    returns-3
-    pairs-requires
-    same-length-2
-    same-length-3
-    same-length-4
-    returns-4
-    mul-child
-    shared-slice-read-child
-    child-requires
-    same-length-5
-    returns-5)
+    (tie.spec returns returns-2 mul-finish shared-slice-read-finish finish-requires same-length returns-3 pairs-requires same-length-2 same-length-3
+    same-length-4 returns-4 mul-child shared-slice-read-child child-requires same-length-5 returns-5)

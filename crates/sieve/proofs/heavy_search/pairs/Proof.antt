@@ -1,4 +1,4 @@
--- `find::pairs` meets its contract: nothing is left beside the value, or what is left is done. Assumes nothing.
+-- `sieve::heavy_search::pairs` meets its contract: nothing is left beside the value, or what is left is done. Assumes nothing.
 use mathlib.Core.Path.{sym, _∙_}
 use native.Mathlib.Omega.{arith}
 use borrow.Author.Tests.{not-true}
@@ -114,18 +114,5 @@ returns-2 c =
 pub pairs-spec : {M : Type 1} → statement M
 pairs-spec =
     tie.close
-    (tie.spec
-    (λ c. omega arith)
-    (λ c. omega arith)
-    needed-requires
-    join-requires
-    same-length
-    returns
-    child-requires
-    slice-reshare-prefix-close
-    slice-aggregate-close
-    close-requires
-    same-length-2
-    same-length-3
-    same-length-4
-    returns-2)
+    (tie.spec (λ c. omega arith) (λ c. omega arith) needed-requires join-requires same-length returns child-requires slice-reshare-prefix-close
+    slice-aggregate-close close-requires same-length-2 same-length-3 same-length-4 returns-2)

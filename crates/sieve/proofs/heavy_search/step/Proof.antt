@@ -1,4 +1,4 @@
--- `find::step` meets its contract: a dead value, no space for k, or the number to go on with marked. Assumes nothing.
+-- `sieve::heavy_search::step` meets its contract: a dead value, no space for k, or the number to go on with marked. Assumes nothing.
 use mathlib.Core.Path.{sym, _∙_}
 use native.Mathlib.Omega.{arith}
 use Rattle.residues.specs.children.laws.Found.{by-shared, by-finished}
@@ -56,13 +56,4 @@ returns-3 c =
 
 pub step-spec : {M : Type 1} → statement M
 step-spec =
-    tie.close
-    (tie.spec
-    (λ c. omega arith)
-    (λ c. omega arith)
-    take-requires
-    returns
-    finish-requires
-    same-length
-    returns-2
-    returns-3)
+    tie.close (tie.spec (λ c. omega arith) (λ c. omega arith) take-requires returns finish-requires same-length returns-2 returns-3)

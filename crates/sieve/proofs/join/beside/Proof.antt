@@ -1,4 +1,4 @@
--- `join::beside` meets its contract, by its tests. Assumes nothing.
+-- `sieve::join::beside` meets its contract, by its tests. Assumes nothing.
 use mathlib.Core.Logic.{inl, inr}
 use native.Mathlib.Omega.{arith}
 use Rattle.sieve.proofs.join.beside.Statement.{statement}

@@ -1,4 +1,4 @@
--- `join::half` meets its contract, by the size of what is left. Assumes nothing.
+-- `sieve::join::half` meets its contract, by the size of what is left. Assumes nothing.
 use Prim.Native.Nat.{_+_}
 use native.Mathlib.Nat.{mul-div-le}
 use native.Mathlib.Omega.{arith}

@@ -1,4 +1,4 @@
--- `join::halves` meets its contract: the numbers so far are marked. Assumes nothing.
+-- `sieve::join::halves` meets its contract: the numbers so far are marked. Assumes nothing.
 use mathlib.Core.Path.{sym, _∙_}
 use Prim.Native.Nat.{_-_}
 use native.Mathlib.Omega.{arith}
@@ -43,17 +43,5 @@ returns c =
 pub halves-spec : {M : Type 1} → statement M
 halves-spec =
     tie.close
-    (tie.spec
-    Inv-loop
-    μ-loop
-    half-requires
-    loop-holds
-    (λ c. omega arith)
-    (λ c. omega arith)
-    beside-requires
-    (λ c. omega arith)
-    (λ c. omega arith)
-    (λ c. omega arith)
-    loop-again
-    same-length
-    returns)
+    (tie.spec Inv-loop μ-loop half-requires loop-holds (λ c. omega arith) (λ c. omega arith) beside-requires (λ c. omega arith) (λ c. omega arith)
+    (λ c. omega arith) loop-again same-length returns)

@@ -1,4 +1,4 @@
--- `join::join` meets its contract: the numbers so far are judged. Assumes nothing.
+-- `sieve::join::join` meets its contract: the numbers so far are judged. Assumes nothing.
 use mathlib.Core.Path.{sym, _∙_}
 use mathlib.Core.Logic.{⊎-elim}
 use mathlib.Core.Bool.{false, true≢false}
@@ -100,17 +100,5 @@ returns c =
 pub join-spec : {M : Type 1} → statement M
 join-spec =
     tie.close
-    (tie.spec
-    Inv-loop
-    μ-loop
-    halves-requires
-    next-marked-requires
-    loop-holds
-    third-requires
-    slice-write-picks
-    add-next-marked
-    next-marked-requires-2
-    loop-less
-    loop-again
-    same-length
-    returns)
+    (tie.spec Inv-loop μ-loop halves-requires next-marked-requires loop-holds third-requires slice-write-picks add-next-marked next-marked-requires-2
+    loop-less loop-again same-length returns)

@@ -1,4 +1,4 @@
--- `join::third` meets its contract, by the test that each return stands behind. Assumes nothing.
+-- `sieve::join::third` meets its contract, by the test that each return stands behind. Assumes nothing.
 use mathlib.Core.Logic.{inl}
 use native.Mathlib.Omega.{arith}
 use Rattle.weights.specs.Table.{weightOf}
@@ -71,15 +71,5 @@ returns-3 c = λ e. absurd (omega arith)
 pub third-spec : {M : Type 1} → statement M
 third-spec =
     tie.close
-    (tie.spec
-    mul-if1
-    shared-slice-read-if1
-    returns
-    shared-slice-read-if2
-    cast-if2
-    mul-weight-of
-    shared-slice-read-weight-of
-    weight-of-requires
-    add-if2
-    returns-2
-    returns-3)
+    (tie.spec mul-if1 shared-slice-read-if1 returns shared-slice-read-if2 cast-if2 mul-weight-of shared-slice-read-weight-of weight-of-requires
+    add-if2 returns-2 returns-3)

@@ -1,4 +1,4 @@
--- `marks::next_marked` meets its contract: no number so far is marked. Assumes nothing.
+-- `sieve::marked_numbers::next_marked` meets its contract: no number so far is marked. Assumes nothing.
 use Prim.Native.Nat.{_-_}
 use native.Mathlib.Omega.{arith}
 use Rattle.sieve.specs.marked_numbers.laws.Marks.{Searching, Unmarked, next-start, next-more, next-found, next-none}
@@ -35,13 +35,4 @@ returns-2 c =
 pub next-marked-spec : {M : Type 1} → statement M
 next-marked-spec =
     tie.close
-    (tie.spec
-    Inv-loop
-    μ-loop
-    loop-holds
-    (λ c. omega arith)
-    returns
-    (λ c. omega arith)
-    (λ c. omega arith)
-    loop-again
-    returns-2)
+    (tie.spec Inv-loop μ-loop loop-holds (λ c. omega arith) returns (λ c. omega arith) (λ c. omega arith) loop-again returns-2)

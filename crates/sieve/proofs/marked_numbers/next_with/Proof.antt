@@ -1,4 +1,4 @@
--- `marks::next_with` meets its contract: no number so far has the mark. Assumes nothing.
+-- `sieve::marked_numbers::next_with` meets its contract: no number so far has the mark. Assumes nothing.
 use Prim.Native.Nat.{_-_}
 use native.Mathlib.Omega.{arith}
 use Rattle.sieve.specs.marked_numbers.laws.Marks.{Searching, Without, next-start, next-more, with-found, with-none}
@@ -38,14 +38,4 @@ returns-2 c =
 pub next-with-spec : {M : Type 1} → statement M
 next-with-spec =
     tie.close
-    (tie.spec
-    Inv-loop
-    μ-loop
-    loop-holds
-    (λ c. omega arith)
-    cast-if1
-    returns
-    (λ c. omega arith)
-    (λ c. omega arith)
-    loop-again
-    returns-2)
+    (tie.spec Inv-loop μ-loop loop-holds (λ c. omega arith) cast-if1 returns (λ c. omega arith) (λ c. omega arith) loop-again returns-2)

@@ -12,12 +12,13 @@ use lib.ListN.{getD, set, replicate, length-set}
 use lib.Seq.{getD-set-other}
 use Rattle.residues.specs.children.laws.Blank.{zero-at, zero-length}
 use Rattle.sieve.specs.dead_numbers.Dead.{FlaggedBefore}
+use Rattle.residues.specs.Room.{searchRoom}
 
-pub flag-start : (h flags : List ℕ) → flags ≡ replicate 4096 0 → FlaggedBefore h 0 flags
+pub flag-start : (h flags : List ℕ) → flags ≡ replicate searchRoom 0 → FlaggedBefore h 0 flags
 flag-start h flags e =
     record {
-      whole = zero-length 4096 flags e;
-      only = λ i n. absurd (n (zero-at 4096 flags e i));
+      whole = zero-length searchRoom flags e;
+      only = λ i n. absurd (n (zero-at searchRoom flags e i));
     }
 
 module _ (h : List ℕ) (i : ℕ) (flags : List ℕ) (F : FlaggedBefore h i flags) where

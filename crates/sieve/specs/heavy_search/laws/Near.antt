@@ -22,14 +22,14 @@ use Rattle.residues.specs.laws.Held.{holds-length}
 use Rattle.residues.specs.children.Residues.{withResidue}
 use Rattle.residues.specs.children.Found.{FoundBy, Finished}
 use Rattle.residues.specs.children.laws.Found.{by-shared, by-none, by-finished}
-use Rattle.sieve.specs.heavy_search.Find.{Ready, Neared}
+use Rattle.sieve.specs.heavy_search.Find.{ChildBasis, Neared}
 use Rattle.sieve.specs.heavy_search.laws.Step.{held-child}
 
 pub ready-of : (gens d : List ℕ) (j : ℕ) (s : Basis) (gone : List ℕ) (t : Taken) → getD d j 0 ≢ 0 → Holds (basisOf word (withResidue 0 gens d)) s
-    → Took gens d (getD d j 0) s gone t → Ready gens d j gone t
+    → Took gens d (getD d j 0) s gone t → ChildBasis gens d j gone t
 ready-of gens d j s gone t ne S T = record { shared = T .shared; held = λ e. held-child gens d (getD d j 0) s (t .basis) ne S (T .held e) }
 
-module _ (gens h d : List ℕ) (j start k m : ℕ) (t : Taken) (gone marks : List ℕ) (R : Ready gens d j gone t) where
+module _ (gens h d : List ℕ) (j start k m : ℕ) (t : Taken) (gone marks : List ℕ) (R : ChildBasis gens d j gone t) where
   done : (mine marks′ : List ℕ) → FoundBy gens h d start k (m - 1) gone j marks marks′ → Neared gens h d j start k m t gone marks mine marks′ false
   done mine marks′ F =
       record {

@@ -25,9 +25,11 @@ use Rattle.bases.specs.Basis.{Holds, based-dim}
 use Rattle.bases.specs.declared.Basis.{Basis}
 use Rattle.sieve.specs.marked_numbers.Marks.{NextWith}
 use Rattle.residues.specs.Mapped.{Mapped}
-use Rattle.weights.specs.Table.{weightOf, Filled}
+use Rattle.weights.specs.Table.{weightOf, TableFilled}
 use Rattle.sieve.specs.heavy_search.Find.{Pairing, Finding}
 use Rattle.sieve.specs.heavy_search.laws.Pairs.{mapped-child}
+use Rattle.residues.specs.Room.{searchRoom}
+use Rattle.weights.specs.rank_rows.Stretch.{rowRoom}
 
 pub record Sweeping (gens h d : List ℕ) (start k m : ℕ) (dead w marks₀ : List ℕ) (r j : ℕ) (gone marks : List ℕ) : Type 0 where
   pub from : start ≤ j
@@ -37,12 +39,12 @@ pub record Sweeping (gens h d : List ℕ) (start k m : ℕ) (dead w marks₀ : L
   pub dead-gone : (i : ℕ) → getD dead i 0 ≢ 0 → getD gone i 0 ≢ 0
   pub above : (i : ℕ) → start ≤ i → i < length gens → r < getD w i 0 → getD gone i 0 ≢ 0
   pub same : (i : ℕ) → start ≤ i → i < j → getD w i 0 ≡ r → getD gone i 0 ≢ 0
-  pub all : length gone ≡ 4096
+  pub all : length gone ≡ searchRoom
   pub grown : Grown marks₀ marks
   pub fair : Fair h marks₀ → Fair h marks
 
 module _ (gens h d : List ℕ) (start k m : ℕ) (dead w marks₀ : List ℕ) where
-  pub sweep-start : (top j : ℕ) → length dead ≡ 4096 → ((n : ℕ) → getD w n 0 ≤ top) → NextWith w top start (length gens) j
+  pub sweep-start : (top j : ℕ) → length dead ≡ searchRoom → ((n : ℕ) → getD w n 0 ≤ top) → NextWith w top start (length gens) j
       → Sweeping gens h d start k m dead w marks₀ top j dead marks₀
   sweep-start top j z most N =
       record {
@@ -82,7 +84,7 @@ module _ (gens h d : List ℕ) (start k m : ℕ) (dead w marks₀ : List ℕ) wh
             go (yes q) = S .above n a b q
             go (no q) = S .same n a (omega arith) (omega arith)
 
-    pub sweep-more : j < length gens → length gens ≤ 4096 → getD d j 0 ≢ 0 → (marks′ : List ℕ) → FoundBy gens h d start k (m - 1) gone j marks marks′
+    pub sweep-more : j < length gens → length gens ≤ searchRoom → getD d j 0 ≢ 0 → (marks′ : List ℕ) → FoundBy gens h d start k (m - 1) gone j marks marks′
         → (i : ℕ) → NextWith w r (j + 1) (length gens) i
         → Sweeping gens h d start k m dead w marks₀ r i (set gone j 1) marks′
     sweep-more l few ne marks′ F i N =
@@ -135,7 +137,7 @@ module _ (gens h d : List ℕ) (start k m : ℕ) (dead w marks₀ : List ℕ) wh
 
 -- ---- at a space
 module _ (gens h d : List ℕ) (start k m : ℕ) (s : Basis) (dead rows marks₀ : List ℕ) (A : Finding gens h d start m s dead rows marks₀) (slots w : List ℕ)
-    (top : ℕ) (T : Filled gens d start dead slots w top) where
+    (top : ℕ) (T : TableFilled gens d start dead slots w top) where
   pub sweep-picked : (low : ℕ) → Light k m (s .len) low → Picked gens d start k m dead low w
   sweep-picked low B =
       weighed-picked gens d start k m dead low w (weightOf slots d w) (A .at .sizes .over) (A .some) (T .weighed) (subst (λ (n : ℕ). Light k m n low) (based-dim
@@ -145,7 +147,7 @@ module _ (gens h d : List ℕ) (start k m : ℕ) (s : Basis) (dead rows marks₀
     pub sweep-value : getD d j 0 ≢ 0
     sweep-value = T .valued j (λ z. let e : getD w j 0 ≡ r = S .here l in omega arith)
 
-    pub sweep-pairing : (picks mine : List ℕ) → length w ≡ 4096 → length picks ≡ 4096 → length mine ≡ 4096 → length marks ≡ 4096
+    pub sweep-pairing : (picks mine : List ℕ) → length w ≡ searchRoom → length picks ≡ searchRoom → length mine ≡ searchRoom → length marks ≡ searchRoom
         → Pairing gens h d j start gone slots w picks mine marks
     sweep-pairing picks mine a b c e =
         record {
@@ -168,7 +170,7 @@ module _ (gens h d : List ℕ) (start k m : ℕ) (s : Basis) (dead rows marks₀
 
     pub sweep-child : 2 < m → (mine : List ℕ) → Mapped (clear word (getD d j 0)) d mine → (b : Basis)
         → Holds (basisOf word (withResidue 0 gens (map (clear word (getD d j 0)) d))) b
-        → (rows′ marks′ : List ℕ) → length rows′ ≡ 32768 → length marks′ ≡ 4096 → Finding gens h (take (length gens) mine) start (m - 1) b gone rows′ marks′
+        → (rows′ marks′ : List ℕ) → length rows′ ≡ rowRoom → length marks′ ≡ searchRoom → Finding gens h (take (length gens) mine) start (m - 1) b gone rows′ marks′
     sweep-child deep mine M b H rows′ marks′ c e =
         subst (λ (x : List ℕ). Finding gens h x start (m - 1) b gone rows′ marks′) (sym (mapped-child gens d mine (getD d j 0) (A .at .sizes .over) M))
         (record {

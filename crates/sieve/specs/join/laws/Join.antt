@@ -20,7 +20,8 @@ use Rattle.residues.specs.children.Weighed.{Apart}
 use Rattle.sieve.specs.marked_numbers.Marks.{NextMarked}
 use Rattle.weights.specs.Table.{weightOf}
 use Rattle.weights.specs.laws.Seek.{either}
-use Rattle.sieve.specs.join.Join.{Half, Halved, Third, Judging, Joining, Join}
+use Rattle.sieve.specs.join.Join.{Half, Halved, Third, ThirdAsked, Joining, Join}
+use Rattle.residues.specs.Room.{searchRoom}
 
 -- ---- half of what is left
 pub half-least : (left : ℕ) → Half left 1
@@ -35,14 +36,14 @@ half-of left = record { less = λ n l. inr (omega (arith, mul-div-le (left + 1) 
 pub record Halving (start n left : ℕ) (gone w : List ℕ) (i : ℕ) (picks : List ℕ) : Type 0 where
   pub from : start ≤ i
   pub to : i ≤ n
-  pub size : length picks ≡ 4096
+  pub size : length picks ≡ searchRoom
   pub out : (j : ℕ) → start ≤ j → j < i → getD picks j 0 ≡ 0 → ((getD w j 0 ≡ 0) ⊎ (getD w j 0 + getD w j 0 < left)) ⊎ (getD gone j 0 ≢ 0)
 
 module _ (start n left : ℕ) (gone w : List ℕ) where
-  pub halving-start : (picks : List ℕ) → start ≤ n → length picks ≡ 4096 → Halving start n left gone w start picks
+  pub halving-start : (picks : List ℕ) → start ≤ n → length picks ≡ searchRoom → Halving start n left gone w start picks
   halving-start picks l z = record { from = omega arith; to = l; size = z; out = λ j a b. absurd (omega arith) }
 
-  pub halving-more : (i : ℕ) (picks : List ℕ) → Halving start n left gone w i picks → i < n → n ≤ 4096 → (least : ℕ) → Half left least
+  pub halving-more : (i : ℕ) (picks : List ℕ) → Halving start n left gone w i picks → i < n → n ≤ searchRoom → (least : ℕ) → Half left least
       → (p : ℕ) → (p ≡ 0 → (getD w i 0 < least) ⊎ (getD gone i 0 ≢ 0)) → Halving start n left gone w (i + 1) (set picks i p)
   halving-more i picks H l few least B p f =
       record {
@@ -92,7 +93,7 @@ module _ (d : List ℕ) (start x left : ℕ) (gone slots w : List ℕ) where
       apart n (inr q) = inr (inr (inl q))
 
   module _ (i : ℕ) (picks : List ℕ) (r : Bool) (W : Walked d start x left gone slots w i picks r) where
-    pub walk-judging : i < length d → Judging d i slots w
+    pub walk-judging : i < length d → ThirdAsked d i slots w
     walk-judging l = record { table = W .asked .table; few = W .asked .few; inside = l; all = W .asked .all }
 
     pub walk-more : i < length d → (p : ℕ) → (p ≡ 0 → Third d i x left w (weightOf slots d w)) → (s : Bool) → (s ≡ false → (p ≡ 0) × (r ≡ false))

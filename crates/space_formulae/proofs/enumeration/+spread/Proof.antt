@@ -1,4 +1,4 @@
--- `spread::spread` meets its contract, by recursion on the number of missing generators: the records so far are written, and those to come, written, give the
+-- `space_formulae::enumeration::spread` meets its contract, by recursion on the number of missing generators: the records so far are written, and those to come, written, give the
 -- final state. Assumes nothing.
 use native.Mathlib.Omega.{arith}
 use mathlib.Core.Path.{_≡_, refl, sym, _∙_}
@@ -18,7 +18,7 @@ use Rattle.first_formula.specs.declared.Choice.{Choice}
 use Rattle.records.specs.Records.{run}
 use Rattle.records.specs.Keep.{stateOf}
 use Rattle.records.specs.declared.Tally.{Tally}
-use Rattle.space_formulae.specs.enumeration.Spread.{formulaeFrom, Node}
+use Rattle.space_formulae.specs.enumeration.Spread.{formulaeFrom, Branch}
 use Rattle.space_formulae.proofs.Going.{Going, going-leaf, going-full, going-stop, going-end, going-skip, node-down, going-down}
 use borrow.Fn.Kinds.{In}
 use borrow.Fn.PlainCycle.{Measures, is, falls, and}
@@ -60,12 +60,12 @@ claims t = (
 )
 
 abbrev spread-Inv-loop : spread-lts.InvT-loop
-spread-Inv-loop gens w targets start missing b c limit out₀ n u₀ j₀ out u j =
+spread-Inv-loop gens w targets start missing b c limit out₀ n counts₀ j₀ out counts j =
     Going gens w targets (rowsOf b) (numbersOf c) missing limit
-    (run limit (stateOf u₀ out₀) (formulaeFrom gens w targets (rowsOf b) (numbersOf c) (length gens - start) start missing)) (length out₀) j u out
+    (run limit (stateOf counts₀ out₀) (formulaeFrom gens w targets (rowsOf b) (numbersOf c) (length gens - start) start missing)) (length out₀) j counts out
 
 abbrev spread-μ-loop : spread-lts.MeasureT-loop
-spread-μ-loop gens w targets start missing b c limit out₀ n u₀ j₀ out u j = length gens - j
+spread-μ-loop gens w targets start missing b c limit out₀ n counts₀ j₀ out counts j = length gens - j
 
 -- facts on numbers
 some : {m : ℕ} → m ≢ 0 → 1 ≤ m
@@ -83,7 +83,7 @@ one-fits l k = record { fits = omega arith }
 eight-fits : {j n : ℕ} → j < n → n * 8 < 2 ^ 63 → Fits w64 (j * 8)
 eight-fits l k = record { fits = omega arith }
 
-room-more : {gens w : List ℕ} {missing : ℕ} {b : Basis} {c : Choice} {t : Tally} {limit : ℕ} {out : List ℕ} → Node gens w missing b c t limit out → missing ≢ 0 → c .len < 64
+room-more : {gens w : List ℕ} {missing : ℕ} {b : Basis} {c : Choice} {t : Tally} {limit : ℕ} {out : List ℕ} → Branch gens w missing b c t limit out → missing ≢ 0 → c .len < 64
 room-more N n = omega (arith, N .room)
 
 spread-keep-requires : (t : ℕ) → spread-lts.Need-keep-requires (claims t) (spread-at t) spread.Post spread-Inv-loop spread-μ-loop
@@ -113,7 +113,7 @@ spread-returns-2 t c =
     let if1 = c .before .before .before .before .if1 in
     let loop = c .before .before .before .loop in
     going-full (args .gens .now) (args .w .now) (args .targets .now) (args .missing) (args .b) (args .c) (args .t) (args .limit) (args .out .now)
-    (pre .1) (if1 .left) _ _ (loop .j) (loop .u) (loop .out) (loop .inv) (c .if2 .taken)
+    (pre .1) (if1 .left) _ _ (loop .j) (loop .counts) (loop .out) (loop .inv) (c .if2 .taken)
 
 spread-mul-g : (t : ℕ) → spread-lts.Need-mul-g (claims t) (spread-at t) spread.Post spread-Inv-loop spread-μ-loop
 spread-mul-g t c = eight-fits (c .before .before .loop-test .taken) (c .before .before .before .before .before .before .before .before .before .good .0 .1)
@@ -162,7 +162,7 @@ spread-spread-requires t c κs =
     let e = if1 .left in (
       falls-one d e,
       node-down (args .gens .now) (args .w .now) (args .targets .now) (args .missing) (args .b) (args .c) (args .t) (args .limit)
-          (args .out .now) (pre .1) (if1 .left) _ _ (loop .j) (loop .u) (loop .out) (loop .inv) (loop-test .taken)
+          (args .out .now) (pre .1) (if1 .left) _ _ (loop .j) (loop .counts) (loop .out) (loop .inv) (loop-test .taken)
           (sym (is-wanted .ensures) ∙ if3 .taken) (c .before .before .insert .result) (child-basis t (c .before .before)) (c .before .add .result)
           (c .before .add .ensures),
     )
@@ -193,7 +193,7 @@ spread-same-length-3 t c =
     let before = c .before .before .before .before .before .before .before in
     let the-spread = c .before .before .before .before .spread in
     (going-down (args .gens .now) (args .w .now) (args .targets .now) (args .missing) (args .b) (args .c) (args .t) (args .limit) (args .out .now)
-    (pre .1) (if1 .left) _ _ (loop .j) (loop .u) (loop .out) (loop .inv) (loop-test .taken) (sym (is-wanted .ensures) ∙ if3 .taken)
+    (pre .1) (if1 .left) _ _ (loop .j) (loop .counts) (loop .out) (loop .inv) (loop-test .taken) (sym (is-wanted .ensures) ∙ if3 .taken)
     (the-insert .result) (child-basis t before) (add .result) (add .ensures) (the-spread .result) _ (the-spread .ensures)) .same
 
 spread-returns-3 : (t : ℕ) → spread-lts.Need-returns-3 (claims t) (spread-at t) spread.Post spread-Inv-loop spread-μ-loop
@@ -213,7 +213,7 @@ spread-returns-3 t c =
     going-stop (args .gens .now) (args .w .now) (args .targets .now) (args .missing) (args .b) (args .c) (args .limit) (pre .1 .space) (pre .1 .valid)
     _ _ (loop .j) (the-spread .result) _
     (going-down (args .gens .now) (args .w .now) (args .targets .now) (args .missing) (args .b) (args .c) (args .t) (args .limit) (args .out .now)
-    (pre .1) (if1 .left) _ _ (loop .j) (loop .u) (loop .out) (loop .inv) (loop-test .taken) (sym (is-wanted .ensures) ∙ if3 .taken)
+    (pre .1) (if1 .left) _ _ (loop .j) (loop .counts) (loop .out) (loop .inv) (loop-test .taken) (sym (is-wanted .ensures) ∙ if3 .taken)
     (the-insert .result) (child-basis t before) (add .result) (add .ensures) (the-spread .result) _ (the-spread .ensures)) (loop-test .taken)
     (sym (c .before .completes .ensures) ∙ not-true (c .before .completes .result) (c .if4 .taken))
 
@@ -242,7 +242,7 @@ spread-loop-again t c =
     let before = c .before .before .before .before .before .before .before in
     let the-spread = c .before .before .before .before .spread in
     going-down (args .gens .now) (args .w .now) (args .targets .now) (args .missing) (args .b) (args .c) (args .t) (args .limit) (args .out .now)
-    (pre .1) (if1 .left) _ _ (loop .j) (loop .u) (loop .out) (loop .inv) (loop-test .taken) (sym (is-wanted .ensures) ∙ if3 .taken)
+    (pre .1) (if1 .left) _ _ (loop .j) (loop .counts) (loop .out) (loop .inv) (loop-test .taken) (sym (is-wanted .ensures) ∙ if3 .taken)
     (the-insert .result) (child-basis t before) (add .result) (add .ensures) (the-spread .result) _ (the-spread .ensures)
 
 spread-add-j-2 : (t : ℕ) → spread-lts.Need-add-j-2 (claims t) (spread-at t) spread.Post spread-Inv-loop spread-μ-loop
@@ -262,7 +262,7 @@ spread-loop-again-2 t c =
     let loop = c .before .before .before .before .before .before .loop in
     let loop-test = c .before .before .before .before .before .loop-test in
     going-skip (args .gens .now) (args .w .now) (args .targets .now) (args .missing) (args .b) (args .c) (args .t) (args .limit) (args .out .now)
-    (pre .1) (if1 .left) _ _ (loop .j) (loop .u) (loop .out) (loop .inv) (loop-test .taken) (sym (c .before .is-wanted .ensures) ∙ c .if3 .left)
+    (pre .1) (if1 .left) _ _ (loop .j) (loop .counts) (loop .out) (loop .inv) (loop-test .taken) (sym (c .before .is-wanted .ensures) ∙ c .if3 .left)
 
 spread-same-length-4 : (t : ℕ) → spread-lts.Need-same-length-4 (claims t) (spread-at t) spread.Post spread-Inv-loop spread-μ-loop
 spread-same-length-4 t c = c .before .loop .inv .same
@@ -272,7 +272,7 @@ spread-returns-4 t c =
     let args = c .before .before .before .before .before .before .before .args in
     let pre = c .before .before .before .before .before .before .before .pre in
     going-end (args .gens .now) (args .w .now) (args .targets .now) (args .missing) (args .b) (args .c) (args .t) (args .limit) (args .out .now)
-    (pre .1) (c .before .before .if1 .left) _ _ (c .before .loop .j) (c .before .loop .u) (c .before .loop .out) (c .before .loop .inv)
+    (pre .1) (c .before .before .if1 .left) _ _ (c .before .loop .j) (c .before .loop .counts) (c .before .loop .out) (c .before .loop .inv)
     (c .loop-test .left)
 
 pub +spread-spec : {M : Type 1} → statement M

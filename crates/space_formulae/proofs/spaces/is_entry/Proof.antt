@@ -1,4 +1,4 @@
--- `spaces::is_entry` meets its contract. Assumes nothing.
+-- `space_formulae::spaces::is_entry` meets its contract. Assumes nothing.
 use Rattle.space_formulae.specs.spaces.laws.Entry.{rows-other, rows-short, rows-judged}
 use borrow.Author.Needs.{needs}
 use Rattle.space_formulae.proofs.spaces.is_entry.Statement.{statement}
@@ -52,12 +52,4 @@ returns-3 c =
 pub is-entry-spec : {M : Type 1} → statement M
 is-entry-spec =
     tie.close
-    (tie.spec
-    (λ c κs. search needs)
-    has-rows-requires
-    returns
-    (λ c κs. search needs)
-    completes-requires
-    returns-2
-    misses-requires
-    returns-3)
+    (tie.spec (λ c κs. search needs) has-rows-requires returns (λ c κs. search needs) completes-requires returns-2 misses-requires returns-3)

@@ -1,4 +1,4 @@
--- `spaces::list_space` meets its contract. Assumes nothing.
+-- `space_formulae::spaces::list_space` meets its contract. Assumes nothing.
 use mathlib.Core.Path.{refl}
 use mathlib.Core.List.{[]}
 use Prim.Native.Nat.{_+_}
@@ -47,13 +47,5 @@ returns-2 c =
 pub list-space-spec : {M : Type 1} → statement M
 list-space-spec =
     tie.close
-    (tie.spec
-    (λ c. search needs)
-    (λ c. search needs)
-    add-limit-2
-    (λ c κs. search needs)
-    spread-requires
-    (λ c. search needs)
-    returns
-    (λ c. search needs)
-    returns-2)
+    (tie.spec (λ c. search needs) (λ c. search needs) add-limit-2 (λ c κs. search needs) spread-requires (λ c. search needs) returns
+    (λ c. search needs) returns-2)

@@ -23,7 +23,7 @@ use Rattle.linear.specs.laws.Select.{anyOf-no, no-anyOf}
 use Rattle.linear.specs.laws.Entry.{sameBasis-yes, same-yes, inside-yes, yes-inside, fits-yes, yes-fits, generatorsIn-within}
 use Rattle.bases.specs.declared.Basis.{Basis}
 use Rattle.bases.specs.Basis.{rowsOf, Holds, rows-length}
-use Rattle.space_formulae.specs.spaces.Spaces.{isEntry}
+use Rattle.space_formulae.specs.spaces.Spaces.{isEntry, Rows}
 
 -- of two numbers, where the first is at most the second
 test-same : (d k : ℕ) → d ≤ k → eqb d k ≡ leb k d
@@ -61,11 +61,7 @@ module _ (gens targets rows : List ℕ) where
           (no-anyOf outside targets (λ t m. ap not (yes-inside word rows (E .reduced) t (E .holds t m)))))
 
   -- ---- the test as the code makes it
-  pub record Rows (r : Bool) : Type 0 where
-    pub is : r ≡ isEntry gens targets rows
-    pub room : r ≡ true → length rows ≤ 64
-
-  pub rows-other : (b : Basis) → Holds (basisOf word rows) b → (s : Bool) → s ≡ sameBasis word (rowsOf b) rows → not s ≡ true → Rows false
+  pub rows-other : (b : Basis) → Holds (basisOf word rows) b → (s : Bool) → s ≡ sameBasis word (rowsOf b) rows → not s ≡ true → Rows gens targets rows false
   unfolding isEntry
   rows-other b H s q z =
       let e : sameBasis word (rowsOf b) rows ≡ false = sym q ∙ not-true s z in
@@ -109,7 +105,7 @@ module _ (gens targets rows : List ℕ) where
         ap₂ (λ (x y : Bool). x && (y && not (anyOf outside targets))) (ap (λ (B : List ℕ). sameBasis word B rows) (sym (H .is)) ∙ e) enough
         ∙ ap (λ (B : List ℕ). completes word gens rows [] 0 && not (anyOf (λ t. not (inside word B t)) targets)) (sym own)
 
-    pub rows-short : not r ≡ true → Rows false
+    pub rows-short : not r ≡ true → Rows gens targets rows false
     rows-short y =
         let q : completes word gens rows [] 0 ≡ false = full-is ∙ not-true r y in
         record {
@@ -117,7 +113,7 @@ module _ (gens targets rows : List ℕ) where
           room = (λ z. absurd (false≢true z));
         }
 
-    pub rows-judged : not r ≡ false → (m : Bool) → m ≡ anyOf (λ t. not (inside word (rowsOf b) t)) targets → Rows (not m)
+    pub rows-judged : not r ≡ false → (m : Bool) → m ≡ anyOf (λ t. not (inside word (rowsOf b) t)) targets → Rows gens targets rows (not m)
     rows-judged y m f =
         let q : completes word gens rows [] 0 ≡ true = full-is ∙ not-false r y in
         record {

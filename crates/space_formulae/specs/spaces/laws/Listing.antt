@@ -1,6 +1,6 @@
 -- The formulae of a space, listed.
---   Accepted gens targets rows            == rows are those of a solution space, at most 64, and there is a target
---   Told gens targets rows old r after    == r and the buffer say what is defined
+--   SpaceAccepted gens targets rows            == rows are those of a solution space, at most 64, and there is a target
+--   FormulaeTold gens targets rows old r after == r and the buffer say what is defined
 --   record-size                           the record of a formula has the size that its definition says
 --   first-node                            what the recursion asks is met at the start
 --   told-all, told-more                   what it gives there is the listing: all, or more
@@ -16,7 +16,7 @@ use lib.Seq.{take-take}
 use lib.Dec.{eqb}
 use borrow.Author.Tests.{eq-eqb, ne-eqb}
 use Rattle.linear.specs.Basis.{Reduced}
-use Rattle.linear.specs.Entry.{chosen, Solution}
+use Rattle.linear.specs.Entry.{chosen}
 use Rattle.linear.specs.Formulae.{formulae}
 use Rattle.linear.specs.Spread.{Inner}
 use Rattle.linear.specs.Word.{word}
@@ -33,22 +33,12 @@ use Rattle.records.specs.Records.{State, run}
 use Rattle.records.specs.Keep.{stateOf}
 use Rattle.catalogue.specs.listing.Listing.{flat, fitting}
 use Rattle.catalogue.specs.listing.laws.Run.{afterAll, run-limit}
-use Rattle.space_formulae.specs.enumeration.Spread.{formulaeFrom, Node}
+use Rattle.space_formulae.specs.enumeration.Spread.{formulaeFrom, Branch}
 use Rattle.space_formulae.specs.enumeration.laws.Spread.{formulae-from}
 use Rattle.problems.specs.Problem.{problem}
-use Rattle.space_formulae.specs.spaces.Spaces.{Formulae, recordSize, listing, seenFormulae}
-use Rattle.space_formulae.specs.declared.spaces.Listed.{Listed as Reply}
+use Rattle.space_formulae.specs.spaces.Spaces.{Formulae, recordSize, formulaeListing, SpaceAccepted, FormulaeTold}
 use Rattle.space_formulae.specs.declared.spaces.Listed.the-variants as reply
 use Rattle.kinds.specs.Refusal.{accepted}
-
-pub record Accepted (gens targets rows : List ℕ) : Type 0 where
-  pub entry : Solution word gens targets (length rows) rows
-  pub few : length rows ≤ 64
-  pub some-target : 1 ≤ length targets
-  pub targets-few : length targets ≤ 64
-
-pub record Told (gens targets rows old : List ℕ) (r : Reply) (after : List ℕ) : Type 0 where
-  pub answer : accepted (listing (problem gens targets) rows old) ≡ seenFormulae r after
 
 module _ (gens targets rows : List ℕ) (ρ : Reduced word rows) where
   pub record-size : (r : List ℕ) → List·Memᴰ r (map (formulaRecord gens targets) (formulae word gens rows)) → length r ≡ recordSize targets rows
@@ -84,11 +74,11 @@ module _ (n c w : ℕ) (h : 0 < n) where
       at d a b = a (omega arith)
 
 -- ---- the recursion from the empty basis
-module _ (gens targets rows old : List ℕ) (A : Accepted gens targets rows) (b : Basis) (B : Holds [] b) where
+module _ (gens targets rows old : List ℕ) (A : SpaceAccepted gens targets rows) (b : Basis) (B : Holds [] b) where
   ρ : Reduced word rows
   ρ = A .entry .reduced
 
-  pub first-node : (c : Choice) → Whole c → c .len ≡ 0 → (limit : ℕ) → Node gens rows (length rows) b c (record { found = 0; shown = 0; at = 0 }) limit old
+  pub first-node : (c : Choice) → Whole c → c .len ≡ 0 → (limit : ℕ) → Branch gens rows (length rows) b c (record { found = 0; shown = 0; at = 0 }) limit old
   unfolding chosen
   first-node c W z limit =
       record {
@@ -160,12 +150,12 @@ module _ (gens targets rows old : List ℕ) (A : Accepted gens targets rows) (b 
     equal : {a a′ : ℕ} {b b′ : Bool} {d d′ : List ℕ} → a ≡ a′ → b ≡ b′ → d ≡ d′ → _≡_ {A = Formulae} (record { listed = a; whole = b; buffer = d }) (record { listed = a′; whole = b′; buffer = d′ })
     equal e f g = cc
 
-    told : (t : Bool) → eqb s (length all) ≡ t → accepted (listing (problem gens targets) rows old) ≡ accepted (record { listed = u .shown; whole = t; buffer = last })
-    unfolding listing
+    told : (t : Bool) → eqb s (length all) ≡ t → accepted (formulaeListing (problem gens targets) rows old) ≡ accepted (record { listed = u .shown; whole = t; buffer = last })
+    unfolding formulaeListing
     told t e = ap accepted (equal (sym shown) e (sym buffer))
 
-    pub told-all : u .found ≡ u .shown → Told gens targets rows old (reply.All (u .shown)) last
+    pub told-all : u .found ≡ u .shown → FormulaeTold gens targets rows old (reply.All (u .shown)) last
     told-all e = record { answer = told true (eq-eqb s (length all) (all-fit n (length all) (length old) size-ok (sym found ∙ e ∙ shown))) }
 
-    pub told-more : u .found ≢ u .shown → Told gens targets rows old (reply.More (u .shown)) last
+    pub told-more : u .found ≢ u .shown → FormulaeTold gens targets rows old (reply.More (u .shown)) last
     told-more e = record { answer = told false (ne-eqb s (length all) (more-fit n (length all) (length old) size-ok (λ x. e (found ∙ x ∙ sym shown)))) }

@@ -1,102 +1,45 @@
--- `heads::head_lines` meets its contract. Assumes nothing.
+-- `text::heads::head_lines` meets its contract. Assumes nothing.
 use native.Mathlib.Nat.{le-refl}
 use borrow.Author.Needs.{needs}
-use mathlib.Core.Path.{ap, _∙_}
+use mathlib.Core.List.{List}
+use Prim.Native.Nat.{ℕ, _+_, _≤_}
+use lib.ListN.{length}
+use mathlib.Core.Path.{_∙_}
 use native.Mathlib.Omega.{arith}
-use Rattle.text.specs.heads.Head.{headLine}
-use Rattle.text.specs.Views.{seenUsed}
+use Rattle.text.specs.heads.Head.{headLine, headNames}
 use Rattle.text.specs.heads.Views.{seenHead, bytesHead}
-use Rattle.text.specs.laws.Line.{used-fit, read-at, fits-at}
+use Rattle.text.specs.laws.Line.{Named, named, unnamed, read-at, fits-at}
 use Rattle.text.specs.heads.laws.Head.{heads-name, heads-is, head-at}
 use Rattle.text.proofs.heads.head_lines.Statement.{statement}
 use Rattle.text.proofs.heads.head_lines.Tie as tie
 
-name-line-requires : tie.Need-name-line-requires
-name-line-requires c κs = tt
+abbrev s : tie.After-known-told → List ℕ
+s c = c .before .before .before .before .before .before .args .s .now
 
-enum-known-u : tie.Need-enum-known-u
-enum-known-u c = c .match .keys1
-
-enum-told : tie.Need-enum-told
-enum-told c = c .match .keys2
-
-returns : tie.Need-returns
-returns c =
-    let name-line = c .before .before .name-line in
-    let args = c .before .before .before .before .before .args in
-    (heads-name _ (name-line .ensures .0 ∙ ap (seenUsed (args .s .now)) (c .enum-told .given .1)), omega arith)
-
-sub-head-line : tie.Need-sub-head-line
-sub-head-line c =
-    let name-line = c .before .before .before .name-line in
-    (used-fit _ _ _ (name-line .ensures .1) (c .before .u .given .1))
-
-part-head-line-start : tie.Need-part-head-line-start
-part-head-line-start c =
-    let name-line = c .before .before .before .name-line in
-    (used-fit _ _ _ (name-line .ensures .1) (c .before .u .given .1))
-
-part-head-line-end : tie.Need-part-head-line-end
-part-head-line-end c = le-refl _
-
-head-line-requires : tie.Need-head-line-requires
-head-line-requires c κs = tt
-
-enum-known-kind : tie.Need-enum-known-kind
-enum-known-kind c = c .match2 .keys1
-
-enum-told-2 : tie.Need-enum-told-2
-enum-told-2 c = c .match2 .keys2
+names : (c : tie.After-known-told) → Named headNames (s c) (c .before .used .given .0 .0)
+names c = named _ _ _ _ (c .before .before .before .name-line .ensures) (c .before .used .given .1)
 
 returns-2 : tie.Need-returns-2
 returns-2 c =
-    let name-line = c .before .before .before .before .before .before .before .name-line in
-    let args = c .before .before .before .before .before .before .before .before .before .before .args in
-    let u = c .before .before .before .before .before .u in
-    let head-line = c .before .before .head-line in
-    (heads-is _ _ (name-line .ensures .0 ∙ ap (seenUsed (args .s .now)) (u .given .1)) ∙ read-at (args .s .now) _ _ _ headLine seenHead (head-line .ensures .0) (c .enum-told2 .given .1), omega arith)
+    let n = c .before .before .before .before in
+    (heads-is _ _ (names n .is) ∙ read-at (s n) _ _ _ headLine seenHead (c .before .before .head-line .ensures .0) (c .enum-told2 .given .1), omega arith)
 
-add-t15 : tie.Need-add-t15
-add-t15 c =
-    let args = c .before .before .before .before .before .before .before .before .before .before .before .args in
-    let head-line = c .before .before .before .head-line in
-    let name-line = c .before .before .before .before .before .before .before .before .name-line in
-    let u = c .before .before .before .before .before .before .u in
-    let good = c .before .before .before .before .before .before .before .before .before .before .before .good in
-    let h = fits-at (args .s .now) _ _ _ bytesHead (head-line .ensures .1) (c .before .kind .given .1) (used-fit _ _ _ (name-line .ensures .1) (u .given .1)) in
-    omega (arith, h, good)
+fits : (c : tie.After-known-told2) →
+    let n = c .before .before .before .before .before in
+    n .before .used .given .0 .0 + c .before .kind .given .0 .1 .1 .1 .1 .1 .0 ≤ length (s n)
+fits c =
+    let n = c .before .before .before .before .before in
+    fits-at (s n) _ _ _ bytesHead (c .before .before .before .head-line .ensures .1) (c .before .kind .given .1) (names n .fits)
 
 returns-3 : tie.Need-returns-3
 returns-3 c =
-    let the-args = c .before .before .before .before .before .before .before .before .before .before .before .args in
-    let the-name-line = c .before .before .before .before .before .before .before .before .name-line in
-    let the-u = c .before .before .before .before .before .before .u in
-    let the-head-line = c .before .before .before .head-line in
-    let name-line = the-name-line in
-    let args = the-args in
-    let u = the-u in
-    let head-line = the-head-line in (
-      heads-is _ _ (name-line .ensures .0 ∙ ap (seenUsed (args .s .now)) (u .given .1)) ∙ head-at (args .s .now) _ _ _ _ _ _ _ _
-          (head-line .ensures .0) (c .before .kind .given .1),
-      fits-at (args .s .now) _ _ _ bytesHead (head-line .ensures .1)
-          (c .before .kind .given .1) (used-fit _ _ _ (name-line .ensures .1) (u .given .1)),
-    )
+    let n = c .before .before .before .before .before in
+    (heads-is _ _ (names n .is) ∙ head-at (s n) _ _ _ _ _ _ _ _ (c .before .before .before .head-line .ensures .0) (c .before .kind .given .1), fits c)
 
 pub head-lines-spec : {M : Type 1} → statement M
 head-lines-spec =
     tie.close
-    (tie.spec
-    (λ c. search needs)
-    name-line-requires
-    enum-known-u
-    enum-told
-    returns
-    sub-head-line
-    part-head-line-start
-    part-head-line-end
-    head-line-requires
-    enum-known-kind
-    enum-told-2
-    returns-2
-    add-t15
-    returns-3)
+    (tie.spec (λ c. search needs) (λ c κs. tt) (λ c. c .match .keys1) (λ c. c .match .keys2)
+    (λ c. (heads-name _ (unnamed _ _ _ (c .before .before .name-line .ensures .0) (c .enum-told .given .1)), omega arith)) (λ c. names c .fits)
+    (λ c. names c .fits) (λ c. le-refl _) (λ c κs. tt) (λ c. c .match2 .keys1) (λ c. c .match2 .keys2) returns-2
+    (λ c. omega (arith, fits c, c .before .before .before .before .before .before .before .before .before .before .before .good)) returns-3)

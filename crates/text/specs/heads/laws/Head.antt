@@ -2,15 +2,16 @@
 --   fields-1 .. fields-is   the four counts
 --   head-cut .. head-is     the second line
 --   heads-name .. heads-is  the first two lines
---   kind-*                  the kind that a name is
+--   kind-back .. kind-no    the kind that a name is
 -- Assumes nothing.
 use Prim.Native.Nat.{ℕ, _+_, _-_}
-use mathlib.Core.Path.{_≡_, ap, _∙_}
+use mathlib.Core.Path.{_≡_, refl, ap, _∙_, subst}
 use mathlib.Core.List.{List}
 use mathlib.Core.Bool.{true, false}
 use mathlib.Core.Option.{none, some}
 use lib.ListN.{length, take, drop}
 use lib.Seq.{drop-drop}
+use Rattle.kinds.specs.declared.Kind.{Kind}
 use Rattle.kinds.specs.declared.Kind.the-variants as kind
 use Rattle.kinds.specs.Kinds.{kindNamed, nameOf, same, seenKind}
 use Rattle.kinds.specs.declared.Known.{Known}
@@ -18,7 +19,7 @@ use Rattle.text.specs.Numeral.{count}
 use Rattle.text.specs.Line.{cut, LF, comma, nameLine, countField}
 use Rattle.text.specs.heads.Head.{headNames, countFields, headLine, headLines}
 use Rattle.text.specs.heads.Views.{seenHead}
-use Rattle.text.specs.laws.Line.{read-at}
+use Rattle.text.specs.laws.Line.{read-at, same-only}
 use Rattle.text.specs.declared.heads.HeadRead.{HeadRead}
 use Rattle.text.specs.declared.heads.HeadRead.the-variants as head
 
@@ -54,7 +55,8 @@ pub head-counts : (s x t y z : List ℕ) → cut LF s ≡ some (x, t) → cut co
 unfolding headLine
 head-counts s x t y z e h i = rw (e, h, i)
 
-pub head-is : (s x t y z : List ℕ) (p q r k : ℕ) → cut LF s ≡ some (x, t) → cut comma x ≡ some (y, z) → countFields z ≡ some (p, q, r, k) → headLine s ≡ some (record { kind = kindNamed y; p = p; q = q; r = r; k = k }, t)
+pub head-is : (s x t y z : List ℕ) (p q r k : ℕ) → cut LF s ≡ some (x, t) → cut comma x ≡ some (y, z) → countFields z ≡ some (p, q, r, k)
+    → headLine s ≡ some (record { kind = kindNamed y; p = p; q = q; r = r; k = k }, t)
 unfolding headLine
 head-is s x t y z p q r k e h i = rw (e, h, i)
 
@@ -74,21 +76,16 @@ head-at s u x kind p q r k v e h =
     ∙ ap (λ (t : List ℕ). some (record { kind = seenKind kind; p = p; q = q; r = r; k = k }, t)) (drop-drop v u s)
 
 -- ---- the kind that a name is
-module _ (s : List ℕ) where
-  pub kind-1 : same (nameOf kind.Poly) s ≡ true → kindNamed s ≡ some kind.Poly
-  kind-1 a = rw a
+pub kind-back : (k : Kind) → kindNamed (nameOf k) ≡ some k
+kind-back kind.Poly = refl
+kind-back kind.Short = refl
+kind-back kind.Circ = refl
+kind-back kind.Mat = refl
+kind-back kind.List = refl
 
-  pub kind-2 : same (nameOf kind.Poly) s ≡ false → same (nameOf kind.Short) s ≡ true → kindNamed s ≡ some kind.Short
-  kind-2 a b = rw (a, b)
+pub kind-named : (k : Kind) (s : List ℕ) → same (nameOf k) s ≡ true → kindNamed s ≡ some k
+kind-named k s h = subst (λ (t : List ℕ). kindNamed t ≡ some k) (same-only (nameOf k) s h) (kind-back k)
 
-  pub kind-3 : same (nameOf kind.Poly) s ≡ false → same (nameOf kind.Short) s ≡ false → same (nameOf kind.Circ) s ≡ true → kindNamed s ≡ some kind.Circ
-  kind-3 a b c = rw (a, b, c)
-
-  pub kind-4 : same (nameOf kind.Poly) s ≡ false → same (nameOf kind.Short) s ≡ false → same (nameOf kind.Circ) s ≡ false → same (nameOf kind.Mat) s ≡ true → kindNamed s ≡ some kind.Mat
-  kind-4 a b c d = rw (a, b, c, d)
-
-  pub kind-5 : same (nameOf kind.Poly) s ≡ false → same (nameOf kind.Short) s ≡ false → same (nameOf kind.Circ) s ≡ false → same (nameOf kind.Mat) s ≡ false → same (nameOf kind.List) s ≡ true → kindNamed s ≡ some kind.List
-  kind-5 a b c d e = rw (a, b, c, d, e)
-
-  pub kind-no : same (nameOf kind.Poly) s ≡ false → same (nameOf kind.Short) s ≡ false → same (nameOf kind.Circ) s ≡ false → same (nameOf kind.Mat) s ≡ false → same (nameOf kind.List) s ≡ false → kindNamed s ≡ none
-  kind-no a b c d e = rw (a, b, c, d, e)
+pub kind-no : (s : List ℕ) → same (nameOf kind.Poly) s ≡ false → same (nameOf kind.Short) s ≡ false → same (nameOf kind.Circ) s ≡ false
+    → same (nameOf kind.Mat) s ≡ false → same (nameOf kind.List) s ≡ false → kindNamed s ≡ none
+kind-no s a b c d e = rw (a, b, c, d, e)

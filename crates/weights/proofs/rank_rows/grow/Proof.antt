@@ -1,4 +1,4 @@
--- `stretches::grow` meets its contract: what is left of d is the row that is missing. Assumes nothing.
+-- `weights::rank_rows::grow` meets its contract: what is left of d is the row that is missing. Assumes nothing.
 use borrow.Author.Needs.{needs}
 use native.Mathlib.Omega.{arith}
 use Rattle.weights.specs.rank_rows.laws.Grow.{part-left, grown-full, grown-old, grown-over, grown-new}
@@ -52,23 +52,6 @@ returns-4 c =
 pub grow-spec : {M : Type 1} → statement M
 grow-spec =
     tie.close
-    (tie.spec
-    returns
-    (λ c. search needs)
-    reduce-rows-requires
-    (λ c. search needs)
-    (λ c. search needs)
-    (λ c. search needs)
-    (λ c. search needs)
-    (λ c. search needs)
-    reduce-rows-requires-2
-    (λ c. search needs)
-    returns-2
-    (λ c. search needs)
-    returns-3
-    (λ c. search needs)
-    (λ c. search needs)
-    (λ c. search needs)
-    (λ c. search needs)
-    (λ c. search needs)
-    returns-4)
+    (tie.spec returns (λ c. search needs) reduce-rows-requires (λ c. search needs) (λ c. search needs) (λ c. search needs) (λ c. search needs)
+    (λ c. search needs) reduce-rows-requires-2 (λ c. search needs) returns-2 (λ c. search needs) returns-3 (λ c. search needs)
+    (λ c. search needs) (λ c. search needs) (λ c. search needs) (λ c. search needs) returns-4)

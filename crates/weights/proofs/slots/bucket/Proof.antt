@@ -1,4 +1,4 @@
--- `hash::bucket` meets its contract: it is the definition's formula, and no step of it wraps. Assumes nothing.
+-- `weights::slots::bucket` meets its contract: it is the definition's formula, and no step of it wraps. Assumes nothing.
 use mathlib.Core.Path.{refl}
 use borrow.Author.Needs.{needs}
 use native.Mathlib.Omega.{arith}
@@ -11,4 +11,4 @@ unfolding bucketOf
 returns c = (refl, omega arith)
 
 pub bucket-spec : {M : Type 1} → statement M
-bucket-spec = tie.close (tie.spec (λ c. search needs) (λ c. search needs) (λ c. search needs) returns)
+bucket-spec = tie.close (tie.spec (λ c. search needs) (λ c. search needs) (λ c. search needs) (λ c. search needs) returns)

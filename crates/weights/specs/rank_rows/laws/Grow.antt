@@ -21,7 +21,8 @@ use Rattle.linear.specs.Word.{word}
 use Rattle.linear.specs.laws.Space.{add-assoc, add-nul}
 use Rattle.linear.specs.laws.Span.{cast, span-add, span-mem, span-mono}
 use Rattle.linear.specs.laws.Reduce.{reduce-rest}
-use Rattle.weights.specs.rank_rows.Stretch.{stretch, Growing, Grown}
+use Rattle.weights.specs.rank_rows.Stretch.{stretch, StretchGrowing, StretchGrown, rowRoom}
+use Rattle.residues.specs.Room.{searchRoom}
 
 -- d is in the span of the rows, S and what is left of it
 rest-in : (S R : List ℕ) (d : ℕ) → (w : ℕ) × Span word (R ++ S) w × (d ≡ bitXor w (reduce word R (reduce word S d)))
@@ -50,7 +51,7 @@ module _ (S R : List ℕ) (w : ℕ) where
   row-in = span-mem word (Memᴰ·append-left S (Memᴰ·append-right R (List·Memᴰ·head refl)))
 
 -- the stretches when row m of that of f is written
-module _ (rows : List ℕ) (m f w : ℕ) (size : length rows ≡ 32768) (number : f < 4096) (low : m < 8) where
+module _ (rows : List ℕ) (m f w : ℕ) (size : length rows ≡ rowRoom) (number : f < searchRoom) (low : m < 8) where
   stretch-more : stretch (m + 1) f (set rows (f * 8 + m) w) ≡ stretch m f rows ++ w ∷ []
   stretch-more =
       ap (λ (k : ℕ). stretch k f (set rows (f * 8 + m) w)) (add-one m) ∙ ap (take (suc m)) (drop-set-add (f * 8) rows m w)
@@ -70,7 +71,7 @@ module _ (rows : List ℕ) (m f w : ℕ) (size : length rows ≡ 32768) (number 
           above a b = omega arith
 
 -- ---- the four ways
-pub grown-full : (S rows : List ℕ) (d m f : ℕ) → Growing m f rows → 8 < m → Grown S d m f rows rows m
+pub grown-full : (S rows : List ℕ) (d m f : ℕ) → StretchGrowing m f rows → 8 < m → StretchGrown S d m f rows rows m
 grown-full S rows d m f G l =
     record {
       low = G .low;
@@ -81,8 +82,8 @@ grown-full S rows d m f G l =
       others = λ g n ne k. refl;
     }
 
-module _ (S rows : List ℕ) (d m f : ℕ) (G : Growing m f rows) (w : ℕ) (left : w ≡ reduce word (stretch m f rows) (reduce word S d)) where
-  pub grown-old : m ≤ 8 → w ≡ 0 → Grown S d m f rows rows m
+module _ (S rows : List ℕ) (d m f : ℕ) (G : StretchGrowing m f rows) (w : ℕ) (left : w ≡ reduce word (stretch m f rows) (reduce word S d)) where
+  pub grown-old : m ≤ 8 → w ≡ 0 → StretchGrown S d m f rows rows m
   grown-old l e =
       record {
         low = G .low;
@@ -93,7 +94,7 @@ module _ (S rows : List ℕ) (d m f : ℕ) (G : Growing m f rows) (w : ℕ) (lef
         others = λ g n ne k. refl;
       }
 
-  pub grown-over : m ≡ 8 → Grown S d m f rows rows 199
+  pub grown-over : m ≡ 8 → StretchGrown S d m f rows rows 199
   grown-over l =
       record {
         low = omega arith;
@@ -104,7 +105,7 @@ module _ (S rows : List ℕ) (d m f : ℕ) (G : Growing m f rows) (w : ℕ) (lef
         others = λ g n ne k. refl;
       }
 
-  pub grown-new : m < 8 → Grown S d m f rows (set rows (f * 8 + m) w) (m + 1)
+  pub grown-new : m < 8 → StretchGrown S d m f rows (set rows (f * 8 + m) w) (m + 1)
   grown-new l =
       record {
         low = omega arith;

@@ -1,4 +1,4 @@
--- `lists::any_outside` meets its contract. Assumes nothing.
+-- `words::lists::any_outside` meets its contract. Assumes nothing.
 use native.Mathlib.Omega.{arith}
 use Prim.Native.Nat.{_-_}
 use lib.ListN.{length}
@@ -35,14 +35,4 @@ returns-2 c = checking-end (c .before .before .args .n) (c .before .before .args
 pub any-outside-spec : {M : Type 1} → statement M
 any-outside-spec =
     tie.close
-    (tie.spec
-    Inv-loop
-    μ-loop
-    loop-holds
-    (λ c. omega arith)
-    (λ c. omega arith)
-    returns
-    (λ c. omega arith)
-    (λ c. omega arith)
-    loop-again
-    returns-2)
+    (tie.spec Inv-loop μ-loop loop-holds (λ c. omega arith) (λ c. omega arith) returns (λ c. omega arith) (λ c. omega arith) loop-again returns-2)

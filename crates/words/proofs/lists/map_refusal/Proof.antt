@@ -1,4 +1,4 @@
--- `lists::map_refusal` meets its contract. Assumes nothing.
+-- `words::lists::map_refusal` meets its contract. Assumes nothing.
 use borrow.Author.Needs.{needs}
 use mathlib.Core.Path.{refl, sym, _∙_}
 use mathlib.Core.Bool.{true, false}

@@ -1,4 +1,4 @@
--- `lists::stands_from` meets its contract. Assumes nothing.
+-- `words::lists::stands_from` meets its contract. Assumes nothing.
 use native.Mathlib.Omega.{arith}
 use mathlib.Core.Path.{_≡_, refl}
 use Prim.Native.Nat.{_-_}
@@ -33,14 +33,4 @@ returns-2 c = stands-end (c .before .before .args .x) (c .before .before .args .
 pub stands-from-spec : {M : Type 1} → statement M
 stands-from-spec =
     tie.close
-    (tie.spec
-    Inv-loop
-    μ-loop
-    (λ c. refl)
-    (λ c. omega arith)
-    (λ c. omega arith)
-    returns
-    (λ c. omega arith)
-    (λ c. omega arith)
-    loop-again
-    returns-2)
+    (tie.spec Inv-loop μ-loop (λ c. refl) (λ c. omega arith) (λ c. omega arith) returns (λ c. omega arith) (λ c. omega arith) loop-again returns-2)

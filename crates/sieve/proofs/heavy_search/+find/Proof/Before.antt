@@ -1,4 +1,4 @@
--- What `find::find` asks and keeps up to its loop, and where the loop goes on to lighter numbers: its measure, the claims of its calls, the loop's invariant, and the needs before
+-- What `sieve::heavy_search::find` asks and keeps up to its loop, and where the loop goes on to lighter numbers: its measure, the claims of its calls, the loop's invariant, and the needs before
 -- the loop's other way. The rest is in +find/Proof. Assumes nothing.
 use mathlib.Core.Path.{_≡_, refl, sym, _∙_}
 use mathlib.Core.Logic.{_≢_}
@@ -7,7 +7,7 @@ use native.Mathlib.Omega.{arith}
 use native.Mathlib.Nat.{le-refl}
 use lib.ListN.{length, replicate, length-replicate}
 use Rattle.bases.specs.Basis.{rows-length}
-use Rattle.residues.specs.children.laws.Numbers.{as-few, as-many, ends, within, some}
+use Rattle.residues.specs.children.laws.Numbers.{as-few, as-many, ends, within-numbers, some}
 use Rattle.sieve.specs.heavy_search.laws.Sweep.{Sweeping, sweep-start, sweep-lower, sweep-light, sweep-picked}
 use borrow.Fn.Kinds.{In}
 use borrow.Fn.PlainCycle.{Measures, is, falls, and}
@@ -19,6 +19,8 @@ use Rattle.sieve.proofs.heavy_search.near.Reads as near-reads
 use Rattle.sieve.proofs.marked_numbers.next_with.Reads as next-with-reads
 use Rattle.residues.proofs.take.Reads as take-reads
 use Rattle.weights.proofs.fill.Reads as fill-reads
+use Rattle.residues.specs.Room.{searchRoom}
+use Rattle.weights.specs.rank_rows.Stretch.{rowRoom}
 
 abbrev pub μ-find : Measures 5 find-kinds.ps ℕ
 μ-find κs a = a .1 .1 .1 .1 .1 .0
@@ -48,8 +50,8 @@ claims t = (
 
 abbrev pub find-Inv-loop : find-lts.InvT-loop
 find-Inv-loop gens h d start k missing s rows₀ marks₀ n slots w len top low gone₀ picks₀ mine₀ r₀ j₀ rows marks gone picks mine r j =
-    Sweeping gens h d start k missing gone₀ w marks₀ r j gone marks × (length rows ≡ 32768) × (length marks ≡ 4096) × (length picks ≡ 4096) ×
-    (length mine ≡ 4096) × (r ≤ 200)
+    Sweeping gens h d start k missing gone₀ w marks₀ r j gone marks × (length rows ≡ rowRoom) × (length marks ≡ searchRoom) × (length picks ≡ searchRoom) ×
+    (length mine ≡ searchRoom) × (r ≤ 200)
 
 abbrev pub find-μ-loop : find-lts.MeasureT-loop
 find-μ-loop gens h d start k missing s rows₀ marks₀ n slots w len top low gone₀ picks₀ mine₀ r₀ j₀ rows marks gone picks mine r j = r * 4097 +
@@ -62,7 +64,7 @@ before-end l n = omega arith
 pub positive : {a r : ℕ} → a < r → 1 ≤ r
 positive l = omega arith
 
-pub lighter : (j i : ℕ) {a r n : ℕ} → a < r → n ≤ 4096 → (r - 1) * 4097 + (n - i) < r * 4097 + (n - j)
+pub lighter : (j i : ℕ) {a r n : ℕ} → a < r → n ≤ searchRoom → (r - 1) * 4097 + (n - i) < r * 4097 + (n - j)
 lighter j i p l = omega arith
 
 pub fewer : (r : ℕ) {j i n : ℕ} → j < n → j + 1 ≤ i → i ≤ n → r * 4097 + (n - i) < r * 4097 + (n - j)
@@ -71,14 +73,14 @@ fewer r a b c = omega arith
 pub less : {a b c : ℕ} → a ≤ b → b ≤ c → a - 1 ≤ c
 less p q = omega arith
 
-pub as-lt : {j n : ℕ} → j < n → n ≤ 4096 → j < 4096
+pub as-lt : {j n : ℕ} → j < n → n ≤ searchRoom → j < searchRoom
 as-lt l k = omega arith
 
 pub room : {a b : ℕ} → a ≤ 64 → b ≡ 64 → a ≤ b
 room p q = omega arith
 
-pub all-zero : length (replicate {A = ℕ} 4096 0) ≡ 4096
-all-zero = length-replicate {A = ℕ} 4096 0
+pub all-zero : length (replicate {A = ℕ} searchRoom 0) ≡ searchRoom
+all-zero = length-replicate {A = ℕ} searchRoom 0
 
 pub find-slice-aggregate-fill : (t : ℕ) → find-lts.Need-slice-aggregate-fill (claims t) (find-at t) find.Post find-Inv-loop find-μ-loop
 find-slice-aggregate-fill t c = sym (c .before .before .before .before .before .before .before .pre .1 .at .sizes .gone-all)
@@ -141,7 +143,7 @@ pub find-next-with-requires : (t : ℕ) → find-lts.Need-next-with-requires (cl
 find-next-with-requires t c κs =
     let c₁ = c .before .before .before .before .before .before .before .before .before .before in (
       c₁ .before .before .before .before .before .before .before .before .before .pre .1 .at .sizes .begin,
-      within
+      within-numbers
           (c₁ .before .before .before .before .before .before .before .before .before .pre .1 .at .sizes .few)
           (c .before .before .before .before .before .before .before .fill .kept .1 .1 .1 .1 .1 .1 .1 .0),
     )
@@ -178,7 +180,7 @@ find-next-with-requires-2 t c κs =
     let c₁ = c .before .before .before .before .before .before .before .before .before .before in
     let c₂ = c₁ .before .before .before .before .before .before .before .before .before .before in (
       c₂ .before .before .before .before .pre .1 .at .sizes .begin,
-      within (c₂ .before .before .before .before .pre .1 .at .sizes .few)
+      within-numbers (c₂ .before .before .before .before .pre .1 .at .sizes .few)
           (c₁ .before .before .fill .kept .1 .1 .1 .1 .1 .1 .1 .0),
     )
 

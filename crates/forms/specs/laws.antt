@@ -1,0 +1,2 @@
+-- The laws behind clearing.
+pub mod Clear

@@ -1,0 +1,2 @@
+-- The laws of products.
+pub mod Product

@@ -1,0 +1,3 @@
+-- The laws of sizes and refusals.
+pub mod Sizes
+pub mod Refusal

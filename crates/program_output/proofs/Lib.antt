@@ -1,0 +1,2 @@
+-- The start of a page.
+mod Pages

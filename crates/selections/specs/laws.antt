@@ -1,2 +1,0 @@
--- The laws behind the questions on selections.
-pub mod Replies

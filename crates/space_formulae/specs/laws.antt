@@ -1,0 +1,2 @@
+-- The laws behind the formulae of a space.
+pub mod Replies
