@@ -42,14 +42,12 @@ returns c =
 returns-2 : tie.Need-returns-2
 unfolding catalogue
 returns-2 c =
-    let before = c .before .before .before .before .before .before .before .before .before .before .before .before in
-    let the-pose = c .before .before .before .before .before .before .before .before .before .before .before .pose in
-    let n = c .before .before .before .before .before .before .before .n in
-    let old = before
+    let old = c .before .before .before .before .before .before .before .before .before .before .before .before
     .before .before .before .before .before .before .args .out .now in
-    let pose = the-pose in
+    let pose = c .before .before .before .before .before .before .before .before .before .before .before .pose in
     let list-problem = c .before .before .list-problem in
-    replied-as (λ a. lentCatalogue a old) (follow-made (pose .ensures) _ (n .given .1)) (list-problem .ensures .answer, list-problem .ensures .lent)
+    replied-as (λ a. lentCatalogue a old) (follow-made (pose .ensures) _ (c .before .before .before .before .before .before .before .n .given .1))
+    (list-problem .ensures .answer, list-problem .ensures .lent)
 
 pub catalogue-spec : {M : Type 1} → statement M
 catalogue-spec =

@@ -24,10 +24,8 @@ slice-aggregate-first-wrong c =
 
 first-wrong-requires : tie.Need-first-wrong-requires
 first-wrong-requires c κs =
-    let the-args = c .before .before .before .before .before .before .args in
-    let the-pre = c .before .before .before .before .before .before .pre in
-    let args = the-args in
-    let pre = the-pre in
+    let args = c .before .before .before .before .before .before .args in
+    let pre = c .before .before .before .before .before .before .pre in
     record {
       sized = pre .matching .sized;
       few =

@@ -66,22 +66,18 @@ returns-2 c =
 
 pub read-products-spec : {M : Type 1} → statement M
 read-products-spec =
-    let far = c .before .before .before .before .before .before .before .before .before .before .before .before in
-    let before = far .before .before .before .before .before in
-    let before-2 = c .before .before .before .before .before .before .before .before .before .before .before .before in
-    let the-loop = c .before .before .before .before .before .loop in
     tie.close
     (tie.spec
     Inv-loop μ-loop
     (λ c. (omega arith, omega arith, refl, refl, rw sub-zero))
     (λ c. search needs) (λ c. search needs) (λ c. le-refl _) (λ c κs. tt) (λ c. c .match .keys1) (λ c. c .match .keys2)
-    (λ c. the-loop .inv .2)
-    (λ c. the-loop .inv .3)
+    (λ c. c .before .before .before .before .before .loop .inv .2)
+    (λ c. c .before .before .before .before .before .loop .inv .3)
     returns (λ c κs. tt) (λ c κs. tt) (λ c κs. tt) (λ c κs. tt) (λ c κs. tt) (λ c κs. tt)
-    (λ c. let z = before-2 in
+    (λ c. let z = c .before .before .before .before .before .before .before .before .before .before .before .before in
     omega (arith, fits z, z .before .before .before .before .before .before .before .before .before .before .good))
-    (λ c. let z = before in omega (arith, z .before .loop, z .loop-test, z .before .before .before .before .before .fits))
-    (λ c. let z = before in omega (arith, z .before .loop, z .loop-test))
+    (λ c. let z = c .before .before .before .before .before .before .before .before .before .before .before .before .before .before .before .before .before in omega (arith, z .before .loop, z .loop-test, z .before .before .before .before .before .fits))
+    (λ c. let z = c .before .before .before .before .before .before .before .before .before .before .before .before .before .before .before .before .before in omega (arith, z .before .loop, z .loop-test))
     loop-again
     (λ c. c .before .loop .inv .2)
     (λ c. c .before .loop .inv .3)

@@ -46,30 +46,23 @@ returns-2 c =
 
 pub start-spec : {M : Type 1} → statement M
 start-spec =
-    let far = c .before .before .before .before .before .before .before .before .before .before .before .before in
-    let before = far .before .before .before .before .before .before .before .before .before in
-    let the-read-input = far .before .before .before .before .before .before .read-input in
-    let the-pre = far .before .before .before .before .pre in
-    let read-input-2 = c .before .before .before .before .before .before .before .before .before .before .before .read-input in
-    let pre-2 = c .before .before .before .before .before .before .before .pre in
-    let the-plan-problem = c .before .before .before .before .plan-problem in
     tie.close
     (tie.spec
-    (λ c κs. (pre-2 .0, pre-2 .1))
+    (λ c κs. (c .before .before .before .before .before .before .before .pre .0, c .before .before .before .before .before .before .before .pre .1))
     (λ c. c .match .keys1)
-    (λ c κs. the-pre .3)
+    (λ c κs. c .before .before .before .before .before .before .before .before .before .before .before .before .before .before .before .before .pre .3)
     (λ c. c .match .keys2) (λ c κs. tt) (λ c κs. tt)
     (λ c. room c .0)
     (λ c. sym (length-take-le _ _ (room (c .before) .0)))
     (λ c. room (c .before) .1)
     (λ c. sym (length-take-le _ _ (room (c .before .before) .1)))
-    (λ c κs. let start = before in (start .pre .2, start .pre .3))
-    (λ c. read-input-2 .kept .1 .1 .0)
-    (λ c. read-input-2 .kept .1 .1 .1 .0)
+    (λ c κs. let start = c .before .before .before .before .before .before .before .before .before .before .before .before .before .before .before .before .before .before .before .before .before in (start .pre .2, start .pre .3))
+    (λ c. c .before .before .before .before .before .before .before .before .before .before .before .read-input .kept .1 .1 .0)
+    (λ c. c .before .before .before .before .before .before .before .before .before .before .before .read-input .kept .1 .1 .1 .0)
     (λ c. c .before .before .plan-refused .kept .1 .0)
     returns
-    (λ c. the-read-input .kept .1 .1 .0)
-    (λ c. the-read-input .kept .1 .1 .1 .0)
-    (λ c. the-plan-problem .kept .1 .1 .1 .1 .1 .1 .1 .0)
-    (λ c. the-plan-problem .kept .1 .1 .1 .1 .1 .1 .1 .1 .0)
+    (λ c. c .before .before .before .before .before .before .before .before .before .before .before .before .before .before .before .before .before .before .read-input .kept .1 .1 .0)
+    (λ c. c .before .before .before .before .before .before .before .before .before .before .before .before .before .before .before .before .before .before .read-input .kept .1 .1 .1 .0)
+    (λ c. c .before .before .before .before .plan-problem .kept .1 .1 .1 .1 .1 .1 .1 .0)
+    (λ c. c .before .before .before .before .plan-problem .kept .1 .1 .1 .1 .1 .1 .1 .1 .0)
     returns-2)

@@ -56,32 +56,24 @@ returns-4 c =
 
 pub read-list-spec : {M : Type 1} → statement M
 read-list-spec =
-    let far = c .before .before .before .before .before .before .before .before .before .before .before .before in
-    let good = far .before .before .before .before .before .before .before .before .before .before .before .before .good in
-    let good-2 = far .before .before .before .before .good in
-    let read-roles = far .before .read-roles in
-    let read-roles-2 = c .before .before .before .before .before .before .before .before .before .before .before .before .read-roles in
-    let read-roles2 = c .before .before .before .before .before .read-roles2 in
-    let read-roles-3 = c .before .before .before .before .read-roles in
-    let read-roles2-2 = c .before .before .before .before .read-roles2 in
     tie.close
     (tie.spec (λ c. search needs) (λ c κs. search needs) (λ c. search needs) (λ c. search needs)
     (λ c. list-1 _ _ _ (unnamed _ _ _ (c .before .before .name-line .ensures .0) (c .enum-told .given .1))) (λ c. names c .fits)
     (λ c. names c .fits) (λ c. search needs) (λ c κs. search needs) (λ c. search needs) (λ c. search needs)
-    (λ c. read-roles-3 .kept .1 .1 .1 .0) returns-2
+    (λ c. c .before .before .before .before .read-roles .kept .1 .1 .1 .0) returns-2
     (λ c. omega (
       arith,
       generators-fit c,
-      good-2,
+      c .before .before .before .before .before .before .before .before .before .before .before .before .before .before .before .before .good,
     ))
     generators-fit generators-fit (λ c. search needs) (λ c κs. search needs) (λ c. search needs) (λ c. search needs)
-    (λ c. read-roles-2 .kept .1 .1 .1 .0)
-    (λ c. read-roles2-2 .kept .1 .1 .1 .0) returns-3
+    (λ c. c .before .before .before .before .before .before .before .before .before .before .before .before .read-roles .kept .1 .1 .1 .0)
+    (λ c. c .before .before .before .before .read-roles2 .kept .1 .1 .1 .0) returns-3
     (λ c. omega (
       arith,
       targets-fit c,
-      good,
+      c .before .before .before .before .before .before .before .before .before .before .before .before .before .before .before .before .before .before .before .before .before .before .before .before .good,
     ))
     (λ c.
-    read-roles .kept .1 .1 .1 .0)
-    (λ c. read-roles2 .kept .1 .1 .1 .0) returns-4)
+    c .before .before .before .before .before .before .before .before .before .before .before .before .before .read-roles .kept .1 .1 .1 .0)
+    (λ c. c .before .before .before .before .before .read-roles2 .kept .1 .1 .1 .0) returns-4)
