@@ -2,6 +2,7 @@
 ghost use Prim.Native.Nat.{_≤_, _<_};
 ghost use mathlib.Core.Path.{_≡_};
 ghost use lib.ListN.{length};
+ghost use Rattle.call_values.specs.Rooms.{lentWords};
 use libc::STDIN_FILENO;
 use libc::STDOUT_FILENO;
 
@@ -48,16 +49,19 @@ fn call_on(call: Call, gs: &[u64], ts: &[u64], others: &[u64], out: &mut [u64]) 
     }
 }
 
+// The words of the longest buffer that a call is lent (`lentWords`).
+const LENT_WORDS: usize = 4096;
+
 // Words to lend, each 1000000.
-fn lent_words() -> [u64; 4096]
-    ensures { λ r. ⌜ 4096 ≡ length r ⌝ }
+fn lent_words() -> [u64; LENT_WORDS]
+    ensures { λ r. ⌜ lentWords ≡ length r ⌝ }
 {
-    [1000000; 4096]
+    [1000000; LENT_WORDS]
 }
 
-// One call and the end of its line, in a buffer of w words, of 4096 at most.
+// One call and the end of its line, in a buffer of w words, of LENT_WORDS at most.
 fn call_one(call: Call, w: u64, gs: &[u64], ts: &[u64], others: &[u64]) {
-    if w > 4096 {
+    if w > LENT_WORDS as u64 {
         return;
     }
     let mut buffer = lent_words();

@@ -3,31 +3,37 @@ ghost use Prim.Native.Nat.{_≤_};
 ghost use mathlib.Core.Path.{_≡_};
 ghost use lib.ListN.{length};
 ghost use Rattle.io.specs.Counts.{Counts};
+ghost use Rattle.call_values.specs.Rooms.{textBytes, numberWords};
 use libc::STDOUT_FILENO;
 
+// The bytes of the calls' text, and the words of its numbers (`textBytes`, `numberWords`).
+const TEXT_BYTES: usize = 196608;
+
+const NUMBER_WORDS: usize = 65536;
+
 // Room for a text.
-pub fn text_room() -> [u8; 196608]
-    ensures { λ r. ⌜ 196608 ≡ length r ⌝ }
+pub fn text_room() -> [u8; TEXT_BYTES]
+    ensures { λ r. ⌜ textBytes ≡ length r ⌝ }
 {
-    [0; 196608]
+    [0; TEXT_BYTES]
 }
 
 // Room for its numbers.
-pub fn number_room() -> [u64; 65536]
-    ensures { λ r. ⌜ 65536 ≡ length r ⌝ }
+pub fn number_room() -> [u64; NUMBER_WORDS]
+    ensures { λ r. ⌜ numberWords ≡ length r ⌝ }
 {
-    [0; 65536]
+    [0; NUMBER_WORDS]
 }
 
 // x with the decimal digit d behind it, where that is a word.
 fn with_digit(x: u64, d: u64) -> u64
     requires { ⌜ d ≤ 9 ⌝ }
 {
-    if x > 1844674407370955161 {
+    if x > words::LARGEST / 10 {
         return 0;
     }
     let y = x * 10;
-    if d > 18446744073709551615 - y {
+    if d > words::LARGEST - y {
         return 0;
     }
     y + d

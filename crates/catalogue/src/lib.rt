@@ -9,6 +9,7 @@ ghost use Rattle.catalogue.specs.Catalogue.{catalogue, seenCatalogue, le
 ghost use Rattle.catalogue.specs.Replies.{CatalogueGiven};
 ghost use Rattle.kinds.specs.Limits.{mostGenerators};
 use problems::Posed;
+use words::first_words;
 
 pub mod listing;
 pub mod walk;
@@ -50,6 +51,6 @@ pub fn catalogue(
     let mut t = [0u64; kinds::TARGETS];
     match problems::pose(number, p, q, r, gs, ts, &gs[..0], &mut g, &mut t) {
         Posed::Refused(e) => Catalogued::Refused(e),
-        Posed::Are(n, u) => list_problem(&g[..n], &t[..u], k, out),
+        Posed::Are(n, u) => list_problem(first_words(&g, n), first_words(&t, u), k, out),
     }
 }

@@ -1,5 +1,5 @@
 -- What is accepted is sound.
---   accepted-sound   a formula that is read is one that is not refused, and the lent buffers take it
+--   formula-accepted-sound   a formula that is read is one that is not refused, and the lent buffers take it
 -- Assumes nothing.
 use Prim.Native.Nat.{ℕ}
 use mathlib.Core.Path.{_≡_, sym, ap, _∙_, subst}
@@ -20,8 +20,8 @@ use Rattle.formula_files.specs.laws.Accepted.{FormulaWent, outcome-only}
 use Rattle.kinds.specs.Limits.{mostProducts}
 
 module _ (s : List ℕ) (la lb lr : ℕ) (kind : Kind) (p q r k : ℕ) (xs ys zs : List ℕ) (accepted : outcome s la lb lr ≡ formula kind p q r k xs ys zs) where
-  pub accepted-sound : Sound kind p q r k xs ys zs × BufferRoom k (length zs) la lb lr
-  accepted-sound =
+  pub formula-accepted-sound : Sound kind p q r k xs ys zs × BufferRoom k (length zs) la lb lr
+  formula-accepted-sound =
       let G = outcome-only s la lb lr kind p q r k xs ys zs accepted in
       let h = G .head in
       let W : FormulaWent h (G .text) la lb lr = G .went in

@@ -13,7 +13,7 @@ use Rattle.linear.specs.Space.{Space}
 use Rattle.linear.specs.Span.{Span, Within}
 use Rattle.linear.specs.Basis.{reduce, insert, Reduced, dim}
 use Rattle.linear.specs.Entry.{generator, generatorsIn}
-use Rattle.linear.specs.Share.{weight}
+use Rattle.linear.specs.Share.{spaceWeight}
 
 module _ (S : Space) where
   open Space S using (Vec, nul)
@@ -34,4 +34,4 @@ module _ (S : Space) where
       pub below : number < length gens
       pub has : Span S W (generator S gens number)
       pub new : reduce S D (generator S gens number) ≢ nul
-      pub part : dim S (generatorsIn S gens W) - dim S (generatorsIn S gens D) ≤ (2 ^ m - 1) * weight S gens D W (reduce S D (generator S gens number))
+      pub part : dim S (generatorsIn S gens W) - dim S (generatorsIn S gens D) ≤ (2 ^ m - 1) * spaceWeight S gens D W (reduce S D (generator S gens number))

@@ -6,7 +6,7 @@
 --   over B part      == how many dimensions the list part brings in over the reduced basis B
 --   alike C y gs     == the members of gs whose residue at C is y
 --   others xs        == the sums of the nonempty sublists of xs
---   weight C W y     == the rank of the generators in the space W whose residue at C is y, over those in the space C
+--   spaceWeight C W y == the rank of the generators in the space W whose residue at C is y, over those in the space C
 -- Laws: laws/Share. Assumes nothing.
 use mathlib.Core.Path.{_≡_}
 use mathlib.Core.Logic.{_⊎_}
@@ -43,5 +43,5 @@ module _ (S : Space) where
   others [] = []
   others (x ∷ xs) = others xs ++ x ∷ map (add x) (others xs)
 
-  abbrev pub weight : List Vec → List Vec → List Vec → Vec → ℕ
-  weight gens C W y = over (basisOf S (generatorsIn S gens C)) (alike C y (generatorsIn S gens W))
+  abbrev pub spaceWeight : List Vec → List Vec → List Vec → Vec → ℕ
+  spaceWeight gens C W y = over (basisOf S (generatorsIn S gens C)) (alike C y (generatorsIn S gens W))

@@ -17,8 +17,10 @@ pub mod fields;
 pub mod record_lines;
 pub mod refusals;
 
-// The bytes of a page for a whole reply, and for a part of what the Formulae program prints (`replyPage`, `partPage`).
+// The bytes of a page for a whole reply, for Check's, and for a part of what the Formulae program prints (`replyPage`, `checkPage`, `partPage`).
 pub const REPLY_PAGE: usize = 196608;
+
+pub const CHECK_PAGE: usize = 256;
 
 pub const PART_PAGE: usize = 278528;
 

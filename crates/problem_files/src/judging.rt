@@ -81,6 +81,16 @@ pub fn judge(
         &mut t,
     ) {
         Posed::Refused(e) => ProblemRead::Refused(e),
-        Posed::Are(n, o) => settle(purpose, kind, p, q, r, k, first, second, &t[..o]),
+        Posed::Are(n, o) => settle(
+            purpose,
+            kind,
+            p,
+            q,
+            r,
+            k,
+            first,
+            second,
+            words::first_words(&t, o),
+        ),
     }
 }

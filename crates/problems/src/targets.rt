@@ -25,6 +25,6 @@ pub fn targets_of(
     let mut t = [0u64; kinds::TARGETS];
     match super::pose(number, p, q, r, gs, ts, others, &mut g, &mut t) {
         Posed::Refused(e) => Targets::Refused(e),
-        Posed::Are(n, u) => Targets::Are(u, bases::basis_of(&t[..u]).len),
+        Posed::Are(n, u) => Targets::Are(u, bases::basis_of(words::first_words(&t, u)).len),
     }
 }

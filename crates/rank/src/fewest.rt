@@ -2,7 +2,7 @@
 ghost use mathlib.Core.Path.{_≡_};
 ghost use Prim.Native.Nat.{_≤_};
 ghost use lib.ListN.{length};
-ghost use Rattle.rank.specs.fewest.Fewest.{Ranking, ranking, seenRanked, lentRanking, Asking, Found, Finishing};
+ghost use Rattle.rank.specs.fewest.Fewest.{Ranking, ranking, seenRanked, lentRanking, Asking, LeastFound, Finishing};
 ghost use Rattle.kinds.specs.Limits.{mostGenerators};
 
 // What Rank says: refused by 9, a number of products, above or beyond.
@@ -22,7 +22,7 @@ enum Least {
 // The least number of dimensions, from `ell` to `ell` + 6, that has an entry; the record of its first entry from the start of `room`.
 fn least_entry(gens: &[u64], targets: &[u64], ell: usize, room: &mut [u64]) -> Least
     requires { ⌜ Asking (now gens) (now targets) ell (now room) ⌝ }
-    ensures { λ r. ⌜ Found (now (gens .entry)) (now (targets .entry)) ell r (now (room .exit)) ⌝ }
+    ensures { λ r. ⌜ LeastFound (now (gens .entry)) (now (targets .entry)) ell r (now (room .exit)) ⌝ }
 {
     let end = ell + 7;
     let mut k = ell;

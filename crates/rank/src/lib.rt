@@ -6,6 +6,7 @@ ghost use Rattle.rank.specs.Rank.{rank};
 ghost use Rattle.rank.specs.fewest.Fewest.{seenRanked, lentRanking};
 use fewest::Ranked;
 use problems::Posed;
+use words::first_words;
 
 pub mod fewest;
 
@@ -30,7 +31,7 @@ pub fn rank(
             if k != 0 {
                 return Ranked::Refused(8);
             }
-            fewest::rank_of(&g[..n], &t[..u], out)
+            fewest::rank_of(first_words(&g, n), first_words(&t, u), out)
         }
     }
 }

@@ -5,6 +5,7 @@ ghost use Rattle.selections.specs.on_forms.Selected.{seenSaid};
 ghost use Rattle.selections.specs.Selections.{isSum, isRedundant};
 use on_forms::Said;
 use problems::Posed;
+use words::first_words;
 
 pub mod on_forms;
 
@@ -26,7 +27,7 @@ pub fn is_sum(
     let one = [form];
     match problems::pose(number, p, q, r, gs, ts, &one, &mut g, &mut t) {
         Posed::Refused(e) => Said::Refused(e),
-        Posed::Are(n, u) => on_forms::say_sum(&g[..n], &t[..u], sel, form),
+        Posed::Are(n, u) => on_forms::say_sum(first_words(&g, n), first_words(&t, u), sel, form),
     }
 }
 
@@ -47,6 +48,6 @@ pub fn is_redundant(
     let mut t = [0u64; kinds::TARGETS];
     match problems::pose(number, p, q, r, gs, ts, &gs[..0], &mut g, &mut t) {
         Posed::Refused(e) => Said::Refused(e),
-        Posed::Are(n, u) => on_forms::say_redundant(&g[..n], &t[..u], sel, j),
+        Posed::Are(n, u) => on_forms::say_redundant(first_words(&g, n), first_words(&t, u), sel, j),
     }
 }

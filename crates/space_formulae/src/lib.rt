@@ -5,6 +5,7 @@
 // The reply as text: `formulae_text`.
 use problems::Posed;
 use spaces::Listed;
+use words::first_words;
 ghost use mathlib.Core.Path.{_≡_};
 ghost use Rattle.space_formulae.specs.spaces.Spaces.{formulaeOf, seenFormulae, lentFormulae};
 ghost use Rattle.space_formulae.specs.Replies.{Some, FormulaeGiven};
@@ -46,6 +47,6 @@ pub fn formulae(
     let mut t = [0u64; kinds::TARGETS];
     match problems::pose(number, p, q, r, gs, ts, rows, &mut g, &mut t) {
         Posed::Refused(e) => Listed::Refused(e),
-        Posed::Are(n, u) => list_problem(&g[..n], &t[..u], rows, out),
+        Posed::Are(n, u) => list_problem(first_words(&g, n), first_words(&t, u), rows, out),
     }
 }

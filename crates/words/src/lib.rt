@@ -4,7 +4,7 @@
 ghost use mathlib.Core.Path.{_≡_};
 ghost use mathlib.Core.Bool.{_||_};
 ghost use Prim.Native.Nat.{_+_, _≤_};
-ghost use lib.ListN.{length, set, replicate};
+ghost use lib.ListN.{length, set, replicate, take};
 ghost use lib.Seq.{paste};
 ghost use lib.Dec.{eqb};
 ghost use Rattle.words.specs.Masks.{outside, wide, zeroIn};
@@ -33,6 +33,16 @@ pub fn copy(src: &[u64], out: &mut [u64], at: usize)
         out[at + i] = src[i];
         i += 1;
     }
+}
+
+// The first n words; all of them where there are no more.
+pub fn first_words(a: &[u64], n: usize) -> &[u64]
+    ensures { λ r. ⌜ now r ≡ take n (now (a .entry)) ⌝ }
+{
+    if n > a.len() {
+        return a;
+    }
+    &a[..n]
 }
 
 // The whole of a buffer 0.

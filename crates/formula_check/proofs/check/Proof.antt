@@ -6,7 +6,7 @@ use native.Mathlib.Omega.{arith}
 use lib.ListN.{length}
 use Rattle.kinds.specs.Kinds.{seenKind}
 use Rattle.kinds.specs.Sizes.{seenSizes}
-use Rattle.formula_check.specs.Formula.{judged}
+use Rattle.formula_check.specs.Formula.{judged, check}
 use Rattle.formula_check.specs.laws.Judging.{unlike-a, unlike-b, unlike-rows, check-2, check-3, check-sized}
 use Rattle.formula_check.proofs.check.Statement.{statement}
 use Rattle.formula_check.proofs.check.Tie as tie
@@ -48,43 +48,20 @@ returns-2 c =
     check-3 (args .number) (args .p) (args .q) (args .r) (args .k) (args .a .now) (args .b .now) (args .rows .now) (kind .given .0 .0)
     (map-kind .ensures ∙ ap seenKind (kind .given .1)) (c .before .before .sizes-of .ensures ∙ ap seenSizes (c .enum-told2 .given .1))
 
-returns-3 : tie.Need-returns-3
-returns-3 c =
-    let args = c .before .before .before .before .before .before .before .before .before .before .before .before .args in
-    let map-kind = c .before .before .before .before .before .before .before .before .map-kind in
-    let kind = c .before .before .before .before .before .before .kind in
-    let sizes-of = c .before .before .before .before .sizes-of in
-    let n = c .before .before .n in
-    check-sized (args .number) (args .p) (args .q) (args .r) (args .k) (args .a .now) (args .b .now) (args .rows .now) (kind .given .0 .0)
-    (n .given .0 .0) (n .given .0 .1 .0) (n .given .0 .1 .1 .0) (map-kind .ensures ∙ ap seenKind (kind .given .1))
-    (sizes-of .ensures ∙ ap seenSizes (n .given .1)) ∙ unlike-a (kind .given .0 .0) (args .p) (args .q) (args .r) (n .given .0 .0)
-    (n .given .0 .1 .0) (n .given .0 .1 .1 .0) (args .k) (args .a .now) (args .b .now) (args .rows .now) (c .if1 .taken)
-
-returns-4 : tie.Need-returns-4
-returns-4 c =
-    let far = c .before .before .before .before .before .before .before .before .before .before .before .before in
-    let args = far .before .args in
-    let map-kind = c .before .before .before .before .before .before .before .before .before .map-kind in
-    let kind = c .before .before .before .before .before .before .before .kind in
-    let sizes-of = c .before .before .before .before .before .sizes-of in
-    let n = c .before .before .before .n in
-    check-sized (args .number) (args .p) (args .q) (args .r) (args .k) (args .a .now) (args .b .now) (args .rows .now) (kind .given .0 .0)
-    (n .given .0 .0) (n .given .0 .1 .0) (n .given .0 .1 .1 .0) (map-kind .ensures ∙ ap seenKind (kind .given .1))
-    (sizes-of .ensures ∙ ap seenSizes (n .given .1)) ∙ unlike-b (kind .given .0 .0) (args .p) (args .q) (args .r) (n .given .0 .0)
-    (n .given .0 .1 .0) (n .given .0 .1 .1 .0) (args .k) (args .a .now) (args .b .now) (args .rows .now) (c .if2 .taken)
-
-returns-5 : tie.Need-returns-5
-returns-5 c =
-    let far = c .before .before .before .before .before .before .before .before .before .before .before .before in
-    let args = far .before .before .args in
-    let map-kind = c .before .before .before .before .before .before .before .before .before .before .map-kind in
-    let kind = c .before .before .before .before .before .before .before .before .kind in
-    let sizes-of = c .before .before .before .before .before .before .sizes-of in
-    let n = c .before .before .before .before .n in
-    check-sized (args .number) (args .p) (args .q) (args .r) (args .k) (args .a .now) (args .b .now) (args .rows .now) (kind .given .0 .0)
-    (n .given .0 .0) (n .given .0 .1 .0) (n .given .0 .1 .1 .0) (map-kind .ensures ∙ ap seenKind (kind .given .1))
-    (sizes-of .ensures ∙ ap seenSizes (n .given .1)) ∙ unlike-rows (kind .given .0 .0) (args .p) (args .q) (args .r) (n .given .0 .0)
-    (n .given .0 .1 .0) (n .given .0 .1 .1 .0) (args .k) (args .a .now) (args .b .now) (args .rows .now) (c .if3 .taken)
+-- the kind has formulae and the sizes are good: the lists are judged
+sized : (c : tie.After-known-told2) →
+    let a = c .before .before .before .before .before .before .before .before .before .before .before .args in
+    let kd = c .before .before .before .before .before .kind .given .0 .0 in
+    let n = c .before .n .given .0 in
+    check (a .number) (a .p) (a .q) (a .r) (a .k) (a .a .now) (a .b .now) (a .rows .now)
+    ≡ judged kd (a .p) (a .q) (a .r) (n .0) (n .1 .0) (n .1 .1 .0) (a .k) (a .a .now) (a .b .now) (a .rows .now)
+sized c =
+    let a = c .before .before .before .before .before .before .before .before .before .before .before .args in
+    let kind = c .before .before .before .before .before .kind .given in
+    let n = c .before .n .given in
+    check-sized (a .number) (a .p) (a .q) (a .r) (a .k) (a .a .now) (a .b .now) (a .rows .now) (kind .0 .0) (n .0 .0) (n .0 .1 .0) (n .0 .1 .1 .0)
+    (c .before .before .before .before .before .before .before .map-kind .ensures ∙ ap seenKind (kind .1))
+    (c .before .before .before .sizes-of .ensures ∙ ap seenSizes (n .1))
 
 judge-requires : tie.Need-judge-requires
 judge-requires c κs =
@@ -102,23 +79,20 @@ judge-requires c κs =
 
 returns-6 : tie.Need-returns-6
 returns-6 c =
-    let far = c .before .before .before .before .before .before .before .before .before .before .before .before in
-    let args = far .before .before .before .args in
-    let map-kind = c .before .before .before .before .before .before .before .before .before .before .before .map-kind in
-    let kind = c .before .before .before .before .before .before .before .before .before .kind in
-    let sizes-of = c .before .before .before .before .before .before .before .sizes-of in
-    let n = c .before .before .before .before .before .n in
-    let u : (n .given .0 .1 .1 .0) ≡ length (args .rows .now) = omega arith in
-    let l : args .k ≡ length (args .a .now) = omega arith in
-    check-sized (args .number) (args .p) (args .q) (args .r) (args .k) (args .a .now) (args .b .now) (args .rows .now) (kind .given .0 .0)
-    (n .given .0 .0) (n .given .0 .1 .0) (n .given .0 .1 .1 .0) (map-kind .ensures ∙ ap seenKind (kind .given .1))
-    (sizes-of .ensures ∙ ap seenSizes (n .given .1))
+    let k = c .before .before .before .before in
+    let a = k .before .before .before .before .before .before .before .before .before .before .before .args in
+    let kd = k .before .before .before .before .before .kind .given .0 .0 in
+    let n = k .before .n .given .0 in
+    let u : n .1 .1 .0 ≡ length (a .rows .now) = omega arith in
+    let l : a .k ≡ length (a .a .now) = omega arith in
+    sized k
     ∙ ap₂
-    (λ (x y : ℕ). judged (kind .given .0 .0) (args .p) (args .q) (args .r) (n .given .0 .0) (n .given .0 .1 .0) x y (args .a .now) (args .b .now)
-    (args .rows .now)) u l ∙ c .judge .ensures
+    (λ (x y : ℕ). judged kd (a .p) (a .q) (a .r) (n .0) (n .1 .0) x y (a .a .now) (a .b .now) (a .rows .now)) u l
+    ∙ c .judge .ensures
 
 pub check-spec : {M : Type 1} → statement M
 check-spec =
     tie.close
-    (tie.spec map-kind-requires enum-known-kind enum-told returns sizes-of-requires enum-known-n enum-told-2 returns-2 returns-3 returns-4 returns-5
-    judge-requires returns-6)
+    (tie.spec map-kind-requires enum-known-kind enum-told returns sizes-of-requires enum-known-n enum-told-2 returns-2
+    (λ c. sized (c .before) ∙ unlike-a _ _ _ _ _ _ _ _ _ _ _ (c .if1 .taken)) (λ c. sized (c .before .before) ∙ unlike-b _ _ _ _ _ _ _ _ _ _ _ (c .if2 .taken))
+    (λ c. sized (c .before .before .before) ∙ unlike-rows _ _ _ _ _ _ _ _ _ _ _ (c .if3 .taken)) judge-requires returns-6)

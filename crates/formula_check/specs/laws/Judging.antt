@@ -54,11 +54,12 @@ module _ (kd : Kind) (p q r n m : ℕ) (xs ys rows : List ℕ) (paired : length 
       ap₂ (λ (a b : Bool). not a || b) (eq-eqb (length xs) (length xs) refl)
       (ap₂ (λ (a b : Bool). not a || not b) (eq-eqb (length ys) (length xs) (sym paired)) (eq-eqb (length rows) (length rows) refl))
 
-  pub judged-as : (wa wb wr za zb big : Bool) → wide n xs ≡ wa → wide m ys ≡ wb → wide (length xs) rows ≡ wr → zeroIn xs ≡ za → zeroIn ys ≡ zb → ltb 64 (length xs) ≡ big
+  pub judged-as : {wa wb wr za zb big : Bool} → wide n xs ≡ wa → wide m ys ≡ wb → wide (length xs) rows ≡ wr → zeroIn xs ≡ za
+      → zeroIn ys ≡ zb → ltb 64 (length xs) ≡ big
       → judged kd p q r n m (length rows) (length xs) xs ys rows
       ≡ refuse 6 (wa || (wb || wr)) (refuse 7 (za || zb) (refuse 8 big (accepted (firstWrong kd p q r n m (productForms n m xs ys) rows 0, adders xs ys rows))))
   unfolding judged
-  judged-as wa wb wr za zb big a b c d e f = rw (alike, a, b, c, d, e, f)
+  judged-as a b c d e f = rw (alike, a, b, c, d, e, f)
 
 -- ---- 2 and 3
 module _ (number p q r k : ℕ) (xs ys rows : List ℕ) where

@@ -1,31 +1,18 @@
 -- `kinds::kind_numbered` meets its contract. Assumes nothing.
 use borrow.Author.Tests.{ne-eqb}
-use mathlib.Core.Path.{_≡_, refl, sym}
-use Rattle.kinds.specs.Kinds.{kindNumbered}
+use mathlib.Core.Path.{_≡_, sym, ap, _∙_}
+use mathlib.Core.Option.{some}
+use Prim.Native.Nat.{ℕ}
+use Rattle.kinds.specs.Kinds.{numberOf, kindNumbered, kind-numbered}
+use Rattle.kinds.specs.declared.Kind.{Kind}
+use Rattle.kinds.specs.declared.Kind.the-variants as kind
 use Rattle.kinds.proofs.kind_numbered.Statement.{statement}
 use Rattle.kinds.proofs.kind_numbered.Tie as tie
 use Rattle.kinds.proofs.kind_numbered.Reads as reads
 use Rattle.kinds.proofs.kind_numbered.Lts as lts
 
-returns : tie.Need-returns
-unfolding kindNumbered
-returns c = rw (c .match .keys1)
-
-returns-2 : tie.Need-returns-2
-unfolding kindNumbered
-returns-2 c = rw (c .match .keys2)
-
-returns-3 : tie.Need-returns-3
-unfolding kindNumbered
-returns-3 c = rw (c .match .keys3)
-
-returns-4 : tie.Need-returns-4
-unfolding kindNumbered
-returns-4 c = rw (c .match .keys4)
-
-returns-5 : tie.Need-returns-5
-unfolding kindNumbered
-returns-5 c = rw (c .match .keys5)
+numbered : {x : ℕ} (kd : Kind) → x ≡ numberOf kd → kindNumbered x ≡ some kd
+numbered kd e = ap kindNumbered e ∙ kind-numbered kd
 
 returns-6 : tie.Need-returns-6
 unfolding kindNumbered
@@ -41,4 +28,7 @@ returns-6 c =
     )
 
 pub kind-numbered-spec : {M : Type 1} → statement M
-kind-numbered-spec = tie.close (tie.spec returns returns-2 returns-3 returns-4 returns-5 returns-6)
+kind-numbered-spec =
+    tie.close
+    (tie.spec (λ c. numbered kind.Poly (c .match .keys1)) (λ c. numbered kind.Short (c .match .keys2)) (λ c. numbered kind.Circ (c .match .keys3))
+    (λ c. numbered kind.Mat (c .match .keys4)) (λ c. numbered kind.List (c .match .keys5)) returns-6)

@@ -16,19 +16,21 @@ use Rattle.linear.specs.Bit.{bitOf, bit, digitsOf, top, xorB}
 two-pos : 0 < 2
 two-pos = zero-lt-suc 1
 
+-- what holds at the four pairs of digits
+digits : (P : ℕ → ℕ → Type 0) → P 0 0 → P 0 1 → P 1 0 → P 1 1 → (x y : ℕ) → x < 2 → y < 2 → P x y
+digits P a b c d zero zero h k = a
+digits P a b c d zero (suc zero) h k = b
+digits P a b c d (suc zero) zero h k = c
+digits P a b c d (suc zero) (suc zero) h k = d
+digits P a b c d zero (suc (suc y)) h k = absurd (omega arith)
+digits P a b c d (suc zero) (suc (suc y)) h k = absurd (omega arith)
+digits P a b c d (suc (suc x)) y h k = absurd (omega arith)
+
 bitOf-differ : (x y : ℕ) → x < 2 → y < 2 → bitOf (differ x y) ≡ xorB (bitOf x) (bitOf y)
-bitOf-differ zero y h k = refl
-bitOf-differ (suc zero) zero h k = refl
-bitOf-differ (suc zero) (suc zero) h k = refl
-bitOf-differ (suc zero) (suc (suc y)) h k = absurd (omega arith)
-bitOf-differ (suc (suc x)) y h k = absurd (omega arith)
+bitOf-differ = digits (λ x y. bitOf (differ x y) ≡ xorB (bitOf x) (bitOf y)) refl refl refl refl
 
 differ-lt : (x y : ℕ) → x < 2 → y < 2 → differ x y < 2
-differ-lt zero y h k = k
-differ-lt (suc zero) zero h k = h
-differ-lt (suc zero) (suc zero) h k = omega arith
-differ-lt (suc zero) (suc (suc y)) h k = absurd (omega arith)
-differ-lt (suc (suc x)) y h k = absurd (omega arith)
+differ-lt = digits (λ x y. differ x y < 2) two-pos (omega arith) (omega arith) two-pos
 
 xor-low : (a b : ℕ) → bitXor a b % 2 ≡ differ (a % 2) (b % 2)
 xor-low a b =
@@ -74,22 +76,10 @@ bit-zero i = ap (λ (x : ℕ). bitOf (x % 2)) (zero-div (2 ^ i))
 
 -- ---- digits of `and` and `or`
 bitOf-min : (x y : ℕ) → x < 2 → y < 2 → bitOf (min x y) ≡ bitOf x && bitOf y
-bitOf-min zero zero h k = refl
-bitOf-min zero (suc zero) h k = refl
-bitOf-min (suc zero) zero h k = refl
-bitOf-min (suc zero) (suc zero) h k = refl
-bitOf-min zero (suc (suc y)) h k = absurd (omega arith)
-bitOf-min (suc zero) (suc (suc y)) h k = absurd (omega arith)
-bitOf-min (suc (suc x)) y h k = absurd (omega arith)
+bitOf-min = digits (λ x y. bitOf (min x y) ≡ bitOf x && bitOf y) refl refl refl refl
 
 bitOf-max : (x y : ℕ) → x < 2 → y < 2 → bitOf (max x y) ≡ bitOf x || bitOf y
-bitOf-max zero zero h k = refl
-bitOf-max zero (suc zero) h k = refl
-bitOf-max (suc zero) zero h k = refl
-bitOf-max (suc zero) (suc zero) h k = refl
-bitOf-max zero (suc (suc y)) h k = absurd (omega arith)
-bitOf-max (suc zero) (suc (suc y)) h k = absurd (omega arith)
-bitOf-max (suc (suc x)) y h k = absurd (omega arith)
+bitOf-max = digits (λ x y. bitOf (max x y) ≡ bitOf x || bitOf y) refl refl refl refl
 
 and-low : (a b : ℕ) → bitAnd a b % 2 ≡ min (a % 2) (b % 2)
 and-low a b = omega (arith, and-step a b, mod-lt a two-pos, mod-lt b two-pos)

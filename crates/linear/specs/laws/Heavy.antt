@@ -20,7 +20,7 @@ use Rattle.linear.specs.Span.{Span, Within}
 use Rattle.linear.specs.Basis.{clear, reduce, insert, inserts, basisOf, Reduced, dim}
 use Rattle.linear.specs.Select.{only}
 use Rattle.linear.specs.Entry.{inside, generator, generatorsIn}
-use Rattle.linear.specs.Share.{total, gather, Two, over, alike, others, weight}
+use Rattle.linear.specs.Share.{total, gather, Two, over, alike, others, spaceWeight}
 use Rattle.linear.specs.Heavy.{rests, Fills, Heavy}
 use Rattle.linear.specs.laws.Space.{add-nul, nul-add, zero-scale, one-scale}
 use Rattle.linear.specs.laws.Span.{mem-cons, span-mem, span-bind, span-mono}
@@ -190,7 +190,7 @@ module _ (S : Space) (two : Two S) where
     Z = generatorsIn S gens D
 
     abbrev w : Vec → ℕ
-    w y = weight S gens D W y
+    w y = spaceWeight S gens D W y
 
     -- the values: the sums of the residues of m vectors that lead from D to W
     whole : inserts S D W ≡ W

@@ -1,6 +1,7 @@
 -- What a program prints of an answer, and the words that it has for it.
 --   listingRoom  == a program's buffer of words, before a call
 --   replyPage    == the bytes of a page for a whole reply
+--   checkPage    == the bytes of a page for Check's reply
 --   partPage     == the bytes of a page for a part of what the Formulae program prints
 --   answerText a == the text of an answer, or the line of its refusal
 -- Document 01: "The program's buffer has 4,096 words." Assumes nothing.
@@ -16,6 +17,9 @@ listingRoom = replicate programWords 0
 
 abbrev pub replyPage : ℕ
 replyPage = 196608
+
+abbrev pub checkPage : ℕ
+checkPage = 256
 
 abbrev pub partPage : ℕ
 partPage = 278528

@@ -7,7 +7,7 @@
 use Prim.Native.Nat.{ℕ, _+_, _≤_}
 use mathlib.Core.Path.{_≡_, refl, ap, _∙_, subst}
 use mathlib.Core.List.{List, [], _++_}
-use mathlib.Core.Bool.{Bool, true, false, _||_, true≢false}
+use mathlib.Core.Bool.{false}
 use mathlib.Core.Option.{some}
 use native.Mathlib.Nat.{zero-add}
 use lib.ListN.{length, take, drop}
@@ -17,7 +17,7 @@ use borrow.Author.Tests.{ltb-false}
 use Rattle.kinds.specs.declared.Kind.{Kind}
 use Rattle.kinds.specs.Sizes.{sizes}
 use Rattle.kinds.specs.Refusal.{Answer, accepted, need}
-use Rattle.kinds.specs.laws.Refusal.{need-inv, follow-inv}
+use Rattle.kinds.specs.laws.Refusal.{need-inv, follow-inv, neither}
 use Rattle.text.specs.heads.Head.{Head, headLines}
 use Rattle.problem_files.specs.handed_forms.ProblemLines.{handed, bodyOf}
 use Rattle.problem_files.specs.judging.Judged.{ProblemFile, problemOf, short, problemJudged}
@@ -77,10 +77,6 @@ pub record Taken (u v : ℕ) (P : ProblemFile) : Type 0 where
   pub for-targets : handed (P .kind) (P .r) ≤ v
   pub few-generators : handed (P .kind) (P .q) ≤ mostGenerators
   pub few-targets : handed (P .kind) (P .r) ≤ mostTargets
-
-neither : (a b : Bool) → a || b ≡ false → (a ≡ false) × (b ≡ false)
-neither true b e = absurd (true≢false e)
-neither false b e = (refl, e)
 
 pub room : (a : Purpose) (s : List ℕ) (u v : ℕ) (P : ProblemFile) → problemFile a s u v ≡ accepted P → Taken u v P
 room a s u v P e =

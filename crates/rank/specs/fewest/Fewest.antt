@@ -70,9 +70,9 @@ module _ (gens targets : List ℕ) where
     pub near : k ≤ ell + 6
     pub room : length buffer ≡ 128
 
-  abbrev pub Found : ℕ → Answered → List ℕ → Type 0
-  Found ell answered.No buffer = leastFrom word gens targets 7 ell ≡ none
-  Found ell (answered.Is k) buffer = Here ell k buffer
+  abbrev pub LeastFound : ℕ → Answered → List ℕ → Type 0
+  LeastFound ell answered.No buffer = leastFrom word gens targets 7 ell ≡ none
+  LeastFound ell (answered.Is k) buffer = Here ell k buffer
 
   pub record Finishing (w : List ℕ) : Type 0 where
     pub entry : List ℕ

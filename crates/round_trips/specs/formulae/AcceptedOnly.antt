@@ -1,6 +1,6 @@
 -- Nothing else is accepted.
---   accepted-only    a byte string that is read as a formula is the text of that formula
--- That the formula is one that is not refused: accepted-sound (formula_files, AcceptedSound). Assumes nothing.
+--   formula-accepted-only    a byte string that is read as a formula is the text of that formula
+-- That the formula is one that is not refused: formula-accepted-sound (formula_files, AcceptedSound). Assumes nothing.
 use Prim.Native.Nat.{ℕ}
 use mathlib.Core.Path.{_≡_, ap, _∙_}
 use mathlib.Core.List.{List, []}
@@ -14,9 +14,9 @@ use Rattle.round_trips.specs.formulae.laws.HeadOnly.{head-only}
 use Rattle.round_trips.specs.formulae.laws.BodyOnly.{body-only}
 
 module _ (s : List ℕ) (la lb lr : ℕ) (kind : Kind) (p q r k : ℕ) (xs ys zs : List ℕ) (accepted : outcome s la lb lr ≡ formula kind p q r k xs ys zs) where
-  pub accepted-only : s ≡ fileText kind p q r k xs ys zs
+  pub formula-accepted-only : s ≡ fileText kind p q r k xs ys zs
   unfolding fileText
-  accepted-only =
+  formula-accepted-only =
       let G = outcome-only s la lb lr kind p q r k xs ys zs accepted in
       let h = G .head in
       let W : FormulaWent h (G .text) la lb lr = G .went in

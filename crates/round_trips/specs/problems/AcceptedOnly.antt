@@ -1,6 +1,6 @@
 -- Nothing else is accepted.
---   accepted-only    a byte string that is read as a problem is the text of that problem
---   accepted-sound   and that problem is one that is not refused as numbers, with a k that is allowed
+--   problem-accepted-only    a byte string that is read as a problem is the text of that problem
+--   problem-accepted-sound   and that problem is one that is not refused as numbers, with a k that is allowed
 -- Assumes nothing.
 use Prim.Native.Nat.{ℕ}
 use mathlib.Core.Path.{_≡_, ap, _∙_, subst}
@@ -27,18 +27,18 @@ abbrev SoundOf : Purpose → ProblemFile → Type 0
 SoundOf a P = ProblemSound a (P .kind) (P .p) (P .q) (P .r) (P .k) (P .generators) (P .targets)
 
 module _ (a : Purpose) (s : List ℕ) (u v : ℕ) (P : ProblemFile) (taken : problemFile a s u v ≡ accepted P) where
-  pub accepted-only : s ≡ textOf P
+  pub problem-accepted-only : s ≡ textOf P
   unfolding problemText
-  accepted-only =
+  problem-accepted-only =
       let W : ProblemWent a s u v P = problem-went a s u v P taken in
       let h = W .head in
       head-only s (h, W .text) (W .kd) (W .lines) (W .named)
       ∙ ap (fileHead (W .kd) (h .p) (h .q) (h .r) (h .k)) (body-only (W .kd) (h .q) (h .r) (W .z .0) (W .z .1) (W .text) (W .forms) (W .body))
       ∙ ap (λ (Q : ProblemFile). fileHead (Q .kind) (Q .p) (Q .q) (Q .r) (Q .k) (linesText (Q .kind) (Q .generators) (Q .targets))) (W .is)
 
-  pub accepted-sound : SoundOf a P
+  pub problem-accepted-sound : SoundOf a P
   unfolding problemJudged settled
-  accepted-sound =
+  problem-accepted-sound =
       let W : ProblemWent a s u v P = problem-went a s u v P taken in
       let h = W .head in
       let gs : List ℕ = W .forms .0 in

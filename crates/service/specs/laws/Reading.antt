@@ -13,7 +13,7 @@ use Rattle.formula_files.specs.Outcome.{Outcome, outcome}
 use Rattle.formula_files.specs.Outcome as file
 use Rattle.formula_files.specs.Lent.{formulaReply, firstOf, secondOf, rowsLent}
 use Rattle.formula_files.specs.Sound.{Sound, BufferRoom}
-use Rattle.formula_files.specs.AcceptedSound.{accepted-sound}
+use Rattle.formula_files.specs.AcceptedSound.{formula-accepted-sound}
 use Rattle.formula_files.specs.declared.Read.the-variants as read
 use Rattle.formula_check.specs.Formula.{check}
 use Rattle.check_text.specs.CheckAnswers.{replyText}
@@ -60,7 +60,7 @@ module _ (s : List ℕ) (kd : Kind) (p q r k : ℕ) (a b rows a₁ b₁ rows₁ 
   zs = W .2
 
   S : Sound kd p q r k (W .0) (W .1) (W .2) × BufferRoom k (length (W .2)) (length a) (length b) (length rows)
-  S = accepted-sound s (length a) (length b) (length rows) kd p q r k (W .0) (W .1) (W .2) (W .3)
+  S = formula-accepted-sound s (length a) (length b) (length rows) kd p q r k (W .0) (W .1) (W .2) (W .3)
 
   ea : a₁ ≡ filled (W .0) a
   ea = fa ∙ ap (λ (o : Outcome). firstOf o a) (W .3)

@@ -1,40 +1,22 @@
 -- `space_formulae::formulae` meets its contract. Assumes nothing.
 use mathlib.Core.Path.{refl}
-use Rattle.problems.specs.laws.Handed.{follow-refused, follow-made, replied-as, generators-within, generators-taken, targets-within, targets-taken}
+use borrow.Author.Needs.{needs}
+use Rattle.problems.specs.laws.Handed.{follow-refused, follow-made, replied-as}
 use Rattle.space_formulae.specs.spaces.Spaces.{formulaeOf, lentFormulae}
 use Rattle.space_formulae.specs.laws.Replies.{made-some}
-use borrow.Author.Needs.{needs}
 use Rattle.space_formulae.proofs.formulae.Statement.{statement}
 use Rattle.space_formulae.proofs.formulae.Tie as tie
 use Rattle.space_formulae.proofs.formulae.Reads as reads
 use Rattle.space_formulae.proofs.formulae.Lts as lts
 use Rattle.problems.proofs.pose.Reads as pose-reads
+use Rattle.words.proofs.first_words.Reads as first-words-reads
 use Rattle.space_formulae.proofs.list_problem.Reads as list-problem-reads
-
-array-share-prefix-g : tie.Need-array-share-prefix-g
-array-share-prefix-g c =
-    let pose = c .before .before .before .before .before .pose in
-    generators-within (pose .ensures) (c .before .n .given .1) (pose .kept .1 .1 .1 .1 .1 .1 .1 .0)
-
-slice-aggregate-list-problem : tie.Need-slice-aggregate-list-problem
-slice-aggregate-list-problem c =
-    let pose = c .before .before .before .before .before .before .pose in
-    generators-taken (pose .ensures) (c .before .before .n .given .1) (pose .kept .1 .1 .1 .1 .1 .1 .1 .0)
-
-array-share-prefix-t : tie.Need-array-share-prefix-t
-array-share-prefix-t c =
-    let pose = c .before .before .before .before .before .before .pose in
-    targets-within (pose .ensures) (c .before .before .n .given .1) (pose .kept .1 .1 .1 .1 .1 .1 .1 .1 .0)
-
-slice-aggregate-list-problem-2 : tie.Need-slice-aggregate-list-problem-2
-slice-aggregate-list-problem-2 c =
-    let pose = c .before .before .before .before .before .before .before .pose in
-    targets-taken (pose .ensures) (c .before .before .before .n .given .1) (pose .kept .1 .1 .1 .1 .1 .1 .1 .1 .0)
 
 list-problem-requires : tie.Need-list-problem-requires
 list-problem-requires c κs =
-    let pose = c .before .before .before .before .before .before .before .before .pose in
-    made-some (pose .ensures) (c .before .before .before .before .n .given .1) (pose .kept .1 .1 .1 .1 .1 .1 .1 .1 .0)
+    let pose = c .before .before .before .before .before .before .before .before .before .before .pose in
+    let n = c .before .before .before .before .before .before .n in
+    made-some (pose .ensures) (n .given .1) (pose .kept .1 .1 .1 .1 .1 .1 .1 .1 .0) (c .before .first-words2 .ensures)
 
 returns : tie.Need-returns
 unfolding formulaeOf
@@ -45,14 +27,18 @@ returns c =
 returns-2 : tie.Need-returns-2
 unfolding formulaeOf
 returns-2 c =
-    let old = c .before .before .before .before .before .before .before .before .before .before .before .before
-    .before .before .before .before .before .before .args .out .now in
-    let pose = c .before .before .before .before .before .before .before .before .before .before .before .pose in
-    let list-problem = c .before .before .list-problem in
-    replied-as (λ a. lentFormulae a old) (follow-made (pose .ensures) _ (c .before .before .before .before .before .before .before .n .given .1)) (list-problem .ensures .replied)
+    let old = c .before .before .before .before .before .before .before .before .before .before
+    .before .before .before .before .before .before .before .before .before .before .args .out .now in
+    let pose = c .before .before .before .before .before .before .before .before .before .before .before .before .before .pose in
+    let n = c .before .before .before .before .before .before .before .before .before .n in
+    let generators = c .before .before .before .before .before .before .first-words .ensures in
+    let targets = c .before .before .before .before .first-words2 .ensures in
+    replied-as (λ a. lentFormulae a old) (follow-made (pose .ensures) _ (n .given .1) generators targets)
+    (c .before .before .list-problem .ensures .replied)
 
 pub formulae-spec : {M : Type 1} → statement M
 formulae-spec =
     tie.close
-    (tie.spec (λ c. search needs) (λ c. search needs) (λ c κs. search needs) (λ c. search needs) (λ c. search needs) array-share-prefix-g
-    slice-aggregate-list-problem array-share-prefix-t slice-aggregate-list-problem-2 list-problem-requires returns (λ c. search needs) returns-2)
+    (tie.spec (λ c. search needs) (λ c. search needs) (λ c κs. search needs) (λ c. search needs) (λ c. search needs) (λ c. search needs)
+    (λ c κs. search needs)
+    (λ c. search needs) (λ c κs. search needs) list-problem-requires returns (λ c. search needs) returns-2)

@@ -17,7 +17,7 @@ use Rattle.problems.specs.Problem.{Problem, problem}
 use Rattle.problems.specs.declared.Posed.{Posed}
 use Rattle.problems.specs.declared.Posed.the-variants as answer
 use Rattle.problems.specs.Replies.{Laid}
-use Rattle.problems.specs.laws.Handed.{handed-room, targets-taken}
+use Rattle.problems.specs.laws.Handed.{handed-room, targets-handed}
 use Rattle.linear.specs.Basis.{dim}
 use Rattle.linear.specs.Word.{word}
 use Rattle.space_formulae.specs.spaces.Spaces.{Formulae, isEntry, formulaeListing, seenFormulae, lentFormulae, SpaceAccepted, FormulaeTold, Rows}
@@ -74,8 +74,9 @@ module _ (gens targets rows old : List ℕ) where
         }
 
 -- ---- from the problem handed in
-pub made-some : {asked : Answer Problem} {x : Posed} {g t : List ℕ} (L : Laid asked x g t) {c u : ℕ} → x ≡ answer.Are c u → length t ≡ mostTargets → Some (take u t)
-made-some L q h =
+pub made-some : {asked : Answer Problem} {x : Posed} {g t T : List ℕ} (L : Laid asked x g t) {c u : ℕ} → x ≡ answer.Are c u → length t ≡ mostTargets
+    → T ≡ take u t → Some T
+made-some L q h a =
     let R = handed-room L q in
-    let l = targets-taken L q h in
-    record { some-target = (let a = R .some-target in omega arith); few = (let a = R .targets in omega arith) }
+    let l = targets-handed L q h a in
+    record { some-target = (let m = R .some-target in omega arith); few = (let m = R .targets in omega arith) }

@@ -58,19 +58,19 @@ abbrev pub entriesOf : (ell found shown : ℕ) (buffer : List ℕ) → Answer Ca
 entriesOf ell found shown buffer = accepted (record { ell = ell; found = found; shown = shown; buffer = buffer })
 
 -- P: "poly 2,2: k = 3 finds one entry, extension `-`, basis `8 6 1`"
-abbrev pub three : WorkedLine
-three = catalogued 0 2 2 0 3 [] [] (0 ∷ 0 ∷ 0 ∷ 5 ∷ []) (entriesOf 3 1 1 (8 ∷ 6 ∷ 1 ∷ 5 ∷ []))
+abbrev pub threeProducts : WorkedLine
+threeProducts = catalogued 0 2 2 0 3 [] [] (0 ∷ 0 ∷ 0 ∷ 5 ∷ []) (entriesOf 3 1 1 (8 ∷ 6 ∷ 1 ∷ 5 ∷ []))
 
 -- P: "its only formula is 0 4 8 with rows 1, 7, 2"
 abbrev pub karatsuba : WorkedLine
 karatsuba = listedFormulae 0 2 2 0 [] [] (8 ∷ 6 ∷ 1 ∷ []) (5 ∷ 5 ∷ 5 ∷ 5 ∷ 5 ∷ 5 ∷ 5 ∷ []) (accepted (record { listed = 1; whole = true; buffer = 0 ∷ 4 ∷ 8 ∷ 1 ∷ 7 ∷ 2 ∷ 5 ∷ [] }))
 
 -- P: "poly 2,2: k = 4 finds one, extension 1; k = 5 finds none."
-abbrev pub four : WorkedLine
-four = catalogued 0 2 2 0 4 [] [] (0 ∷ 0 ∷ 0 ∷ 0 ∷ 0 ∷ []) (entriesOf 3 1 1 (1 ∷ 8 ∷ 4 ∷ 2 ∷ 1 ∷ []))
+abbrev pub fourProducts : WorkedLine
+fourProducts = catalogued 0 2 2 0 4 [] [] (0 ∷ 0 ∷ 0 ∷ 0 ∷ 0 ∷ []) (entriesOf 3 1 1 (1 ∷ 8 ∷ 4 ∷ 2 ∷ 1 ∷ []))
 
-abbrev pub five : WorkedLine
-five = catalogued 0 2 2 0 5 [] [] (0 ∷ []) (entriesOf 3 0 0 (0 ∷ []))
+abbrev pub fiveProducts : WorkedLine
+fiveProducts = catalogued 0 2 2 0 5 [] [] (0 ∷ []) (entriesOf 3 0 0 (0 ∷ []))
 
 -- P: "Check of poly 2,2, products (1,1), (2,2), (3,3): rows 1, 7, 2 right, 4 adders; rows 1, 3, 2 wrong at output 1."
 abbrev pub right : WorkedLine
@@ -104,10 +104,10 @@ abbrev pub one : WorkedLine
 one = ranked 0 1 1 0 [] [] (7 ∷ 7 ∷ 7 ∷ []) (accepted (is 1 (0 ∷ 1 ∷ 7 ∷ [])))
 
 abbrev pub table : List WorkedLine
-table = three ∷ karatsuba ∷ four ∷ five ∷ right ∷ wrongRow ∷ listOne ∷ listTwo ∷ listFormulae ∷ far ∷ nothing ∷ one ∷ []
+table = threeProducts ∷ karatsuba ∷ fourProducts ∷ fiveProducts ∷ right ∷ wrongRow ∷ listOne ∷ listTwo ∷ listFormulae ∷ far ∷ nothing ∷ one ∷ []
 
 -- The Catalogue's lines
-held-catalogues : LineHolds three × LineHolds four × LineHolds five × LineHolds listOne × LineHolds listTwo
+held-catalogues : LineHolds threeProducts × LineHolds fourProducts × LineHolds fiveProducts × LineHolds listOne × LineHolds listTwo
 unfolding bit digitsOf top clear reduce norm place insert inserts basisOf dim risingLists anyOf only firstOfEach sameVec sameBasis inside generator
     chosen generatorsIn fits space entries kindNumbered within polySizes listSizes wide zeroIn formOf productForm pair targetForm generatorCount
     firstMask secondMask generatorForm listOf generatorForms countOf targetForms repeats listed mapped posed records flat fitting entryListing

@@ -1,10 +1,11 @@
 -- `words::any_wide` meets its contract. Assumes nothing.
 use mathlib.Core.Path.{_≡_, refl, sym, _∙_}
-use Prim.Native.Nat.{_-_, _≤_}
+use Prim.Native.Nat.{_+_, _-_, _≤_}
+use mathlib.Core.Bool.{Bool, _||_}
 use lib.ListN.{length, drop}
 use borrow.Author.Needs.{needs}
 use Rattle.words.specs.Masks.{wide}
-use Rattle.words.specs.laws.Scan.{wide-here, wide-later, wide-end}
+use Rattle.words.specs.laws.Scan.{wide-turn, wide-end}
 use native.Mathlib.Omega.{arith}
 use Rattle.words.proofs.any_wide.Statement.{statement}
 use Rattle.words.proofs.any_wide.Tie as tie
@@ -20,29 +21,19 @@ abbrev μ-loop : tie.MeasureT-loop
 loop-holds : tie.Need-loop-holds Inv-loop μ-loop
 loop-holds c = (omega arith, refl)
 
-returns : tie.Need-returns Inv-loop μ-loop
-returns c =
-    let args = c .before .before .before .before .before .before .args in
-    let loop = c .before .before .before .before .loop in
-    wide-here (args .n) (args .masks .now) (loop .i) (wide (args .n) (args .masks .now)) (omega arith) (loop .inv .1)
-    (sym (c .before .wider .ensures) ∙ c .if1 .taken)
-
-loop-again : tie.Need-loop-again Inv-loop μ-loop
-loop-again c =
-    let args = c .before .before .before .before .before .before .args in
-    let loop = c .before .before .before .before .loop in (
-      omega arith,
-      wide-later (args .n) (args .masks .now) (loop .i) (wide (args .n) (args .masks .now)) (omega arith) (loop .inv .1)
-          (sym (c .before .wider .ensures) ∙ c .if1 .left),
-    )
-
-returns-2 : tie.Need-returns-2 Inv-loop μ-loop
-returns-2 c =
-    let args = c .before .before .before .args in
-    wide-end (args .n) (args .masks .now) (c .before .loop .i) (wide (args .n) (args .masks .now)) (omega arith) (c .before .loop .inv .1)
+-- the turn, as the mask is wide or not
+at : (c : tie.After-wider Inv-loop μ-loop) {s : Bool} → c .wider .result ≡ s →
+    let a = c .before .before .before .before .before .args in
+    s || wide (a .n) (drop (c .before .before .before .loop .i + 1) (a .masks .now)) ≡ wide (a .n) (a .masks .now)
+at c e =
+    let a = c .before .before .before .before .before .args in
+    let l = c .before .before .before .loop in
+    wide-turn (a .n) (a .masks .now) (l .i) (omega arith) (l .inv .1) (sym (c .wider .ensures) ∙ e)
 
 pub any-wide-spec : {M : Type 1} → statement M
 any-wide-spec =
     tie.close
-    (tie.spec Inv-loop μ-loop loop-holds (λ c. omega arith) (λ c. omega arith) (λ c κs. search needs) returns (λ c. omega arith) (λ c. omega arith)
-    loop-again returns-2)
+    (tie.spec Inv-loop μ-loop loop-holds (λ c. omega arith) (λ c. omega arith) (λ c κs. search needs)
+    (λ c. at (c .before) (c .if1 .taken)) (λ c. omega arith) (λ c. omega arith)
+    (λ c. (omega arith, at (c .before) (c .if1 .left)))
+    (λ c. wide-end _ (c .before .before .before .args .masks .now) (c .before .loop .i) (omega arith) (c .before .loop .inv .1)))

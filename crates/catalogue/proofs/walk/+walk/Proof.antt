@@ -98,14 +98,12 @@ fewer a b c = omega arith
 mine-all : length (replicate {A = ℕ} searchRoom 0) ≡ searchRoom
 mine-all = length-replicate {A = ℕ} searchRoom 0
 
+-- a residue for each generator
+alike : (t : ℕ) (s : walk-lts.Start (claims t) (walk-at t) walk.Post walk-Inv-loop walk-μ-loop) → length (s .args .h .now) ≡ length (s .args .gens .now)
+alike t s = ap length (s .pre .1 .0 .left) ∙ residues-length (s .args .gens .now) (rowsOf (s .args .b))
+
 walk-spanned-requires : (t : ℕ) → walk-lts.Need-spanned-requires (claims t) (walk-at t) walk.Post walk-Inv-loop walk-μ-loop
-walk-spanned-requires t c κs =
-    let a = c .before .before .before .before .before .args in
-    let N = c .before .before .before .before .before .pre .1 .0 in
-    let m = a .gens .now in
-    let h = a .h .now in
-    let eh : length h ≡ length m = ap length (N .left) ∙ residues-length m (rowsOf (a .b)) in
-    sym eh
+walk-spanned-requires t c κs = sym (alike t (c .before .before .before .before .before))
 
 walk-keep-requires : (t : ℕ) → walk-lts.Need-keep-requires (claims t) (walk-at t) walk.Post walk-Inv-loop walk-μ-loop
 walk-keep-requires t c κs =
@@ -144,18 +142,16 @@ walk-slice-aggregate-sieve t c = refl
 
 walk-sieve-requires : (t : ℕ) → walk-lts.Need-sieve-requires (claims t) (walk-at t) walk.Post walk-Inv-loop walk-μ-loop
 walk-sieve-requires t c κs =
-    let a = c .before .before .before .before .before .before .before .args in
-    let N = c .before .before .before .before .before .before .before .pre .1 .0 in
-    let m = a .gens .now in
-    let h = a .h .now in
-    let eh : length h ≡ length m = ap length (N .left) ∙ residues-length m (rowsOf (a .b)) in
+    let s = c .before .before .before .before .before .before .before in
+    let N = s .pre .1 .0 in
+    let eh = alike t s in
     record {
       alike = sym eh;
       few = as-few eh (N .small);
       begin = as-many eh (N .begin);
       some = c .before .before .if1 .left;
       most = few-missing (N .tidy);
-      rows-all = c .before .before .before .before .before .before .before .pre .1 .1;
+      rows-all = s .pre .1 .1;
       blank = refl;
     }
 
@@ -171,51 +167,39 @@ walk-next-marked-requires t c κs =
 walk-same-length-2 : (t : ℕ) → walk-lts.Need-same-length-2 (claims t) (walk-at t) walk.Post walk-Inv-loop walk-μ-loop
 walk-same-length-2 t c = c .before .before .before .before .before .before .sieve .kept .1 .1 .1 .1 .1 .0
 
+-- at the first number that is left, nothing is done yet
+begun : (t : ℕ) (c : walk-lts.After-next-marked (claims t) (walk-at t) walk.Post walk-Inv-loop walk-μ-loop) →
+    let far = c .before .before .before .before .before .before .before .before .before .before .before .before in
+    let a = far .before .args in
+    let m = a .gens .now in
+    Going m (a .k) (rowsOf (a .b)) (chainOf (a .c)) (a .missing) (a .limit)
+    (run (a .limit) (stateOf (a .t) (a .out .now)) (search m (a .k) (rowsOf (a .b)) (chainOf (a .c)) (length m - a .start) (a .start) (a .missing)))
+    (length (a .out .now)) (c .next-marked .result) (a .t) (a .out .now) (replicate searchRoom 0)
+begun t c =
+    let far = c .before .before .before .before .before .before .before .before .before .before .before .before in
+    let a = far .before .args in
+    let N = far .before .pre .1 .0 in
+    let S = c .before .before .before .before .before .sieve in
+    going-next (a .gens .now) (a .k) (a .b) (a .c) (a .missing) (a .limit) _ (length (a .out .now)) (a .h .now) (N .left) (N .valid) (N .tidy)
+    (c .before .before .before .before .before .before .before .before .if1 .left) (a .t) (a .out .now) (replicate searchRoom 0)
+    (a .start) (S .last .1 .1 .1 .1 .1 .1 .0) (S .ensures) (a .start)
+    (c .next-marked .result) le-refl (c .next-marked .ensures)
+    (record { within = N .begin; ahead = record { rest = refl; sane = N .sane; same = refl }; whole = mine-all })
+
 walk-returns-3 : (t : ℕ) → walk-lts.Need-returns-3 (claims t) (walk-at t) walk.Post walk-Inv-loop walk-μ-loop
 walk-returns-3 t c =
     let far = c .before .before .before .before .before .before .before .before .before .before .before .before in
-    let args = far .before .before .args in
-    let pre = far .before .before .pre in
-    let if1 = c .before .before .before .before .before .before .before .before .before .if1 in
-    let sieve = c .before .before .before .before .before .before .sieve in
-    let a = args in
-    let N = pre .1 .0 in
-    let m = a .gens .now in
-    let h = a .h .now in
-    let I = going-next m (a .k) (a .b) (a .c) (a .missing) (a .limit)
-    (run (a .limit) (stateOf (a .t) (a .out .now))
-    (search m (a .k) (rowsOf (a .b)) (chainOf (a .c)) (length m - a .start) (a .start) (a .missing))) (length
-    (a .out .now)) h (N .left) (N .valid) (N .tidy) (if1 .left) (a .t) (a .out .now) (replicate searchRoom 0) (a .start)
-    (sieve .last .1 .1 .1 .1 .1 .1 .0) (sieve .ensures) (a .start) (c .before .next-marked .result) le-refl
-    (c .before .next-marked .ensures) (record { within = N .begin; ahead = record { rest = refl; sane = N .sane; same = refl }; whole = mine-all }) in
-    going-end m (a .k) (a .b) (a .c) (a .missing) (a .limit)
-    (run (a .limit) (stateOf (a .t) (a .out .now))
-    (search m (a .k) (rowsOf (a .b)) (chainOf (a .c)) (length m - a .start) (a .start) (a .missing))) (length (a .out .now)) h
-    (N .left) (N .valid) (N .tidy) (if1 .left) (c .before .next-marked .result) (a .t) (a .out .now) (replicate searchRoom 0) I (ends (c .if3 .taken))
+    let a = far .before .before .args in
+    let N = far .before .before .pre .1 .0 in
+    going-end (a .gens .now) (a .k) (a .b) (a .c) (a .missing) (a .limit) _ (length (a .out .now)) (a .h .now) (N .left) (N .valid) (N .tidy)
+    (c .before .before .before .before .before .before .before .before .before .if1 .left) (c .before .next-marked .result)
+    (a .t) (a .out .now) (replicate searchRoom 0) (begun t (c .before)) (ends (c .if3 .taken))
 
 walk-loop-holds : (t : ℕ) → walk-lts.Need-loop-holds (claims t) (walk-at t) walk.Post walk-Inv-loop walk-μ-loop
 walk-loop-holds t c =
     let far = c .before .before .before .before .before .before .before .before .before .before .before .before in
-    let args = far .before .before .args in
-    let pre = far .before .before .pre in
-    let if1 = c .before .before .before .before .before .before .before .before .before .if1 in
-    let sieve = c .before .before .before .before .before .before .sieve in
-    let a = args in
-    let S = sieve in
-    let N = pre .1 .0 in
-    let m = a .gens .now in
-    let h = a .h .now in (
-      c .before .next-marked .ensures .low,
-      going-next m (a .k) (a .b) (a .c) (a .missing) (a .limit)
-          (run (a .limit) (stateOf (a .t) (a .out .now))
-          (search m (a .k) (rowsOf (a .b)) (chainOf (a .c)) (length m - a .start) (a .start) (a .missing))) (length (a .out .now)) h
-          (N .left) (N .valid) (N .tidy) (if1 .left) (a .t) (a .out .now) (replicate searchRoom 0) (a .start) (S .last .1 .1 .1 .1 .1 .1 .0) (S .ensures)
-          (a .start)
-          (c .before .next-marked .result) le-refl (c .before .next-marked .ensures)
-          (record { within = N .begin; ahead = record { rest = refl; sane = N .sane; same = refl }; whole = mine-all }),
-      S .kept .1 .1 .1 .1 .1 .0 ∙ pre .1 .1,
-      c .before .next-marked .ensures .marked,
-    )
+    let n = c .before .next-marked .ensures in
+    (n .low, begun t (c .before), c .before .before .before .before .before .before .sieve .kept .1 .1 .1 .1 .1 .0 ∙ far .before .before .pre .1 .1, n .marked)
 
 walk-same-length-3 : (t : ℕ) → walk-lts.Need-same-length-3 (claims t) (walk-at t) walk.Post walk-Inv-loop walk-μ-loop
 walk-same-length-3 t c =
@@ -245,22 +229,17 @@ walk-mul-x t c =
 
 walk-shared-slice-read-x : (t : ℕ) → walk-lts.Need-shared-slice-read-x (claims t) (walk-at t) walk.Post walk-Inv-loop walk-μ-loop
 walk-shared-slice-read-x t c =
-    let a = c .before .before .before .before .before .before .before .before .before .before .before .before .before .before .before .before .before .before .before .args in
-    let N = c .before .before .before .before .before .before .before .before .before .before .before .before .before .before .before .before .before .before .before .pre .1 .0 in
-    let m = a .gens .now in
-    let h = a .h .now in
-    let eh : length h ≡ length m = ap length (N .left) ∙ residues-length m (rowsOf (a .b)) in
-    inside eh (c .before .before .before .loop-test .taken)
+    let far = c .before .before .before .before .before .before .before .before .before .before .before .before in
+    inside (alike t (far .before .before .before .before .before .before .before)) (c .before .before .before .loop-test .taken)
 
 walk-slice-aggregate-child : (t : ℕ) → walk-lts.Need-slice-aggregate-child (claims t) (walk-at t) walk.Post walk-Inv-loop walk-μ-loop
 walk-slice-aggregate-child t c = sym (c .before .before .before .before .before .loop .inv .1 .whole)
 
 walk-child-requires : (t : ℕ) → walk-lts.Need-child-requires (claims t) (walk-at t) walk.Post walk-Inv-loop walk-μ-loop
 walk-child-requires t c κs =
-    let a = c .before .before .before .before .before .before .before .before .before .before .before .before .before .before .before .before .before .before .before .before .args in
-    let N = c .before .before .before .before .before .before .before .before .before .before .before .before .before .before .before .before .before .before .before .before .pre .1 .0 in
-    let eh : length (a .h .now) ≡ length (a .gens .now) = ap length (N .left) ∙ residues-length (a .gens .now) (rowsOf (a .b)) in
-    (as-few eh (N .small), c .before .before .before .before .before .loop .inv .1 .whole)
+    let far = c .before .before .before .before .before .before .before .before .before .before .before .before in
+    let s = far .before .before .before .before .before .before .before .before in
+    (as-few (alike t s) (s .pre .1 .0 .small), c .before .before .before .before .before .loop .inv .1 .whole)
 
 walk-array-share-prefix-mine : (t : ℕ) → walk-lts.Need-array-share-prefix-mine (claims t) (walk-at t) walk.Post walk-Inv-loop walk-μ-loop
 walk-array-share-prefix-mine t c =
@@ -307,35 +286,34 @@ walk-push-requires t c κs =
     let ne = if1 .left in
     tidy-one (N .tidy) ne
 
+-- the number at hand is none that is known
+fresh : (t : ℕ) (c : walk-lts.In-loop (claims t) (walk-at t) walk.Post walk-Inv-loop walk-μ-loop) →
+    let far = c .before .before .before .before .before .before .before .before .before .before .before .before in
+    false ≡ known (far .before .before .before .before .args .h .now) (c .before .loop .j)
+fresh t c =
+    let l = c .before .loop in
+    let g = c .loop-test .taken in
+    c .before .before .before .before .before .before .before .before .sieve .ensures .judged (l .j) (l .inv .0) g .on (l .inv .3 g)
+
 walk-walk-requires : (t : ℕ) → walk-lts.Need-walk-requires (claims t) (walk-at t) walk.Post walk-Inv-loop walk-μ-loop
 walk-walk-requires t c κs =
     let far = c .before .before .before .before .before .before .before .before .before .before .before .before in
     let farther = far .before .before .before .before .before .before .before .before .before .before .before .before in
-    let args = farther .before .before .before .args in
+    let a = farther .before .before .before .args in
     let pre = farther .before .before .before .pre in
-    let if1 = far .before .before .before .before .before .before .before .before .before .before .if1 in
-    let sieve = far .before .before .before .before .before .before .before .sieve in
-    let loop = c .before .before .before .before .before .before .before .before .before .before .before .before .loop in
-    let loop-test = c .before .before .before .before .before .before .before .before .before .before .before .loop-test in
+    let ne = far .before .before .before .before .before .before .before .before .before .before .if1 .left in
+    let turn = c .before .before .before .before .before .before .before .before .before .before .before in
+    let l = turn .before .loop in
     let child = c .before .before .before .before .before .before .child in
     let insert = c .before .before .before .insert in
     let push = c .before .before .push in
-    let a = args in
     let N = pre .1 .0 in
-    let m = a .gens .now in
-    let h = a .h .now in
-    let l = loop in
-    let ne = if1 .left in
-    let g : l .j < length m = loop-test .taken in
-    let e : false ≡ known h (l .j) = sieve .ensures .judged (l .j)
-    (l .inv .0) g .on (l .inv .3 g) in
     let d : a .missing ≡ t = pre .0 in (
       falls-one d ne,
       (
-        node-down m (a .k) (a .b) (a .c) (a .missing) (a .limit) _ _ h (N .left) (N .valid) (N .tidy) ne (l .j) (l .counts) (l .out) (l .mine) (l .inv .1)
-            g e (N .small) (insert .result)
-            (insert .ensures) (push .result) (push .ensures) (child .last .1 .1 .0)
-            (child .ensures),
+        node-down (a .gens .now) (a .k) (a .b) (a .c) (a .missing) (a .limit) _ _ (a .h .now) (N .left) (N .valid) (N .tidy) ne (l .j) (l .counts) (l .out)
+            (l .mine) (l .inv .1) (turn .loop-test .taken) (fresh t turn) (N .small) (insert .result) (insert .ensures) (push .result) (push .ensures)
+            (child .last .1 .1 .0) (child .ensures),
         l .inv .2,
       ),
     )
@@ -377,41 +355,23 @@ walk-loop-again : (t : ℕ) → walk-lts.Need-loop-again (claims t) (walk-at t) 
 walk-loop-again t c =
     let far = c .before .before .before .before .before .before .before .before .before .before .before .before in
     let farther = far .before .before .before .before .before .before .before .before .before .before .before .before in
-    let args = farther .before .before .before .before .before .before .before .before .before .before .args in
-    let pre = farther .before .before .before .before .before .before .before .before .before .before .pre in
-    let if1 = farther .before .before .before .before .before .if1 in
-    let sieve = farther .before .before .sieve in
-    let loop = far .before .before .before .before .before .before .before .loop in
-    let loop-test = far .before .before .before .before .before .before .loop-test in
-    let child = far .before .child in
+    let a = farther .before .before .before .before .before .before .before .before .before .before .args in
+    let N = farther .before .before .before .before .before .before .before .before .before .before .pre .1 .0 in
+    let ne = farther .before .before .before .before .before .if1 .left in
+    let S = farther .before .before .sieve in
+    let turn = far .before .before .before .before .before .before in
+    let l = turn .before .loop in
+    let K = far .before .child in
     let insert = c .before .before .before .before .before .before .before .before .before .before .insert in
     let push = c .before .before .before .before .before .before .before .before .before .push in
-    let the-walk = c .before .before .before .before .before .before .walk in
-    let a = args in
-    let K = child in
-    let W = the-walk in
-    let S = sieve in
-    let N = pre .1 .0 in
-    let m = a .gens .now in
-    let h = a .h .now in
-    let l = loop in
-    let ne = if1 .left in
-    let g : l .j < length m = loop-test .taken in
-    let e : false ≡ known h (l .j) = S .ensures .judged (l .j) (l .inv .0) g .on (l .inv .3 g) in
-    let I = going-down m (a .k) (a .b) (a .c) (a .missing) (a .limit)
-    (run (a .limit) (stateOf (a .t) (a .out .now))
-    (search m (a .k) (rowsOf (a .b)) (chainOf (a .c)) (length m - a .start) (a .start) (a .missing))) (length
-    (a .out .now)) h (N .left) (N .valid) (N .tidy) ne (l .j) (l .counts) (l .out) (l .mine) (l .inv .1) g e (insert .result)
-    (insert .ensures) (push .result)
-    (push .ensures) (W .result) (W .last .1 .1 .1 .1 .1 .1 .1 .1 .1 .1 .0) (K .last .1 .1 .0)
-    (K .ensures .whole) (W .ensures) in (
+    let W = c .before .before .before .before .before .before .walk in
+    let I = going-down (a .gens .now) (a .k) (a .b) (a .c) (a .missing) (a .limit) _ (length (a .out .now)) (a .h .now) (N .left) (N .valid) (N .tidy) ne
+    (l .j) (l .counts) (l .out) (l .mine) (l .inv .1) (turn .loop-test .taken) (fresh t turn) (insert .result) (insert .ensures) (push .result)
+    (push .ensures) (W .result) (W .last .1 .1 .1 .1 .1 .1 .1 .1 .1 .1 .0) (K .last .1 .1 .0) (K .ensures .whole) (W .ensures) in (
       after (l .inv .0) (c .next-marked2 .ensures .low),
-      going-next m (a .k) (a .b) (a .c) (a .missing) (a .limit)
-          (run (a .limit) (stateOf (a .t) (a .out .now))
-          (search m (a .k) (rowsOf (a .b)) (chainOf (a .c)) (length m - a .start) (a .start) (a .missing))) (length (a .out .now)) h
-          (N .left) (N .valid) (N .tidy) ne (W .result) (W .last .1 .1 .1 .1 .1 .1 .1 .1 .1 .1 .0) (K .last .1 .1 .0) (a .start)
-          (S .last .1 .1 .1 .1 .1 .1 .0) (S .ensures) (l .j + 1) (c .next-marked2 .result) (later (l .inv .0))
-          (c .next-marked2 .ensures) I,
+      going-next (a .gens .now) (a .k) (a .b) (a .c) (a .missing) (a .limit) _ (length (a .out .now)) (a .h .now) (N .left) (N .valid) (N .tidy) ne
+          (W .result) (W .last .1 .1 .1 .1 .1 .1 .1 .1 .1 .1 .0) (K .last .1 .1 .0) (a .start) (S .last .1 .1 .1 .1 .1 .1 .0) (S .ensures) (l .j + 1)
+          (c .next-marked2 .result) (later (l .inv .0)) (c .next-marked2 .ensures) I,
       W .kept .1 .1 .1 .1 .1 .1 .1 .1 .1 .0 ∙ l .inv .2,
       c .next-marked2 .ensures .marked,
     )

@@ -5,7 +5,7 @@ use Prim.Native.Nat.{ℕ, _-_, _^_, min}
 use native.Mathlib.Omega.{arith}
 use lib.Bits.{bitAnd}
 use Rattle.forms.specs.products.Product.{formOf, term, productForm}
-use Rattle.forms.proofs.Making.{Making, making-start, making-end, making-small, making-set, making-unset}
+use Rattle.forms.proofs.Making.{Making, Small, making-start, making-end, making-small, making-set, making-unset}
 use Rattle.forms.proofs.products.product.Statement.{statement}
 use Rattle.forms.proofs.products.product.Tie as tie
 
@@ -24,42 +24,13 @@ mask-requires c κs = tt
 loop-holds : tie.Need-loop-holds Inv-loop μ-loop
 loop-holds c = let a = c .before .before .args in making-start (a .m) (a .a) (a .b) (c .before .width .result)
 
-shr-if1 : tie.Need-shr-if1 Inv-loop μ-loop
-shr-if1 c =
+-- the sizes at a turn
+small : (c : tie.In-loop Inv-loop μ-loop) → let a = c .before .before .before .before .args in Small (a .n) (a .m) (c .before .loop .i) (c .before .loop .at)
+small c =
     let a = c .before .before .before .before .args in
     let w = c .before .before .before .width in
     let l = c .before .loop in
-    making-small (a .n) (a .m) (w .result) (l .i) (l .at) (w .ensures) (l .inv .place) (c .loop-test .taken) (omega arith) .low
-
-shl-form : tie.Need-shl-form Inv-loop μ-loop
-shl-form c =
-    let w = c .before .before .before .before .width in
-    let e = w .ensures in
-    omega arith
-
-add-i : tie.Need-add-i Inv-loop μ-loop
-add-i c =
-    let a = c .before .before .before .before .before .args in
-    let w = c .before .before .before .before .width in
-    let l = c .before .before .loop in
-    let s = making-small (a .n) (a .m) (w .result) (l .i) (l .at) (w .ensures) (l .inv .place) (c .before .loop-test .taken) (omega arith) in
-    record { fits = omega (arith, s .low) }
-
-add-at : tie.Need-add-at Inv-loop μ-loop
-add-at c =
-    let a = c .before .before .before .before .before .args in
-    let w = c .before .before .before .before .width in
-    let l = c .before .before .loop in
-    let s = making-small (a .n) (a .m) (w .result) (l .i) (l .at) (w .ensures) (l .inv .place) (c .before .loop-test .taken) (omega arith) in
-    record { fits = s .fits }
-
-loop-less : tie.Need-loop-less Inv-loop μ-loop
-loop-less c =
-    let a = c .before .before .before .before .before .args in
-    let w = c .before .before .before .before .width in
-    let l = c .before .before .loop in
-    let s = making-small (a .n) (a .m) (w .result) (l .i) (l .at) (w .ensures) (l .inv .place) (c .before .loop-test .taken) (omega arith) in
-    omega (arith, s .some)
+    making-small (a .n) (a .m) (w .result) (l .i) (l .at) (w .ensures) (l .inv .place) (c .loop-test .taken) (omega arith)
 
 loop-again : tie.Need-loop-again Inv-loop μ-loop
 loop-again c =
@@ -67,7 +38,7 @@ loop-again c =
     let w = c .before .before .before .before .width in
     let l = c .before .before .loop in
     let h = c .before .loop-test .taken in
-    let s = making-small (a .n) (a .m) (w .result) (l .i) (l .at) (w .ensures) (l .inv .place) h (omega arith) in
+    let s = small (c .before) in
     let row : ℕ = bitAnd (a .b) (c .before .before .before .mask .result) in
     let e : row ≡ bitAnd (a .b) (2 ^ min (a .m) 64 - 1) = ap (λ (k : ℕ). bitAnd (a .b) k) (c .before .before .before .mask .ensures) in
     ⊎-elim
@@ -87,4 +58,6 @@ returns c =
 pub product-spec : {M : Type 1} → statement M
 product-spec =
     tie.close
-    (tie.spec Inv-loop μ-loop width-requires mask-requires loop-holds shr-if1 shl-form add-i add-at loop-less loop-again returns)
+    (tie.spec Inv-loop μ-loop width-requires mask-requires loop-holds (λ c. small c .low) (λ c. small (c .before) .shift)
+    (λ c. record { fits = omega (arith, small (c .before) .low) }) (λ c. record { fits = small (c .before) .fits })
+    (λ c. omega (arith, small (c .before) .some)) loop-again returns)

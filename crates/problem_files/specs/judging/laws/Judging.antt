@@ -4,7 +4,7 @@
 --   judged-is              an accepted problem is of the kind and the counts that were asked
 -- Assumes nothing.
 use Prim.Native.Nat.{ℕ, _+_, _<_, _≤_}
-use mathlib.Core.Path.{_≡_, sym, ap, _∙_, subst}
+use mathlib.Core.Path.{_≡_, refl, sym, ap, _∙_}
 use mathlib.Core.List.{List, []}
 use mathlib.Core.Bool.{true, false, not}
 use lib.ListN.{take}
@@ -17,7 +17,8 @@ use Rattle.kinds.specs.Kinds.{numberOf}
 use Rattle.kinds.specs.Refusal.{Answer, refused, accepted, refuse, follow}
 use Rattle.kinds.specs.laws.Refusal.{accepted-inj, refuse-inv, follow-inv}
 use Rattle.problems.specs.Problem.{Problem, posed}
-use Rattle.problems.specs.Replies.{seenPosed, Laid, Room, PosedFits}
+use Rattle.problems.specs.Replies.{Laid}
+use Rattle.problems.specs.laws.Handed.{follow-refused, follow-made}
 use Rattle.problems.specs.declared.Posed.{Posed}
 use Rattle.problems.specs.declared.Posed.the-variants as answer
 use Rattle.problem_files.specs.handed_forms.ProblemLines.{handed}
@@ -52,20 +53,17 @@ pub beyond-rank : (a : Purpose) (k : ℕ) (ts : List ℕ) → a ≡ purpose.Rank
 beyond-rank a k ts e = rw e
 
 -- ---- 6 to 9, from the code's answer x on the posed problem
-module _ (a : Purpose) (kd : Kind) (p q r k u v : ℕ) (gs ts g t : List ℕ) (x : Posed) (number : ℕ) (N : number ≡ numberOf kd) (L : Laid (posed number p q r gs ts []) x g t) where
-  posed-is : posed (numberOf kd) p q r gs ts [] ≡ seenPosed g t x
-  posed-is = ap (λ (i : ℕ). posed i p q r gs ts []) (sym N) ∙ L .answer
-
-  pub judged-refused : (e : ℕ) → x ≡ answer.Refused e → problemJudged a kd p q r k u v gs ts ≡ refused e
+module _ (a : Purpose) (kd : Kind) (p q r k u v : ℕ) (gs ts : List ℕ) {g t : List ℕ} {x : Posed} {number : ℕ} (N : number ≡ numberOf kd) (L : Laid (posed number p q r gs ts []) x g t) where
+  numbered : problemJudged a kd p q r k u v gs ts ≡ follow (posed number p q r gs ts []) (λ z. settled a kd p q r k u v (z .targets) gs ts)
   unfolding problemJudged
-  judged-refused e h = ap (λ (y : Answer Problem). follow y (λ x. settled a kd p q r k u v (x .targets) gs ts)) (posed-is ∙ ap (seenPosed g t) h)
+  numbered = ap (λ (i : ℕ). follow (posed i p q r gs ts []) (λ z. settled a kd p q r k u v (z .targets) gs ts)) (sym N)
 
-  pub judged-made : (c o : ℕ) (y : ProblemRead) → x ≡ answer.Are c o → Settled a kd p q r k u v (take o t) y → problemJudged a kd p q r k u v gs ts ≡ seenProblem gs ts y
-  unfolding problemJudged
-  judged-made c o y h S = ap (λ (y : Answer Problem). follow y (λ x. settled a kd p q r k u v (x .targets) gs ts)) (posed-is ∙ ap (seenPosed g t) h) ∙ S .by gs ts
+  pub judged-refused : {e : ℕ} → x ≡ answer.Refused e → problemJudged a kd p q r k u v gs ts ≡ refused e
+  judged-refused h = numbered ∙ follow-refused L (λ z. settled a kd p q r k u v (z .targets) gs ts) h
 
-  pub made-room : (c o : ℕ) → x ≡ answer.Are c o → Room c o
-  made-room c o h = subst PosedFits h (L .room)
+  pub judged-made : {c o : ℕ} {T : List ℕ} {y : ProblemRead} → x ≡ answer.Are c o → T ≡ take o t → Settled a kd p q r k u v T y
+      → problemJudged a kd p q r k u v gs ts ≡ seenProblem gs ts y
+  judged-made h l S = numbered ∙ follow-made L (λ z. settled a kd p q r k u v (z .targets) gs ts) h refl l ∙ S .by gs ts
 
 -- an accepted problem is of the kind and the counts that were asked
 pub judged-is : (a : Purpose) (kd : Kind) (p q r k u v : ℕ) (gs ts : List ℕ) (P : ProblemFile) → problemJudged a kd p q r k u v gs ts ≡ accepted P

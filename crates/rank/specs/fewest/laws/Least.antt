@@ -1,7 +1,7 @@
 -- The least number of dimensions with an entry, and its first formula.
 --   Asking     == what `least` asks
 --   Looking    == no number of dimensions below k has an entry
---   Found      == what `least` says: no entry, or the number of dimensions and the rows of the first entry in its record
+--   LeastFound == what `least` says: no entry, or the number of dimensions and the rows of the first entry in its record
 --   Finishing  == w has the rows of the first entry for the least number of dimensions, at most 64
 -- Assumes nothing.
 use mathlib.Core.Path.{_≡_, refl, sym, ap, ap₂, _∙_, subst}
@@ -40,7 +40,7 @@ use Rattle.first_formula.specs.laws.Writing.{numbers-length, written-first}
 use Rattle.bases.specs.rows.Rows.{rowOf}
 use Rattle.rank.specs.declared.fewest.Least.{Least as Answered}
 use Rattle.rank.specs.declared.fewest.Least.the-variants as answered
-use Rattle.rank.specs.fewest.Fewest.{is, above, beyond, written, ranking, Asking, Here, Found, Finishing}
+use Rattle.rank.specs.fewest.Fewest.{is, above, beyond, written, ranking, Asking, Here, LeastFound, Finishing}
 
 module _ (gens targets : List ℕ) where
   pub record Looking (ell k : ℕ) (buffer : List ℕ) : Type 0 where
@@ -218,11 +218,11 @@ module _ (gens targets : List ℕ) where
   missed-is t b B e = unfold missed in ap (λ (C : List ℕ). anyOf (λ t. not (inside word C t)) targets) (sym (B .is)) ∙ sym e
 
   -- ---- what `least_entry` said, by its answer
-  pub found-none : (ell : ℕ) (r : Answered) (buffer : List ℕ) → Found gens targets ell r buffer → r ≡ answered.No → ell ≡ dim word targets → leastFrom word gens targets 7 (dim word targets) ≡ none
-  found-none ell r buffer F e d = ap (leastFrom word gens targets 7) (sym d) ∙ subst (λ (x : Answered). Found gens targets ell x buffer) e F
+  pub found-none : (ell : ℕ) (r : Answered) (buffer : List ℕ) → LeastFound gens targets ell r buffer → r ≡ answered.No → ell ≡ dim word targets → leastFrom word gens targets 7 (dim word targets) ≡ none
+  found-none ell r buffer F e d = ap (leastFrom word gens targets 7) (sym d) ∙ subst (λ (x : Answered). LeastFound gens targets ell x buffer) e F
 
-  pub found-here : (ell : ℕ) (r : Answered) (k : ℕ) (buffer : List ℕ) → Found gens targets ell r buffer → r ≡ answered.Is k → Here gens targets ell k buffer
-  found-here ell r k buffer F e = subst (λ (x : Answered). Found gens targets ell x buffer) e F
+  pub found-here : (ell : ℕ) (r : Answered) (k : ℕ) (buffer : List ℕ) → LeastFound gens targets ell r buffer → r ≡ answered.Is k → Here gens targets ell k buffer
+  found-here ell r k buffer F e = subst (λ (x : Answered). LeastFound gens targets ell x buffer) e F
 
 -- the part of a slice from d to d + k
 pub part-is : (d k : ℕ) (buffer : List ℕ) → take (d + k - d) (drop d buffer) ≡ take k (drop d buffer)

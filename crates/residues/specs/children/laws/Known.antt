@@ -4,7 +4,7 @@
 --   known-yes, known-no                   at a space with these residues: a known number brings in nothing, or what an earlier one does; any other is next
 -- Assumes nothing.
 use mathlib.Core.Path.{_≡_, refl, sym, ap, _∙_}
-use mathlib.Core.Logic.{_≢_, _⊎_, inl, inr}
+use mathlib.Core.Logic.{_≢_, _⊎_, inl, inr, ⊎-elim}
 use mathlib.Core.Bool.{Bool, true, false, _||_, true≢false, false≢true}
 use mathlib.Core.List.{List, [], _∷_, List·Memᴰ, List·Memᴰ·head, List·Memᴰ·tail, List·Memᴰ·not-nil}
 use Prim.Native.Nat.{ℕ, zero, suc, _<_}
@@ -22,10 +22,10 @@ use Rattle.linear.specs.Walk.{Next}
 use Rattle.linear.specs.Word.{word, scaleW, isZero}
 use Rattle.linear.specs.laws.Reduce.{member}
 use Rattle.linear.specs.laws.Insert.{insert-reduced}
-use Rattle.linear.specs.laws.Select.{anyOf-no, no-anyOf, anyOf-yes}
+use Rattle.linear.specs.laws.Select.{no-anyOf, anyOf-yes}
 use Rattle.linear.specs.laws.Order.{mem-index, mem-getD}
 use Rattle.residues.specs.children.Residues.{residues, known}
-use Rattle.residues.specs.children.laws.Child.{residue-at, reduce-child, clear-zero, zero-yes, zero-no}
+use Rattle.residues.specs.children.laws.Child.{residue-at, reduce-child, clear-zero, zero-yes}
 
 isZero-of : (x : ℕ) → x ≢ 0 → isZero x ≡ false
 isZero-of zero n = absurd (n refl)
@@ -73,72 +73,61 @@ pub known-ne : (h : List ℕ) (j : ℕ) → false ≡ known h j → getD h j 0 �
 unfolding known
 known-ne h j e z = true≢false (sym (ap (λ (x : ℕ). isZero x || anyOf (eqb (getD h j 0)) (take j h)) z) ∙ sym e)
 
+-- the residue of one that is known
+known-by : (h : List ℕ) (i : ℕ) → known h i ≡ true → (getD h i 0 ≡ 0) ⊎ ((j : ℕ) × (j < i) × (getD h i 0 ≡ getD h j 0))
+unfolding known
+known-by h i = go (isZero (getD h i 0)) refl
+  where
+    go : (t : Bool) → isZero (getD h i 0) ≡ t → t || anyOf (eqb (getD h i 0)) (take i h) ≡ true
+        → (getD h i 0 ≡ 0) ⊎ ((j : ℕ) × (j < i) × (getD h i 0 ≡ getD h j 0))
+    go true q e = inl (zero-yes (getD h i 0) q)
+    go false q e =
+        let r = anyOf-yes (eqb (getD h i 0)) (take i h) e in
+        let s = mem-index 0 (r .1) in
+        let l : s .0 < length (take i h) = s .1 in
+        let k : s .0 < i = omega (arith, l, length-take i h) in
+        inr (s .0, k, eqb-true (getD h i 0) (r .0) (r .2) ∙ s .2 ∙ getD-take i h (s .0) 0 k)
+
 -- ---- at a space
 module _ (gens : List ℕ) where
   pub known-yes : (C : List ℕ) (i : ℕ) → Reduced word C → known (residues gens C) i ≡ true
       → (reduce word C (generator word gens i) ≡ 0)
       ⊎ ((j : ℕ) × (j < i) × (c : Bool) × (d : Bool) × (reduce word C (generator word gens j) ≡ scaleW c (reduce word C (generator word gens i))) ×
       (reduce word C (generator word gens i) ≡ scaleW d (reduce word C (generator word gens j))))
-  unfolding known
-  known-yes C i ρ = go (isZero v) refl
-    where
-      h : List ℕ
-      h = residues gens C
-
-      v : ℕ
-      v = getD h i 0
-
-      go : (t : Bool) → isZero v ≡ t → t || anyOf (eqb v) (take i h) ≡ true
-          → (reduce word C (generator word gens i) ≡ 0)
-          ⊎ ((j : ℕ) × (j < i) × (c : Bool) × (d : Bool) × (reduce word C (generator word gens j) ≡ scaleW c (reduce word C (generator word gens i))) ×
-          (reduce word C (generator word gens i) ≡ scaleW d (reduce word C (generator word gens j))))
-      go true q e = inl (sym (residue-at gens C i) ∙ zero-yes v q)
-      go false q e =
-          let r = anyOf-yes (eqb v) (take i h) e in
-          let s = mem-index 0 (r .1) in
-          let l : s .0 < length (take i h) = s .1 in
-          let k : s .0 < i = omega (arith, l, length-take i h) in
-          let f : reduce word C (generator word gens i) ≡ reduce word C (generator word gens (s .0)) =
-          sym (residue-at gens C i) ∙ eqb-true v (r .0) (r .2) ∙ s .2 ∙ getD-take i h (s .0) 0 k ∙ residue-at gens C (s .0) in
-          inr (s .0, k, true, true, sym f, f)
+  known-yes C i ρ e =
+      ⊎-elim (λ z. inl (sym (residue-at gens C i) ∙ z))
+      (λ r.
+      let f : reduce word C (generator word gens i) ≡ reduce word C (generator word gens (r .0)) =
+      sym (residue-at gens C i) ∙ r .2 ∙ residue-at gens C (r .0) in
+      inr (r .0, r .1, true, true, sym f, f))
+      (known-by (residues gens C) i e)
 
   pub known-no : (C : List ℕ) (i : ℕ) → Reduced word C → known (residues gens C) i ≡ false → Next word gens C i
-  unfolding known
-  known-no C i ρ = go (isZero v) refl
+  known-no C i ρ e =
+      record {
+        new = λ s. ne (member word C ρ g .0 s);
+        first = λ j l s. back j l (clear-zero (reduce word C g) (reduce word C (generator word gens j)) (sym (reduce-child C ρ g
+            (generator word gens j) ne) ∙ member word (insert word C g) (insert-reduced word C g ρ) (generator word gens j) .0 s));
+      }
     where
       h : List ℕ
       h = residues gens C
-
-      v : ℕ
-      v = getD h i 0
 
       g : ℕ
       g = generator word gens i
 
-      go : (t : Bool) → isZero v ≡ t → t || anyOf (eqb v) (take i h) ≡ false → Next word gens C i
-      go true q e = absurd (true≢false e)
-      go false q e =
-          record {
-            new = λ s. ne (member word C ρ g .0 s);
-            first = λ j l s. back j l (clear-zero (reduce word C g) (reduce word C (generator word gens j)) (sym (reduce-child C ρ g
-                (generator word gens j) ne) ∙ member word (insert word C g) (insert-reduced word C g ρ) (generator word gens j) .0 s));
-          }
-        where
-          ne : reduce word C g ≢ 0
-          ne z = zero-no v q (residue-at gens C i ∙ z)
+      residue : getD h i 0 ≢ 0
+      residue = known-ne h i (sym e)
 
-          inside-h : i < length h
-          inside-h = at (decLt i (length h))
-            where
-              at : Dec (i < length h) → i < length h
-              at (yes l) = l
-              at (no n) = absurd (zero-no v q (List·getD-eq-default h 0 {n = i} (omega arith)))
+      ne : reduce word C g ≢ 0
+      ne z = residue (residue-at gens C i ∙ z)
 
-          back : (j : ℕ) → j < i → (reduce word C (generator word gens j) ≡ 0) ⊎ (reduce word C g ≡ reduce word C (generator word gens j))
-              → Span word C (generator word gens j)
-          back j l (inl z) = member word C ρ (generator word gens j) .1 z
-          back j l (inr z) =
-              let k : j < length (take i h) = omega (arith, inside-h, length-take i h) in
-              let m : List·Memᴰ (getD (take i h) j 0) (take i h) = mem-getD (take i h) j 0 k in
-              absurd (true≢false (sym (eq-eqb v (getD (take i h) j 0) (residue-at gens C i ∙ z ∙ sym (residue-at gens C j) ∙ sym
-              (getD-take i h j 0 l))) ∙ anyOf-no (eqb v) (take i h) e (getD (take i h) j 0) m))
+      inside-h : Dec (i < length h) → i < length h
+      inside-h (yes l) = l
+      inside-h (no n) = absurd (residue (List·getD-eq-default h 0 {n = i} (omega arith)))
+
+      back : (j : ℕ) → j < i → (reduce word C (generator word gens j) ≡ 0) ⊎ (reduce word C g ≡ reduce word C (generator word gens j))
+          → Span word C (generator word gens j)
+      back j l (inl z) = member word C ρ (generator word gens j) .1 z
+      back j l (inr z) =
+          absurd (true≢false (known-found h i j residue l (inside-h (decLt i (length h))) (residue-at gens C j ∙ sym z ∙ sym (residue-at gens C i)) ∙ e))

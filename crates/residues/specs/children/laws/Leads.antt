@@ -17,7 +17,7 @@ use lib.Seq.{getD-drop}
 use Rattle.linear.specs.Span.{Span, Within}
 use Rattle.linear.specs.Basis.{reduce, insert, inserts, basisOf, Reduced, dim}
 use Rattle.linear.specs.Entry.{generator, generatorsIn}
-use Rattle.linear.specs.Share.{Two, over, alike, weight}
+use Rattle.linear.specs.Share.{Two, over, alike, spaceWeight}
 use Rattle.linear.specs.Heavy.{Heavy}
 use Rattle.linear.specs.Word.{word}
 use Rattle.linear.specs.laws.Reduce.{member}
@@ -53,7 +53,7 @@ module _ (gens C D W : List ℕ) (start k m j : ℕ) (ρ : Reduced word C) (σ :
   G = generatorsIn word gens W
 
   abbrev w : ℕ → ℕ
-  w y = weight word gens D W y
+  w y = spaceWeight word gens D W y
 
   pub leads-one : (g : ℕ) → reduce word D g ≢ 0 → Span word W g → Leads gens C (insert word D g) W start k (m - 1) j
   leads-one g n s =

@@ -189,7 +189,7 @@ field-back base most c n t l h = field-is base most c (numeralText base most n +
 fields-back : (p q r k : ℕ) → p < 10000 → q < 10000 → r < 10000 → k < 10000 → countFields (fieldsText p q r k) ≡ some (p, q, r, k)
 unfolding fieldsText
 fields-back p q r k hp hq hr hk =
-    fields-is _ _ _ _ p q r k
+    fields-is _ _ _ _ p q r (some k)
     (field-back 10 4 comma p (countText q ++ (comma ∷ (countText r ++ (comma ∷ countText k)))) (omega arith) (count-back p hp))
     (field-back 10 4 comma q (countText r ++ (comma ∷ countText k)) (omega arith) (count-back q hq))
     (field-back 10 4 comma r (countText k) (omega arith) (count-back r hr))

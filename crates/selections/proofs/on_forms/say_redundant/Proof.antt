@@ -1,7 +1,11 @@
 -- `selections::on_forms::say_redundant` meets its contract. Assumes nothing.
 use borrow.Author.Needs.{needs}
-use mathlib.Core.Path.{sym, ap, _∙_}
-use mathlib.Core.Bool.{true, false, not}
+use mathlib.Core.Path.{_≡_, sym, ap, _∙_}
+use mathlib.Core.Bool.{Bool, true, false, not}
+use lib.ListN.{length}
+use Rattle.kinds.specs.Refusal.{accepted}
+use Rattle.problems.specs.Problem.{problem}
+use Rattle.selections.specs.on_forms.Selected.{misfit, missedBy, redundantAnswer}
 use Rattle.selections.specs.on_forms.laws.Replies.{redundant-misfit, redundant-short, redundant-lacking, redundant-said, missed-all, missed-is}
 use Rattle.selections.proofs.on_forms.say_redundant.Statement.{statement}
 use Rattle.selections.proofs.on_forms.say_redundant.Tie as tie
@@ -17,72 +21,47 @@ returns c =
     let args = c .before .before .before .before .before .args in
     redundant-misfit (args .gens .now) (args .targets .now) (args .sel .now) (args .j) (sym (c .before .misfits .ensures) ∙ c .if1 .taken)
 
-span-without-requires : tie.Need-span-without-requires
-span-without-requires c κs = sym (c .before .misfits .ensures) ∙ c .if1 .left
+-- every selected number is a generator's
+fit : (c : tie.Else1) → let a = c .before .before .before .before .before .args in misfit (length (a .gens .now)) (a .sel .now) ≡ false
+fit c = sym (c .before .misfits .ensures) ∙ c .if1 .left
+
+missed : (c : tie.After-misses) →
+    let a = c .before .before .before .before .before .before .before .args in
+    missedBy (a .gens .now) (a .targets .now) (a .sel .now) ≡ c .misses .result
+missed c =
+    let a = c .before .before .before .before .before .before .before .args in
+    let m = c .before .before .before .misfits in
+    let w = c .before .span-without in
+    missed-all (a .gens .now) (a .targets .now) (a .sel .now) (w .result) (c .misses .result) (m .result) (m .ensures)
+    (c .before .before .if1 .left) (w .ensures) (c .misses .ensures)
 
 returns-2 : tie.Need-returns-2
 returns-2 c =
-    let args = c .before .before .before .before .before .before .before .before .args in
-    let misfits = c .before .before .before .before .misfits in
-    let if1 = c .before .before .before .if1 in
-    let span-without = c .before .before .span-without in
-    redundant-short (args .gens .now) (args .targets .now) (args .sel .now) (args .j) (sym (misfits .ensures) ∙ if1 .left)
-    (missed-all (args .gens .now) (args .targets .now) (args .sel .now) (span-without .result) (c .before .misses .result) (misfits .result)
-    (misfits .ensures) (if1 .left) (span-without .ensures) (c .before .misses .ensures) ∙ c .if2 .taken)
+    let a = c .before .before .before .before .before .before .before .before .args in
+    redundant-short (a .gens .now) (a .targets .now) (a .sel .now) (a .j) (fit (c .before .before .before)) (missed (c .before) ∙ c .if2 .taken)
 
 returns-3 : tie.Need-returns-3
 returns-3 c =
-    let args = c .before .before .before .before .before .before .before .before .before .before .args in
-    let misfits = c .before .before .before .before .before .before .misfits in
-    let if1 = c .before .before .before .before .before .if1 in
-    let span-without = c .before .before .before .before .span-without in
-    let misses = c .before .before .before .misses in
-    redundant-lacking (args .gens .now) (args .targets .now) (args .sel .now) (args .j) (sym (misfits .ensures) ∙ if1 .left)
-    (missed-all (args .gens .now) (args .targets .now) (args .sel .now) (span-without .result) (misses .result) (misfits .result)
-    (misfits .ensures) (if1 .left) (span-without .ensures) (misses .ensures) ∙ c .before .before .if2 .left)
+    let a = c .before .before .before .before .before .before .before .before .before .before .args in
+    redundant-lacking (a .gens .now) (a .targets .now) (a .sel .now) (a .j) (fit (c .before .before .before .before .before))
+    (missed (c .before .before .before) ∙ c .before .before .if2 .left)
     (ap not (sym (c .before .stands-from .ensures)) ∙ c .if3 .taken)
 
-span-without-requires-2 : tie.Need-span-without-requires-2
-span-without-requires-2 c κs = sym (c .before .before .before .before .before .before .misfits .ensures) ∙ c .before .before .before .before .before .if1 .left
-
-returns-4 : tie.Need-returns-4
-returns-4 c =
-    let far = c .before .before .before .before .before .before .before .before .before .before .before .before in
-    let args = far .before .args in
-    let misfits = c .before .before .before .before .before .before .before .before .before .misfits in
-    let if1 = c .before .before .before .before .before .before .before .before .if1 in
-    let span-without = c .before .before .before .before .before .before .before .span-without in
-    let misses = c .before .before .before .before .before .before .misses in
-    let if2 = c .before .before .before .before .before .if2 in
-    let stands-from = c .before .before .before .before .stands-from in
-    let if3 = c .before .before .before .if3 in
-    let span-without2 = c .before .before .span-without2 in
-    redundant-said (args .gens .now) (args .targets .now) (args .sel .now) (args .j) true (sym (misfits .ensures) ∙ if1 .left)
-    (missed-all (args .gens .now) (args .targets .now) (args .sel .now) (span-without .result) (misses .result) (misfits .result)
-    (misfits .ensures) (if1 .left) (span-without .ensures) (misses .ensures) ∙ if2 .left) (ap not (sym (stands-from .ensures)) ∙ if3 .left)
-    (missed-is (args .gens .now) (args .targets .now) (args .sel .now) (args .j) (span-without2 .result) (c .before .misses2 .result)
-    (span-without2 .ensures) (c .before .misses2 .ensures) ∙ c .if4 .taken)
-
-returns-5 : tie.Need-returns-5
-returns-5 c =
-    let far = c .before .before .before .before .before .before .before .before .before .before .before .before in
-    let args = far .before .args in
-    let misfits = c .before .before .before .before .before .before .before .before .before .misfits in
-    let if1 = c .before .before .before .before .before .before .before .before .if1 in
-    let span-without = c .before .before .before .before .before .before .before .span-without in
-    let misses = c .before .before .before .before .before .before .misses in
-    let if2 = c .before .before .before .before .before .if2 in
-    let stands-from = c .before .before .before .before .stands-from in
-    let if3 = c .before .before .before .if3 in
-    let span-without2 = c .before .before .span-without2 in
-    redundant-said (args .gens .now) (args .targets .now) (args .sel .now) (args .j) false (sym (misfits .ensures) ∙ if1 .left)
-    (missed-all (args .gens .now) (args .targets .now) (args .sel .now) (span-without .result) (misses .result) (misfits .result)
-    (misfits .ensures) (if1 .left) (span-without .ensures) (misses .ensures) ∙ if2 .left) (ap not (sym (stands-from .ensures)) ∙ if3 .left)
-    (missed-is (args .gens .now) (args .targets .now) (args .sel .now) (args .j) (span-without2 .result) (c .before .misses2 .result)
-    (span-without2 .ensures) (c .before .misses2 .ensures) ∙ c .if4 .left)
+-- what is said, as the others miss a target or not
+said : (c : tie.After-misses2) (d : Bool) → c .misses2 .result ≡ d →
+    let a = c .before .before .before .before .before .before .before .before .before .before .before .before .args in
+    redundantAnswer (problem (a .gens .now) (a .targets .now)) (a .sel .now) (a .j) ≡ accepted (not d)
+said c d e =
+    let a = c .before .before .before .before .before .before .before .before .before .before .before .before .args in
+    let w = c .before .span-without2 in
+    redundant-said (a .gens .now) (a .targets .now) (a .sel .now) (a .j) d (fit (c .before .before .before .before .before .before .before))
+    (missed (c .before .before .before .before .before) ∙ c .before .before .before .before .if2 .left)
+    (ap not (sym (c .before .before .before .stands-from .ensures)) ∙ c .before .before .if3 .left)
+    (missed-is (a .gens .now) (a .targets .now) (a .sel .now) (a .j) (w .result) (c .misses2 .result) (w .ensures) (c .misses2 .ensures) ∙ e)
 
 pub say-redundant-spec : {M : Type 1} → statement M
 say-redundant-spec =
     tie.close
-    (tie.spec (λ c κs. search needs) returns span-without-requires (λ c κs. search needs) returns-2 (λ c κs. search needs) returns-3
-    span-without-requires-2 (λ c κs. search needs) returns-4 returns-5)
+    (tie.spec (λ c κs. search needs) returns (λ c κs. fit c) (λ c κs. search needs) returns-2 (λ c κs. search needs) returns-3
+    (λ c κs. fit (c .before .before .before .before .before)) (λ c κs. search needs) (λ c. said (c .before) true (c .if4 .taken))
+    (λ c. said (c .before) false (c .if4 .left)))

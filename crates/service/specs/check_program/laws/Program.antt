@@ -37,7 +37,7 @@ use Rattle.printing.specs.fields.Written.{bytesIn, writtenIn}
 use Rattle.printing.specs.fields.laws.Pieces.{name-short, number-short}
 use Rattle.check_text.specs.CheckAnswers.{verdictOf, replyText, replyOf, bytesOf}
 use Rattle.service.specs.Service.{checkRead, checkFile}
-use Rattle.printing.specs.refusals.Pages.{answerText}
+use Rattle.printing.specs.refusals.Pages.{checkPage, answerText}
 use Rattle.service.specs.check_program.CheckProgram.{programText}
 use Rattle.text.specs.Limits.{mostBytes}
 
@@ -189,7 +189,7 @@ unfolding bytesIn
 bytes-whole t d h = ap (λ (b : Bool). cond b 0 (length t)) (le-ltb (length d) (length t) h)
 
 -- the two replies told apart
-pub print-text : (s d d₁ : List ℕ) (n : ℕ) → length d ≡ 256 → n ≡ replyOf (checkFile s) d → d₁ ≡ bytesOf (checkFile s) d → 35 < n → take n d₁ ≡ answerText (checkFile s)
+pub print-text : (s d d₁ : List ℕ) (n : ℕ) → length d ≡ checkPage → n ≡ replyOf (checkFile s) d → d₁ ≡ bytesOf (checkFile s) d → 35 < n → take n d₁ ≡ answerText (checkFile s)
 print-text s d d₁ n l e f h = go (checkFile s) (file-fine s) e f
   where
     go : (a : Answer (List ℕ)) → Fine a → n ≡ replyOf a d → d₁ ≡ bytesOf a d → take n d₁ ≡ answerText a
@@ -199,7 +199,7 @@ print-text s d d₁ n l e f h = go (checkFile s) (file-fine s) e f
         ap₂ take (p ∙ ap (λ (b : Bool). cond b 9 (length t)) (le-ltb (length d) (length t) m) ∙ sym (bytes-whole t d m)) q
         ∙ written-take t d m
 
-pub print-refusal : (s d d₁ d₂ : List ℕ) (n e : ℕ) → length d ≡ 256 → n ≡ replyOf (checkFile s) d → d₁ ≡ bytesOf (checkFile s) d → n ≤ 35
+pub print-refusal : (s d d₁ d₂ : List ℕ) (n e : ℕ) → length d ≡ checkPage → n ≡ replyOf (checkFile s) d → d₁ ≡ bytesOf (checkFile s) d → n ≤ 35
     → e ≡ bytesIn (refusedText n) d₁ → d₂ ≡ writtenIn (refusedText n) d₁ → take e d₂ ≡ answerText (checkFile s)
 print-refusal s d d₁ d₂ n e l p q h x y = go (checkFile s) (file-fine s) p q
   where
@@ -212,7 +212,7 @@ print-refusal s d d₁ d₂ n e l p q h x y = go (checkFile s) (file-fine s) p q
         let r : n ≡ length t = p ∙ ap (λ (b : Bool). cond b 9 (length t)) (le-ltb (length d) (length t) m) in
         absurd (omega (arith, g .0))
 
-pub program-long : (s d d₁ : List ℕ) (e : ℕ) → length d ≡ 256 → mostBytes < length s → e ≡ bytesIn (refusedText 1) d → d₁ ≡ writtenIn (refusedText 1) d → take e d₁ ≡ programText s
+pub program-long : (s d d₁ : List ℕ) (e : ℕ) → length d ≡ checkPage → mostBytes < length s → e ≡ bytesIn (refusedText 1) d → d₁ ≡ writtenIn (refusedText 1) d → take e d₁ ≡ programText s
 unfolding programText
 program-long s d d₁ e l h x y =
     ap₂ take x y ∙ written-take (refusedText 1) d (let k = refused-most 1 in omega arith)
@@ -222,30 +222,30 @@ pub program-short : (s : List ℕ) → length s ≤ mostBytes → answerText (ch
 unfolding programText
 program-short s h = sym (ap (λ (b : Bool). cond b (refusedText 1) (answerText (checkFile s))) (le-ltb mostBytes (length s) h))
 
--- ---- what is printed fits 256 bytes
-pub bytes-most : (t d : List ℕ) → length d ≡ 256 → bytesIn t d ≤ 256
+-- ---- what is printed fits the page
+pub bytes-most : (t d : List ℕ) → length d ≡ checkPage → bytesIn t d ≤ checkPage
 unfolding bytesIn
 bytes-most t d l = go (decLt (length d) (length t))
   where
-    go : Dec (length d < length t) → cond (ltb (length d) (length t)) 0 (length t) ≤ 256
-    go (yes h) = subst (λ (b : Bool). cond b 0 (length t) ≤ 256) (sym (lt-ltb (length d) (length t) h)) (omega arith)
-    go (no h) = let k : length t ≤ length d = omega arith in subst (λ (b : Bool). cond b 0 (length t) ≤ 256) (sym (le-ltb (length d) (length t) k)) (omega arith)
+    go : Dec (length d < length t) → cond (ltb (length d) (length t)) 0 (length t) ≤ checkPage
+    go (yes h) = subst (λ (b : Bool). cond b 0 (length t) ≤ checkPage) (sym (lt-ltb (length d) (length t) h)) (omega arith)
+    go (no h) = let k : length t ≤ length d = omega arith in subst (λ (b : Bool). cond b 0 (length t) ≤ checkPage) (sym (le-ltb (length d) (length t) k)) (omega arith)
 
-pub reply-most : (s d : List ℕ) → replyOf (checkFile s) d ≤ 256
+pub reply-most : (s d : List ℕ) → replyOf (checkFile s) d ≤ checkPage
 reply-most s d = go (checkFile s) (file-fine s)
   where
-    go : (a : Answer (List ℕ)) → Fine a → replyOf a d ≤ 256
+    go : (a : Answer (List ℕ)) → Fine a → replyOf a d ≤ checkPage
     go (refused e) f = omega arith
     go (accepted t) f = by (ltb (length d) (length t))
       where
-        by : (b : Bool) → cond b 9 (length t) ≤ 256
+        by : (b : Bool) → cond b 9 (length t) ≤ checkPage
         by true = omega arith
         by false = omega (arith, f .1)
 
-pub refused-length : (s d d₁ : List ℕ) → length d ≡ 256 → d₁ ≡ bytesOf (checkFile s) d → replyOf (checkFile s) d ≤ 35 → length d₁ ≡ 256
+pub refused-length : (s d d₁ : List ℕ) → length d ≡ checkPage → d₁ ≡ bytesOf (checkFile s) d → replyOf (checkFile s) d ≤ 35 → length d₁ ≡ checkPage
 refused-length s d d₁ l q h = go (checkFile s) (file-fine s) q h
   where
-    go : (a : Answer (List ℕ)) → Fine a → d₁ ≡ bytesOf a d → replyOf a d ≤ 35 → length d₁ ≡ 256
+    go : (a : Answer (List ℕ)) → Fine a → d₁ ≡ bytesOf a d → replyOf a d ≤ 35 → length d₁ ≡ checkPage
     go (refused e) f q h = ap length q ∙ l
     go (accepted t) f q h =
         let m : length t ≤ length d = omega (arith, f .1) in

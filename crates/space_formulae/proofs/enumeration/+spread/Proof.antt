@@ -178,43 +178,37 @@ spread-add-completes t c =
 spread-completes-requires : (t : ℕ) → spread-lts.Need-completes-requires (claims t) (spread-at t) spread.Post spread-Inv-loop spread-μ-loop
 spread-completes-requires t c κs = c .before .before .before .before .before .before .before .before .before .before .before .before .before .before .before .before .before .before .pre .1 .valid
 
+-- the formulae with the number at hand are written
+went : (t : ℕ) (c : spread-lts.After-spread (claims t) (spread-at t) spread.Post spread-Inv-loop spread-μ-loop) →
+    let turn = c .before .before .before .before .before .before .before .before .before in
+    let a = turn .before .before .before .before .before .before .before .args in
+    Going (a .gens .now) (a .w .now) (a .targets .now) (rowsOf (a .b)) (numbersOf (a .c)) (a .missing) (a .limit)
+    (run (a .limit) (stateOf (a .t) (a .out .now))
+    (formulaeFrom (a .gens .now) (a .w .now) (a .targets .now) (rowsOf (a .b)) (numbersOf (a .c)) (length (a .gens .now) - a .start) (a .start) (a .missing)))
+    (length (a .out .now)) (turn .before .loop .j + 1) (c .spread .result) (c .spread .last .1 .1 .1 .1 .1 .1 .1 .1 .1 .0)
+went t c =
+    let turn = c .before .before .before .before .before .before .before .before .before in
+    let s = turn .before .before .before .before .before .before .before in
+    let a = s .args in
+    let l = turn .before .loop in
+    let k = c .before .before .before in
+    let d = c .before .before .add in
+    going-down (a .gens .now) (a .w .now) (a .targets .now) (a .missing) (a .b) (a .c) (a .t) (a .limit) (a .out .now) (s .pre .1)
+    (turn .before .before .if1 .left) _ _ (l .j) (l .counts) (l .out) (l .inv) (turn .loop-test .taken)
+    (sym (k .before .before .is-wanted .ensures) ∙ k .before .if3 .taken) (k .insert .result) (child-basis t k) (d .result) (d .ensures)
+    (c .spread .result) _ (c .spread .ensures)
+
 spread-same-length-3 : (t : ℕ) → spread-lts.Need-same-length-3 (claims t) (spread-at t) spread.Post spread-Inv-loop spread-μ-loop
-spread-same-length-3 t c =
-    let far = c .before .before .before .before .before .before .before .before .before .before .before .before in
-    let args = far .before .before .before .before .before .before .before .before .args in
-    let pre = far .before .before .before .before .before .before .before .before .pre in
-    let if1 = far .before .before .before .if1 in
-    let loop = far .before .before .loop in
-    let loop-test = far .before .loop-test in
-    let is-wanted = c .before .before .before .before .before .before .before .before .before .is-wanted in
-    let if3 = c .before .before .before .before .before .before .before .before .if3 in
-    let the-insert = c .before .before .before .before .before .before .before .insert in
-    let add = c .before .before .before .before .before .before .add in
-    let before = c .before .before .before .before .before .before .before in
-    let the-spread = c .before .before .before .before .spread in
-    (going-down (args .gens .now) (args .w .now) (args .targets .now) (args .missing) (args .b) (args .c) (args .t) (args .limit) (args .out .now)
-    (pre .1) (if1 .left) _ _ (loop .j) (loop .counts) (loop .out) (loop .inv) (loop-test .taken) (sym (is-wanted .ensures) ∙ if3 .taken)
-    (the-insert .result) (child-basis t before) (add .result) (add .ensures) (the-spread .result) _ (the-spread .ensures)) .same
+spread-same-length-3 t c = went t (c .before .before .before .before) .same
 
 spread-returns-3 : (t : ℕ) → spread-lts.Need-returns-3 (claims t) (spread-at t) spread.Post spread-Inv-loop spread-μ-loop
 spread-returns-3 t c =
-    let far = c .before .before .before .before .before .before .before .before .before .before .before .before in
-    let args = far .before .before .before .before .before .before .before .before .args in
-    let pre = far .before .before .before .before .before .before .before .before .pre in
-    let if1 = far .before .before .before .if1 in
-    let loop = far .before .before .loop in
-    let loop-test = far .before .loop-test in
-    let is-wanted = c .before .before .before .before .before .before .before .before .before .is-wanted in
-    let if3 = c .before .before .before .before .before .before .before .before .if3 in
-    let the-insert = c .before .before .before .before .before .before .before .insert in
-    let add = c .before .before .before .before .before .before .add in
-    let before = c .before .before .before .before .before .before .before in
-    let the-spread = c .before .before .before .before .spread in
-    going-stop (args .gens .now) (args .w .now) (args .targets .now) (args .missing) (args .b) (args .c) (args .limit) (pre .1 .space) (pre .1 .valid)
-    _ _ (loop .j) (the-spread .result) _
-    (going-down (args .gens .now) (args .w .now) (args .targets .now) (args .missing) (args .b) (args .c) (args .t) (args .limit) (args .out .now)
-    (pre .1) (if1 .left) _ _ (loop .j) (loop .counts) (loop .out) (loop .inv) (loop-test .taken) (sym (is-wanted .ensures) ∙ if3 .taken)
-    (the-insert .result) (child-basis t before) (add .result) (add .ensures) (the-spread .result) _ (the-spread .ensures)) (loop-test .taken)
+    let k = c .before .before .before .before in
+    let turn = k .before .before .before .before .before .before .before .before .before in
+    let a = turn .before .before .before .before .before .before .before .args in
+    let N = turn .before .before .before .before .before .before .before .pre .1 in
+    going-stop (a .gens .now) (a .w .now) (a .targets .now) (a .missing) (a .b) (a .c) (a .limit) (N .space) (N .valid) _ _ (turn .before .loop .j)
+    (k .spread .result) _ (went t k) (turn .loop-test .taken)
     (sym (c .before .completes .ensures) ∙ not-true (c .before .completes .result) (c .if4 .taken))
 
 spread-add-j : (t : ℕ) → spread-lts.Need-add-j (claims t) (spread-at t) spread.Post spread-Inv-loop spread-μ-loop
@@ -228,22 +222,7 @@ spread-loop-less : (t : ℕ) → spread-lts.Need-loop-less (claims t) (spread-at
 spread-loop-less t c = fewer (c .before .before .before .before .before .before .before .before .before .before .before .before .before .loop-test .taken)
 
 spread-loop-again : (t : ℕ) → spread-lts.Need-loop-again (claims t) (spread-at t) spread.Post spread-Inv-loop spread-μ-loop
-spread-loop-again t c =
-    let far = c .before .before .before .before .before .before .before .before .before .before .before .before in
-    let args = far .before .before .before .before .before .before .before .before .args in
-    let pre = far .before .before .before .before .before .before .before .before .pre in
-    let if1 = far .before .before .before .if1 in
-    let loop = far .before .before .loop in
-    let loop-test = far .before .loop-test in
-    let is-wanted = c .before .before .before .before .before .before .before .before .before .is-wanted in
-    let if3 = c .before .before .before .before .before .before .before .before .if3 in
-    let the-insert = c .before .before .before .before .before .before .before .insert in
-    let add = c .before .before .before .before .before .before .add in
-    let before = c .before .before .before .before .before .before .before in
-    let the-spread = c .before .before .before .before .spread in
-    going-down (args .gens .now) (args .w .now) (args .targets .now) (args .missing) (args .b) (args .c) (args .t) (args .limit) (args .out .now)
-    (pre .1) (if1 .left) _ _ (loop .j) (loop .counts) (loop .out) (loop .inv) (loop-test .taken) (sym (is-wanted .ensures) ∙ if3 .taken)
-    (the-insert .result) (child-basis t before) (add .result) (add .ensures) (the-spread .result) _ (the-spread .ensures)
+spread-loop-again t c = went t (c .before .before .before .before)
 
 spread-add-j-2 : (t : ℕ) → spread-lts.Need-add-j-2 (claims t) (spread-at t) spread.Post spread-Inv-loop spread-μ-loop
 spread-add-j-2 t c =

@@ -1,14 +1,19 @@
 -- `text::heads::counts_of` meets its contract. Assumes nothing.
 use native.Mathlib.Nat.{le-refl}
 use Prim.Native.Nat.{ℕ, _+_}
+use mathlib.Core.Path.{_≡_}
 use mathlib.Core.List.{List}
+use mathlib.Core.Option.{some}
 use borrow.Author.Needs.{needs}
 use native.Mathlib.Omega.{arith}
+use Rattle.text.specs.Reading.{_>>=_}
 use Rattle.text.specs.Numeral.{numeral}
+use Rattle.text.specs.declared.Number.{Number}
+use Rattle.text.specs.heads.Head.{countFields}
 use Rattle.text.specs.Line.{countField}
 use Rattle.text.specs.Views.{seenNumber}
 use Rattle.text.specs.laws.Line.{FieldAt, field-first, field-none, field-next, field-no, read-at}
-use Rattle.text.specs.heads.laws.Head.{fields-1, fields-2, fields-3, fields-4, fields-is}
+use Rattle.text.specs.heads.laws.Head.{fields-1, fields-2, fields-3, fields-is}
 use Rattle.text.proofs.heads.counts_of.Statement.{statement}
 use Rattle.text.proofs.heads.counts_of.Tie as tie
 
@@ -51,22 +56,19 @@ returns-3 c =
     let f = g .before .before .before .before .before in
     fields-3 _ _ _ _ _ (first f .is) (second g .is) (field-no countField (s f) _ _ (c .before .before .field-at3 .ensures .0) (c .enum-told3 .given .1))
 
-returns-4 : tie.Need-returns-4
-returns-4 c =
-    let h = c .before .before .before .before in
+-- the last count, or none
+last : (c : tie.After-numeral-of) (n : Number) → c .numeral-of .result ≡ n →
+    let h = c .before .before in
     let g = h .before .before .before .before .before in
     let f = g .before .before .before .before .before in
-    fields-4 _ _ _ _ _ _ _ (first f .is) (second g .is) (third h .is)
-    (read-at (s f) (d h) _ _ (numeral 10 4) (λ _. seenNumber) (c .before .before .numeral-of .ensures) (c .enum-told4 .given .1))
-
-returns-5 : tie.Need-returns-5
-returns-5 c =
-    let k = c .before in
-    let h = k .before .before .before .before in
+    countFields (s f) ≡ _>>=_ {A = ℕ} {B = ℕ × ℕ × ℕ × ℕ} (seenNumber n)
+    (λ k. some (f .before .p .given .0 .0, g .before .q .given .0 .0, h .before .r .given .0 .0, k))
+last c n e =
+    let h = c .before .before in
     let g = h .before .before .before .before .before in
     let f = g .before .before .before .before .before in
     fields-is _ _ _ _ _ _ _ _ (first f .is) (second g .is) (third h .is)
-    (read-at (s f) (d h) _ _ (numeral 10 4) (λ _. seenNumber) (k .before .before .numeral-of .ensures) (k .k .given .1))
+    (read-at (s f) (d h) _ _ (numeral 10 4) (λ _. seenNumber) (c .numeral-of .ensures) e)
 
 pub counts-of-spec : {M : Type 1} → statement M
 counts-of-spec =
@@ -82,5 +84,6 @@ counts-of-spec =
       third c .fits,
       c .before .before .before .before .before .before .before .before .before .before .before .before .before .before .before .good,
     ))
-    (λ c. third c .fits) (λ c. third c .fits) (λ c. le-refl _) (λ c κs. search needs) (λ c. c .match4 .keys1) (λ c. c .match4 .keys2) returns-4
-    returns-5)
+    (λ c. third c .fits) (λ c. third c .fits) (λ c. le-refl _) (λ c κs. search needs) (λ c. c .match4 .keys1) (λ c. c .match4 .keys2)
+    (λ c. last (c .before .before) _ (c .enum-told4 .given .1))
+    (λ c. last (c .before .before .before) _ (c .before .k .given .1)))

@@ -8,13 +8,14 @@ use Prim.Native.Nat.{ℕ, _+_, _-_}
 use mathlib.Core.Path.{_≡_, refl, ap, _∙_, subst}
 use mathlib.Core.List.{List}
 use mathlib.Core.Bool.{true, false}
-use mathlib.Core.Option.{none, some}
+use mathlib.Core.Option.{Option, none, some}
 use lib.ListN.{length, take, drop}
 use lib.Seq.{drop-drop}
 use Rattle.kinds.specs.declared.Kind.{Kind}
 use Rattle.kinds.specs.declared.Kind.the-variants as kind
 use Rattle.kinds.specs.Kinds.{kindNamed, nameOf, same, seenKind}
 use Rattle.kinds.specs.declared.Known.{Known}
+use Rattle.text.specs.Reading.{_>>=_}
 use Rattle.text.specs.Numeral.{count}
 use Rattle.text.specs.Line.{cut, LF, comma, nameLine, countField}
 use Rattle.text.specs.heads.Head.{headNames, countFields, headLine, headLines}
@@ -35,13 +36,11 @@ pub fields-3 : (s t u : List ℕ) (p q : ℕ) → countField s ≡ some (p, t) �
 unfolding countFields
 fields-3 s t u p q e f g = rw (e, f, g)
 
-pub fields-4 : (s t u v : List ℕ) (p q r : ℕ) → countField s ≡ some (p, t) → countField t ≡ some (q, u) → countField u ≡ some (r, v) → count v ≡ none → countFields s ≡ none
+-- the last count, or none
+pub fields-is : (s t u v : List ℕ) (p q r : ℕ) (o : Option ℕ) → countField s ≡ some (p, t) → countField t ≡ some (q, u) → countField u ≡ some (r, v)
+    → count v ≡ o → countFields s ≡ _>>=_ {A = ℕ} {B = ℕ × ℕ × ℕ × ℕ} o (λ k. some (p, q, r, k))
 unfolding countFields
-fields-4 s t u v p q r e f g h = rw (e, f, g, h)
-
-pub fields-is : (s t u v : List ℕ) (p q r k : ℕ) → countField s ≡ some (p, t) → countField t ≡ some (q, u) → countField u ≡ some (r, v) → count v ≡ some k → countFields s ≡ some (p, q, r, k)
-unfolding countFields
-fields-is s t u v p q r k e f g h = rw (e, f, g, h)
+fields-is s t u v p q r o e f g h = rw (e, f, g, h)
 
 pub head-cut : (s : List ℕ) → cut LF s ≡ none → headLine s ≡ none
 unfolding headLine

@@ -5,7 +5,8 @@ use Prim.Native.Nat.{_-_}
 use lib.ListN.{length, drop}
 use lib.Dec.{eqb}
 use Rattle.linear.specs.Select.{anyOf}
-use Rattle.words.specs.lists.laws.Standing.{stands-here, stands-later, stands-end}
+use Rattle.words.specs.lists.laws.Standing.{stands-turn, stands-end}
+use borrow.Author.Tests.{eq-eqb, ne-eqb}
 use Rattle.words.proofs.lists.stands_from.Statement.{statement}
 use Rattle.words.proofs.lists.stands_from.Tie as tie
 
@@ -17,20 +18,18 @@ abbrev μ-loop : tie.MeasureT-loop
 
 returns : tie.Need-returns Inv-loop μ-loop
 returns c =
-    let args = c .before .before .before .before .args in
-    let loop = c .before .before .before .loop in
-    stands-here (args .x) (args .xs .now) (loop .i) _ (omega arith) (loop .inv) (c .if1 .taken)
+    let a = c .before .before .before .before .args in
+    let l = c .before .before .before .loop in
+    stands-turn (a .x) (a .xs .now) (l .i) (omega arith) (l .inv) (eq-eqb (a .x) _ (c .if1 .taken))
 
 loop-again : tie.Need-loop-again Inv-loop μ-loop
 loop-again c =
-    let args = c .before .before .before .before .args in
-    let loop = c .before .before .before .loop in
-    stands-later (args .x) (args .xs .now) (loop .i) _ (omega arith) (loop .inv) (c .if1 .left)
-
-returns-2 : tie.Need-returns-2 Inv-loop μ-loop
-returns-2 c = stands-end (c .before .before .args .x) (c .before .before .args .xs .now) (c .before .loop .i) _ (omega arith) (c .before .loop .inv)
+    let a = c .before .before .before .before .args in
+    let l = c .before .before .before .loop in
+    stands-turn (a .x) (a .xs .now) (l .i) (omega arith) (l .inv) (ne-eqb (a .x) _ (c .if1 .left))
 
 pub stands-from-spec : {M : Type 1} → statement M
 stands-from-spec =
     tie.close
-    (tie.spec Inv-loop μ-loop (λ c. refl) (λ c. omega arith) (λ c. omega arith) returns (λ c. omega arith) (λ c. omega arith) loop-again returns-2)
+    (tie.spec Inv-loop μ-loop (λ c. refl) (λ c. omega arith) (λ c. omega arith) returns (λ c. omega arith) (λ c. omega arith) loop-again
+    (λ c. stands-end _ (c .before .before .args .xs .now) (c .before .loop .i) (omega arith) (c .before .loop .inv)))

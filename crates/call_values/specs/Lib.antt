@@ -1,0 +1,2 @@
+-- The rooms of the run.
+pub mod Rooms
