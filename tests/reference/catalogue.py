@@ -218,13 +218,13 @@ def rows(products, targets):
 
 # Replies.  A buffer is a list of words; it comes back as the call leaves it.
 
-def catalogue(kind, p, q, r, k, gs, ts, buffer):
-    """l, found, shown and the buffer, or a refusal."""
+def catalogue(kind, p, q, r, k, gs, ts, buffer, known=None):
+    """l, found, shown and the buffer, or a refusal; known are the entries, where they are not to be looked for."""
     generators, targets = posed(kind, p, q, r, gs, ts)
     ell = len(reduced(targets))
     if k > ell + 6:
         raise Refused(8)
-    listed = entries(generators, targets, k)
+    listed = entries(generators, targets, k) if known is None else known
     length = 2 * k - ell
     shown = len(listed) if length <= 0 else min(len(listed), len(buffer) // length)
     records = [word for extension, basis in listed[:shown] for word in extension + basis]
@@ -289,10 +289,10 @@ def inner(words, base):
     return " ".join(base % word for word in words) or "-"
 
 
-def catalogue_program(data):
+def catalogue_program(data, known=None):
     try:
         kind, p, q, r, k, gs, ts = read(data)
-        ell, found, shown, buffer, listed = catalogue(kind, p, q, r, k, gs, ts, [0] * 4096)
+        ell, found, shown, buffer, listed = catalogue(kind, p, q, r, k, gs, ts, [0] * 4096, known)
     except Refused as refusal:
         return "refused %d\n" % refusal.args[0]
     lines = ["kind,p,q,r,k,ell,found,shown", "%s,%d,%d,%d,%d,%d,%d,%d" % (kind.decode(), p, q, r, k, ell, found, shown), "entry,extension,basis"]

@@ -114,10 +114,10 @@ def is_redundant(kind, p, q, r, gs, ts, selection, j):
 
 # The program: Catalogue's first two lines, then the formulae of each shown entry.
 
-def formulae_program(data):
+def formulae_program(data, known=None):
     try:
         kind, p, q, r, k, gs, ts = catalogue.read(data)
-        ell, found, shown, _, listed = catalogue.catalogue(kind, p, q, r, k, gs, ts, [0] * ROOM)
+        ell, found, shown, _, listed = catalogue.catalogue(kind, p, q, r, k, gs, ts, [0] * ROOM, known)
     except Refused as refusal:
         return "refused %d\n" % refusal.args[0]
     outputs = catalogue.sizes(kind, p, q, r)[2]

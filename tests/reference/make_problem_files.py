@@ -4,6 +4,8 @@ Each file is asked by all three programs, Catalogue, Rank and Formulae; the
 replies come from catalogue.py and formulae.py, which share nothing with the
 code under test.  Where a file is made for a refusal, its number is written
 beside it and all three must agree, but for 8, which depends on what is asked.
+Of a row of document 000's tables the numbers of spaces and of formulae are
+written in TABLES, and Formulae's reply must have as many.
 The random lists come from a fixed seed.  A name is three digits, a short name
 padded with '-', and `.txt`: 24 bytes.
 """
@@ -12,30 +14,33 @@ import random
 import sys
 
 sys.dont_write_bytecode = True
-from catalogue import catalogue_program, random_list, rank_program
+import table_rows
+from catalogue import catalogue_program, posed, random_list, rank_program
 from formulae import formulae_program
+from table_rows import listed
 
 HEAD = b"kind,p,q,r,k\n"
-PROGRAMS = (catalogue_program, rank_program, formulae_program)
 
-files = []
+# The spaces and the formulae of a file, in Table 1, 3 or 4 of document 000; all of them are printed.
+TABLES = {
+    "poly-2-2-0-3": (1, 1), "poly-3-2-0-5": (3, 162), "poly-3-3-0-6": (3, 9), "poly-4-2-0-6": (4, 108), "poly-4-4-0-9": (4, 4),
+    "poly-5-5-0-13": (27, 27), "poly-6-4-0-13": (9, 15), "sym-poly-6-17": (6, 54),
+    "field-4-3": (3, 3), "field-8-6": (105, 147), "field-32-9": (0, 0),
+    "short-2-2-0-3": (3, 10), "short-3-3-0-5": (12, 40), "sym-short-5-11": (112, 736),
+    "circ-2-2-0-3": (3, 10), "circ-3-3-0-4": (3, 3), "sym-circ-5-10": (25, 25), "sym-circ-6-12": (31, 148), "sym-circ-7-13": (1, 49),
+}
+
+files, checked = [], set()
 
 
-def add(name, data, refusal=None):
+def add(name, data, refusal=None, known=None):
     stem = "%03d-%s" % (len(files), name)
     assert len(stem) <= 20, stem
-    files.append((stem.ljust(20, "-") + ".txt", data, refusal))
+    files.append((stem.ljust(20, "-") + ".txt", name, data, refusal, known))
 
 
-def problem(kind, p, q, r, k, gs=None, ts=None):
-    data = HEAD + b"%s,%d,%d,%d,%d\n" % (kind, p, q, r, k)
-    if gs is not None:
-        data += b"role,form\n" + b"".join(b"g,%x\n" % g for g in gs) + b"".join(b"t,%x\n" % t for t in ts)
-    return data
-
-
-def listed(p, k, gs, ts):
-    return problem(b"list", p, len(gs), len(ts), k, gs, ts)
+def problem(kind, p, q, r, k):
+    return HEAD + b"%s,%d,%d,%d,%d\n" % (kind, p, q, r, k)
 
 
 def padded(length):
@@ -105,14 +110,44 @@ def damaged():
     add("8-list-9999", listed(2, 9999, [1, 2, 3], [3]), 8)
 
 
+# Rows of document 000's tables.
+
+def tabled():
+    """Maps with the full menu whose entries are known; fields, also for Rank; symmetric products only."""
+    for p, q, k in ((5, 5, 13), (6, 4, 13)):
+        entries = table_rows.known("poly %d,%d for %d" % (p, q, k), *posed(b"poly", p, q, 0, [], []), k)
+        add("poly-%d-%d-0-%d" % (p, q, k), problem(b"poly", p, q, 0, k), known=entries)
+    for e, ks in ((2, (0, 3)), (3, (0, 6)), (5, (9,))):
+        for k in ks:        # the reference would take too long for 32 elements: document 000 has no space for 9
+            add("field-%d-%d" % (2 ** e, k), listed(e * e, k, *table_rows.field(e)), known=[] if e == 5 else None)
+    for kind, n, k in ((b"poly", 6, 17), (b"short", 5, 11), (b"circ", 5, 10), (b"circ", 6, 12), (b"circ", 7, 13)):
+        gs, ts = table_rows.symmetric(kind, n)
+        name = "symmetric %s %d for %d" % (kind.decode(), n, k)
+        entries = table_rows.known(name, gs, ts, k) if name in table_rows.EXTENSIONS else None
+        add("sym-%s-%d-%d" % (kind.decode(), n, k), listed(n * n, k, gs, ts), known=entries)
+
+
+def counted(reply):
+    """The numbers of spaces and of formulae in Formulae's reply, which leaves none out."""
+    _, head, _, *lines = reply.splitlines()
+    found, shown = map(int, head.split(",")[-2:])
+    assert found == shown and not any(",more," in line for line in lines)
+    return found, len(lines)
+
+
 def made():
     """Name, bytes and replies of each file."""
     answered()
     damaged()
+    tabled()
     every = []
-    for name, data, refusal in files:
-        replies = [program(data) for program in PROGRAMS]
+    for full, name, data, refusal, known in files:
+        replies = [catalogue_program(data, known), rank_program(data), formulae_program(data, known)]
         assert refusal is None or set(replies) == {"refused %d\n" % refusal}, (name, replies)
         assert refusal is not None or not all(reply.startswith("refused") for reply in replies), (name, replies)
-        every.append((name, data, "".join(replies)))
+        if name in TABLES:
+            assert counted(replies[2]) == TABLES[name], (name, counted(replies[2]))
+            checked.add(name)
+        every.append((full, data, "".join(replies)))
+    assert checked == set(TABLES)
     return every

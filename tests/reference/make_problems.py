@@ -10,6 +10,7 @@ import sys
 sys.dont_write_bytecode = True
 import catalogue
 from catalogue import KINDS, Refused, random_list, reduced
+from table_rows import field
 
 CATALOGUE, RANK, ENTRY = 0, 1, 2
 POLY, SHORT, CIRC, MAT, LIST = range(5)
@@ -130,7 +131,8 @@ def refusals():
 
 def tables():
     """The numbers of spaces in document 000, Tables 1 and 4; and mat 2,2,2 for 7."""
-    for p, q, k, found in ((2, 2, 3, 1), (3, 2, 5, 3), (3, 3, 6, 3), (4, 2, 6, 4), (4, 3, 8, 33), (4, 4, 9, 4), (5, 2, 8, 28), (5, 3, 10, 366), (6, 2, 9, 64), (6, 3, 11, 3)):
+    for p, q, k, found in ((2, 2, 3, 1), (3, 2, 5, 3), (3, 3, 6, 3), (4, 2, 6, 4), (4, 3, 8, 33), (4, 4, 9, 4), (5, 2, 8, 28), (5, 3, 10, 366),
+                           (6, 2, 9, 64), (6, 3, 11, 3), (7, 2, 11, 960), (8, 2, 12, 4096)):
         add(CATALOGUE, POLY, p, q, 0, k, 48, want="found %d" % found)
     for kind, p, k, found in ((SHORT, 2, 3, 3), (SHORT, 3, 5, 12), (CIRC, 2, 3, 3), (CIRC, 3, 4, 3)):
         add(CATALOGUE, kind, p, p, 0, k, 48, want="found %d" % found)
@@ -138,10 +140,15 @@ def tables():
 
 
 def published():
-    """Numbers of spaces in document 000 that the reference would take too long for: Table 1, rows 5,4 and 5,5, 6,4, 7,3; Table 4, row 4 of both rings. No record is asked for."""
-    for number, p, q, k, found in ((POLY, 5, 4, 12, 4113), (POLY, 5, 5, 13, 27), (POLY, 6, 4, 13, 9), (POLY, 7, 3, 13, 87), (SHORT, 4, 4, 8, 1440), (CIRC, 4, 4, 8, 1440)):
+    """Numbers of spaces in document 000 that the reference would take too long for, 0 where it has none: rows of Tables 1 and 4 with the full
+    menu, and Table 3's field of 16 elements.  No record is asked for."""
+    for number, p, q, k, found in ((POLY, 5, 4, 12, 4113), (POLY, 5, 5, 13, 27), (POLY, 6, 4, 13, 9), (POLY, 6, 5, 14, 0), (POLY, 6, 6, 14, 0),
+                                   (POLY, 7, 3, 13, 87), (POLY, 7, 4, 14, 0), (POLY, 8, 3, 14, 0),
+                                   (SHORT, 4, 4, 8, 1440), (SHORT, 5, 5, 9, 0), (CIRC, 4, 4, 8, 1440), (CIRC, 5, 5, 9, 0)):
         ell = len(reduced(catalogue.map_targets(KINDS[number], p, q, 0, p, q, p + q - 1 if number == POLY else p)))
         write([CATALOGUE, number, p, q, 0, k, 0, 0, 0, 0], line("entries %d %d 0" % (ell, found), [], []))
+    gs, ts = field(4)
+    write([CATALOGUE, LIST, 16, len(gs), len(ts), 9, 0, len(gs), len(ts), 0] + gs + ts, line("entries 4 2025 0", [], []))
 
 
 def lists():

@@ -87,10 +87,11 @@ def worked():
 
 
 def tables():
-    """Document 000's numbers of formulae over all entries; other kinds; each also in a buffer with exactly enough room, and a word less."""
+    """Document 000's numbers of formulae over all entries; mat 2,2,2; each also in a buffer with exactly enough room, and a word less."""
     for number, p, q, r, k, count, total in (
-            (POLY, 3, 3, 0, 6, 3, 9), (POLY, 4, 4, 0, 9, 4, 4), (POLY, 4, 3, 0, 8, 33, 423), (POLY, 6, 3, 0, 11, 3, 243), (POLY, 3, 2, 0, 5, 3, 162),
-            (SHORT, 2, 2, 0, 3, 3, None), (SHORT, 3, 3, 0, 5, 12, None), (CIRC, 2, 2, 0, 3, 3, None), (CIRC, 3, 3, 0, 4, 3, None), (MAT, 2, 2, 2, 7, 36, None)):
+            (POLY, 3, 3, 0, 6, 3, 9), (POLY, 4, 2, 0, 6, 4, 108), (POLY, 4, 4, 0, 9, 4, 4), (POLY, 4, 3, 0, 8, 33, 423), (POLY, 6, 3, 0, 11, 3, 243),
+            (POLY, 3, 2, 0, 5, 3, 162), (SHORT, 2, 2, 0, 3, 3, 10), (SHORT, 3, 3, 0, 5, 12, 40), (CIRC, 2, 2, 0, 3, 3, 10), (CIRC, 3, 3, 0, 4, 3, 3),
+            (MAT, 2, 2, 2, 7, 36, None)):
         _, targets, found = spaces(number, p, q, r, k)
         assert len(found) == count
         sum_of_all, size = 0, k + len(targets)

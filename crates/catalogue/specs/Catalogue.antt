@@ -14,9 +14,10 @@ use Rattle.problems.specs.Problem.{Problem, posed}
 use Rattle.linear.specs.Basis.{dim}
 use Rattle.linear.specs.Entry.{entries}
 use Rattle.linear.specs.Word.{word}
-use Rattle.catalogue.specs.listing.Listing.{records, recordLength, flat, fitting}
+use Rattle.catalogue.specs.listing.Listing.{records, flat, fitting}
 use Rattle.catalogue.specs.declared.Catalogued.{Catalogued as Reply}
 use Rattle.catalogue.specs.declared.Catalogued.the-variants as reply
+use Rattle.records.specs.Length.{recordLength}
 
 pub record Catalogued : Type 0 where
   pub ell : ℕ
@@ -29,7 +30,7 @@ pub record Catalogued : Type 0 where
 unfoldable pub entryListing : Problem → ℕ → List ℕ → Catalogued
 entryListing x k old =
     let found = length (entries word (x .generators) (x .targets) k) in
-    let size = recordLength (x .targets) k in
+    let size = recordLength (dim word (x .targets)) k in
     let shown = fitting size found (length old) in
     record {
       ell = dim word (x .targets);

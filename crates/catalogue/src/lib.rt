@@ -45,7 +45,8 @@ pub fn catalogue(
     ts: &[u64],
     out: &mut [u64],
 ) -> Catalogued
-    ensures { λ x. ⌜ (catalogue number p q r k (now (gs .entry)) (now (ts .entry)) (now (out .entry)) ≡ seenCatalogue x (now (out .exit))) × (now (out .exit) ≡ lentCatalogue (catalogue number p q r k (now (gs .entry)) (now (ts .entry)) (now (out .entry))) (now (out .entry))) ⌝ }
+    ensures { λ x. ⌜ (catalogue number p q r k (now (gs .entry)) (now (ts .entry)) (now (out .entry)) ≡ seenCatalogue x (now (out .exit)))
+        × (now (out .exit) ≡ lentCatalogue (catalogue number p q r k (now (gs .entry)) (now (ts .entry)) (now (out .entry))) (now (out .entry))) ⌝ }
 {
     let mut g = [0u64; kinds::GENERATORS];
     let mut t = [0u64; kinds::TARGETS];

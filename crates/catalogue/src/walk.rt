@@ -27,7 +27,8 @@ pub fn walk(
     out: &mut [u64],
 ) -> Tally
     requires { ⌜ Node (now gens) (now h) start missing b c t limit (now out) × (length (now rows) ≡ rowRoom) ⌝ }
-    ensures { λ r. ⌜ stateOf r (now (out .exit)) ≡ run limit (stateOf t (now (out .entry))) (search (now (gens .entry)) k (rowsOf b) (chainOf c) (length (now (gens .entry)) - start) start missing) ⌝ }
+    ensures { λ r. ⌜ stateOf r (now (out .exit)) ≡ run limit (stateOf t (now (out .entry))) (search (now (gens .entry)) k (rowsOf b) (chainOf c)
+        (length (now (gens .entry)) - start) start missing) ⌝ }
 {
     if missing == 0 {
         if residues::spanned(gens, h, k) {

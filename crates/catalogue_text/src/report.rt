@@ -69,7 +69,8 @@ pub fn catalogue_text(
     out: &mut [u8],
 ) -> usize
     requires { ⌜ Records (now listing) (k - ell) k shown 204 ⌝ }
-    ensures { λ e. ⌜ Piece (now (out .entry)) 0 (catalogueText kind p q r k ell found shown (now (listing .entry))) (204 + (21 * (shown * ((k - ell) + k)) + 25 * shown)) (now (out .exit)) e ⌝ }
+    ensures { λ e. ⌜ Piece (now (out .entry)) 0 (catalogueText kind p q r k ell found shown (now (listing .entry)))
+        (204 + (21 * (shown * ((k - ell) + k)) + 25 * shown)) (now (out .exit)) e ⌝ }
 {
     let a = put_counts(kind, p, q, r, k, ell, found, shown as u64, out);
     let d = if k < ell { 0 } else { k - ell };

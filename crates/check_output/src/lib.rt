@@ -1,19 +1,21 @@
-// What the Check program writes to standard output of the bytes that it has read. It stands apart from `program_output`, so that Check rests on no search.
-ghost use mathlib.Core.Path.{_≡_};
-ghost use lib.ListN.{length};
-ghost use Rattle.printing.specs.refusals.Pages.{checkPage};
+// What the Check program writes to standard output of the bytes that it has read, and how a program writes what was printed on a page. It stands apart from
+// `program_output`, so that Check rests on no search.
+ghost use Rattle.printing.specs.pages.Printed.{PrintedWhole};
 use libc::STDOUT_FILENO;
+use printing::pages::Printed;
 
-// A page for Check's reply. (A page from a call has a length for the proofs, and no bytes that they would compute.)
-fn page() -> [u8; printing::CHECK_PAGE]
-    ensures { λ r. ⌜ checkPage ≡ length r ⌝ }
+// Writes what a call has printed, from the start of a page. (It was not refused: the programs' pages take every text.)
+pub fn write_printed(said: Printed, page: &[u8])
+    requires { ⌜ PrintedWhole said (now page) ⌝ }
 {
-    [0; printing::CHECK_PAGE]
+    if let Printed::Bytes(m) = said {
+        io::write_all(STDOUT_FILENO, &page[..m]);
+    }
 }
 
 // Writes what the Check program prints of an input.
 pub fn write_check(input: &[u8]) {
-    let mut out = page();
-    let m = service::check_program::check_program(input, &mut out);
-    io::write_all(STDOUT_FILENO, &out[..m]);
+    let mut page = printing::pages::check_page();
+    let said = service::check_program::check_program(input, &mut page);
+    write_printed(said, &page);
 }

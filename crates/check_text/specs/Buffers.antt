@@ -1,21 +1,29 @@
 -- Buffers that hold a formula that was read.
---   outputsOf kd p q r == the number of outputs of a map with these sizes (0 where they misfit)
---   FormulaBuffers ..  == the sizes fit, and the buffers have room for k products and a row for each output
+--   sizesIn kd p q r  == n, m and the number of outputs of a map with these sizes (0 where they misfit)
+--   formulaIn ..      == the formula that the buffers hold: k products, and a row for each output
+--   FormulaBuffers .. == the sizes fit, the buffers have room for k products and a row for each output, and k is at most 64
 -- Assumes nothing.
 use mathlib.Core.Path.{_≡_}
 use mathlib.Core.List.{List}
 use mathlib.Core.Option.{Option, none, some}
 use Prim.Native.Nat.{ℕ, _≤_}
-use lib.ListN.{length}
+use lib.ListN.{length, take}
+use Rattle.kinds.specs.Limits.{mostProducts}
 use Rattle.kinds.specs.Sizes.{sizes}
 use Rattle.kinds.specs.declared.Kind.{Kind}
+use Rattle.formula_check.specs.Formula.{Admitted, formulaOf}
 
-abbrev pub third : Option (ℕ × ℕ × ℕ) → ℕ
-third none = 0
-third (some z) = z .2
+abbrev pub sizesOr : Option (ℕ × ℕ × ℕ) → ℕ × ℕ × ℕ
+sizesOr none = (0, 0, 0)
+sizesOr (some z) = z
 
-unfoldable pub outputsOf : Kind → (p q r : ℕ) → ℕ
-outputsOf kd p q r = third (sizes kd p q r)
+unfoldable pub sizesIn : Kind → (p q r : ℕ) → ℕ × ℕ × ℕ
+sizesIn kd p q r = sizesOr (sizes kd p q r)
+
+abbrev pub formulaIn : Kind → (p q r k : ℕ) (a b rows : List ℕ) → Admitted
+formulaIn kd p q r k a b rows =
+    let z = sizesIn kd p q r in
+    formulaOf kd p q r (z .0) (z .1) (take k a) (take k b) (take (z .2) rows)
 
 pub record FormulaBuffers (kd : Kind) (p q r k : ℕ) (a b rows : List ℕ) : Type 0 where
   pub n : ℕ
@@ -25,3 +33,4 @@ pub record FormulaBuffers (kd : Kind) (p q r k : ℕ) (a b rows : List ℕ) : Ty
   pub firsts : k ≤ length a
   pub seconds : k ≤ length b
   pub outputs : u ≤ length rows
+  pub few : k ≤ mostProducts

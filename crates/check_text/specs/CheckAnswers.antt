@@ -1,5 +1,5 @@
 -- The reply of Check as text, in a lent byte string.
---   replyText ..       == a refusal's number, or what the Check program prints of a verdict and its adders
+--   admittedText f     == what the Check program prints of an admitted formula
 --   replyOf, bytesOf   == the reply of `gijpsando_check`, and the second string's final content
 -- Document 01: "a second takes what the Check program would print, and the reply is the count of bytes written (always above 35) or a refusal's
 -- number. Too short a second string is refused by 9." Assumes nothing.
@@ -9,21 +9,19 @@ use mathlib.Core.Option.{Option, none, some}
 use Prim.Native.Nat.{ℕ}
 use lib.ListN.{length}
 use lib.Dec.{ltb}
-use Rattle.kinds.specs.declared.Kind.{Kind}
+use Rattle.formula_check.specs.Formula.{Admitted, verdict}
 use Rattle.kinds.specs.Refusal.{Answer, refused, accepted}
 use Rattle.formula_check.specs.declared.verdicts.Verdict.{Verdict}
-use Rattle.formula_check.specs.declared.verdicts.Verdict.the-variants as verdict
+use Rattle.formula_check.specs.declared.verdicts.Verdict.the-variants as said
 use Rattle.check_text.specs.replies.CheckText.{checkText}
 use Rattle.printing.specs.fields.Written.{writtenIn}
 
 abbrev pub verdictOf : Option ℕ → Verdict
-verdictOf none = verdict.Right
-verdictOf (some t) = verdict.Wrong t
+verdictOf none = said.Right
+verdictOf (some t) = said.Wrong t
 
--- the text of a verdict and its adders
-abbrev pub replyText : Kind → (p q r k : ℕ) → Answer (Option ℕ × ℕ) → Answer (List ℕ)
-replyText kd p q r k (refused e) = refused e
-replyText kd p q r k (accepted x) = accepted (checkText kd p q r k (verdictOf (x .0)) (x .1))
+abbrev pub admittedText : Admitted → List ℕ
+admittedText f = checkText (f .kind) (f .p) (f .q) (f .r) (length (f .firsts)) (verdictOf (verdict f .0)) (verdict f .1)
 
 -- ---- with the second string d
 abbrev pub replyOf : Answer (List ℕ) → List ℕ → ℕ

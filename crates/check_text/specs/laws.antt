@@ -1,2 +1,3 @@
 -- The laws behind it.
 pub mod Replying
+pub mod Says

@@ -52,7 +52,8 @@ pub fn check_text(
     adders: u64,
     out: &mut [u8],
 ) -> usize
-    ensures { λ e. ⌜ (e ≡ bytesIn (checkText kind p q r k v adders) (now (out .entry))) × (now (out .exit) ≡ writtenIn (checkText kind p q r k v adders) (now (out .entry))) ⌝ }
+    ensures { λ e. ⌜ (e ≡ bytesIn (checkText kind p q r k v adders) (now (out .entry)))
+        × (now (out .exit) ≡ writtenIn (checkText kind p q r k v adders) (now (out .entry))) ⌝ }
 {
     let mut page = [0u8; 192];
     let n = put_check(kind, p, q, r, k, v, adders, &mut page);

@@ -64,7 +64,8 @@ pub fn first_formula(gens: &[u64], w: &[u64]) -> Choice
 // A row for every target, from place `at` on.
 fn put_rows(products: &[u64], targets: &[u64], out: &mut [u64], at: usize)
     requires { ⌜ (length (now products) ≤ mostProducts) × (at + length (now targets) ≤ length (now out)) ⌝ }
-    ensures { λ _. ⌜ now (out .exit) ≡ paste (now (out .entry)) at (map (rowOf (now (products .entry))) (now (targets .entry))) (length (now (targets .entry))) ⌝ }
+    ensures { λ _. ⌜ now (out .exit) ≡ paste (now (out .entry)) at (map (rowOf (now (products .entry))) (now (targets .entry)))
+        (length (now (targets .entry))) ⌝ }
 {
     let mut i = 0;
     while i < targets.len() {

@@ -2,7 +2,10 @@
 --   formulaOutput n m xs ys row k a b == what the row gives at the bits a and b; the products are the pairs of xs and ys, the first numbered k
 --   firstWrong ..                     == the first output, from t on, whose row does not give the target
 --   adders xs ys rows                 == the adders of a formula
---   check ..                          == the reply: refused by a number, or the first wrong output (none: right) and the adders
+--   Admitted                          == a formula that is not refused: kind and sizes, n and m, its products and its rows
+--   admit ..                          == refused by a number, 2 to 8, or the admitted formula
+--   verdict f                         == of an admitted formula: the first wrong output (none: right) and the adders
+--   check ..                          == the reply on numbers: a formula is admitted, then judged
 -- Document 01: "A formula has k products, each a pair of masks, and one row per target. It may repeat a product. The reply is right, or wrong
 -- with the first output that differs for some input."
 -- The theorem that ties it to every choice of input bits is in `meaning`. Assumes nothing.
@@ -13,12 +16,11 @@ use Prim.Native.Nat.{ℕ, suc, _+_}
 use lib.ListN.{length}
 use lib.Dec.{eqb, ltb}
 use Rattle.linear.specs.Bit.{bit, xorB}
-use Rattle.kinds.specs.Kinds.{kindNumbered}
+use Rattle.kinds.specs.Kinds.{kindNumbered, knownMap}
 use Rattle.kinds.specs.Sizes.{sizes}
-use Rattle.kinds.specs.Refusal.{Answer, accepted, need, refuse}
+use Rattle.kinds.specs.Refusal.{Answer, accepted, need, refuse, follow}
 use Rattle.words.specs.Masks.{wide, zeroIn}
 use Rattle.kinds.specs.declared.Kind.{Kind}
-use Rattle.kinds.specs.declared.Kind.the-variants as kind
 use Rattle.forms.specs.Row.{rowForm}
 use Rattle.formula_check.specs.sums.Sums.{productForms, addersOf}
 use Rattle.maps.specs.Textbook.{sumTo}
@@ -43,33 +45,50 @@ abbrev pub adders : (xs ys rows : List ℕ) → ℕ
 adders xs ys rows = addersOf xs + addersOf ys + addersOf rows
 
 -- ---- the reply
--- a kind that has formulae: known, and not list
-abbrev pub mapKind : Kind → Option Kind
-mapKind kind.Poly = some kind.Poly
-mapKind kind.Short = some kind.Short
-mapKind kind.Circ = some kind.Circ
-mapKind kind.Mat = some kind.Mat
-mapKind kind.List = none
+-- the masks of the products' first factors, of their second factors, and the rows
+abbrev pub Lists : Type 0
+Lists = List ℕ × List ℕ × List ℕ
 
-abbrev pub knownMap : Option Kind → Option Kind
-knownMap none = none
-knownMap (some kd) = mapKind kd
+pub record Admitted : Type 0 where
+  pub kind : Kind
+  pub p : ℕ
+  pub q : ℕ
+  pub r : ℕ
+  pub n : ℕ
+  pub m : ℕ
+  pub firsts : List ℕ
+  pub seconds : List ℕ
+  pub rows : List ℕ
+
+abbrev pub formulaOf : Kind → (p q r n m : ℕ) → (xs ys rows : List ℕ) → Admitted
+formulaOf kd p q r n m xs ys rows = record { kind = kd; p = p; q = q; r = r; n = n; m = m; firsts = xs; seconds = ys; rows = rows }
+
+-- 6 to 8, of a formula with k products whose lists have the right lengths
+unfoldable pub passed : Kind → (p q r n m k : ℕ) → (xs ys rows : List ℕ) → Answer Admitted
+passed kd p q r n m k xs ys rows =
+    refuse 6 (wide n xs || (wide m ys || wide k rows))
+    (refuse 7 (zeroIn xs || zeroIn ys)
+    (refuse 8 (ltb mostProducts k)
+    (accepted (formulaOf kd p q r n m xs ys rows))))
+
+-- 2 to 8, of a formula from numbers or from a file: `lists u`, its lists if they are those of k products and u rows
+unfoldable pub admit : Option Kind → (p q r k : ℕ) → (ℕ → Option Lists) → Answer Admitted
+admit named p q r k lists =
+    need 2 (knownMap named) λ kd.
+    need 3 (sizes kd p q r) λ z.
+    need 5 (lists (z .2)) λ l.
+    passed kd p q r (z .0) (z .1) k (l .0) (l .1) (l .2)
 
 -- refusal 5, "in calls on numbers, a list handed in has the wrong length"
 unfoldable pub lengths : (k u : ℕ) (xs ys rows : List ℕ) → Bool
 lengths k u xs ys rows = not (eqb (length xs) k) || (not (eqb (length ys) k) || not (eqb (length rows) u))
 
--- a formula whose kind and sizes fit: 5 to 8, then the verdict
-unfoldable pub judged : Kind → (p q r n m u k : ℕ) → (xs ys rows : List ℕ) → Answer (Option ℕ × ℕ)
-judged kd p q r n m u k xs ys rows =
-    refuse 5 (lengths k u xs ys rows)
-    (refuse 6 (wide n xs || (wide m ys || wide k rows))
-    (refuse 7 (zeroIn xs || zeroIn ys)
-    (refuse 8 (ltb mostProducts k)
-    (accepted (firstWrong kd p q r n m (productForms n m xs ys) rows 0, adders xs ys rows)))))
+abbrev pub listsHanded : (k : ℕ) (xs ys rows : List ℕ) → ℕ → Option Lists
+listsHanded k xs ys rows u = cond (lengths k u xs ys rows) none (some (xs, ys, rows))
+
+abbrev pub verdict : Admitted → Option ℕ × ℕ
+verdict f =
+    (firstWrong (f .kind) (f .p) (f .q) (f .r) (f .n) (f .m) (productForms (f .n) (f .m) (f .firsts) (f .seconds)) (f .rows) 0, adders (f .firsts) (f .seconds) (f .rows))
 
 unfoldable pub check : (number p q r k : ℕ) (xs ys rows : List ℕ) → Answer (Option ℕ × ℕ)
-check number p q r k xs ys rows =
-    need 2 (knownMap (kindNumbered number)) λ kd.
-    need 3 (sizes kd p q r) λ z.
-    judged kd p q r (z .0) (z .1) (z .2) k xs ys rows
+check number p q r k xs ys rows = follow (admit (kindNumbered number) p q r k (listsHanded k xs ys rows)) λ f. accepted (verdict f)

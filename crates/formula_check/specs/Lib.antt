@@ -1,5 +1,6 @@
 -- Formulae: what Check says.
 pub mod Formula
+pub mod Refusals
 pub mod Replies
 pub mod laws
 pub mod sums

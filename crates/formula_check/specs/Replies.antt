@@ -2,7 +2,6 @@
 --   seenReply ..  == the reply that the code's answer stands for
 --   Judging ..    == rows for the outputs of a map with accepted sizes, and at most 64 forms
 --   Fitting ..    == as many masks on one side as on the other, at most 64, and such rows
---   Matching ..   == the same with any number of masks
 -- Assumes nothing.
 use mathlib.Core.Path.{_≡_}
 use mathlib.Core.List.{List}
@@ -25,10 +24,7 @@ pub record Judging (kd : Kind) (p q r n m : ℕ) (fs rows : List ℕ) : Type 0 w
   pub sized : sizes kd p q r ≡ some (n, m, length rows)
   pub few : length fs ≤ mostProducts
 
-pub record Matching (kd : Kind) (p q r n m : ℕ) (xs ys rows : List ℕ) : Type 0 where
+pub record Fitting (kd : Kind) (p q r n m : ℕ) (xs ys rows : List ℕ) : Type 0 where
   pub sized : sizes kd p q r ≡ some (n, m, length rows)
   pub paired : length xs ≡ length ys
-
-pub record Fitting (kd : Kind) (p q r n m : ℕ) (xs ys rows : List ℕ) : Type 0 where
-  pub matching : Matching kd p q r n m xs ys rows
   pub few : length xs ≤ mostProducts

@@ -1,3 +1,4 @@
 -- The laws behind Check.
 pub mod Loops
+pub mod Admitted
 pub mod Judging

@@ -1,14 +1,16 @@
-// Check on numbers: refusals 2, 3 and 5 to 8 of a formula, then its verdict and its adders.
+// Check on numbers: a formula is admitted (refusals 2, 3 and 5 to 8), then judged: its verdict and its adders.
 // sums       the parts of a formula: the forms of its products, the sum that a row names, adders
 // verdicts   what Check finds: right, or the first wrong output
 // meaning    (specs) what the reply means, for every choice of input bits
 // Reading a formula's file: `formula_files`. The reply as text: `check_text`.
 ghost use mathlib.Core.Path.{_≡_};
+ghost use mathlib.Core.Bool.{_||_};
 ghost use lib.ListN.{length};
-ghost use Rattle.kinds.specs.Kinds.{kindNumbered, seenKind};
-ghost use Rattle.formula_check.specs.Formula.{knownMap, firstWrong, judged, check};
+ghost use Rattle.formula_check.specs.Formula.{firstWrong, formulaOf, verdict, check};
+ghost use Rattle.formula_check.specs.Refusals.{refusalOf};
+ghost use Rattle.words.specs.Masks.{wide, zeroIn};
 ghost use Rattle.formula_check.specs.sums.Sums.{productForms};
-ghost use Rattle.formula_check.specs.Replies.{seenReply, Judging, Fitting, Matching};
+ghost use Rattle.formula_check.specs.Replies.{seenReply, Judging, Fitting};
 ghost use Rattle.formula_check.specs.verdicts.Verdicts.{seenVerdict};
 use kinds::Kind;
 use kinds::Known;
@@ -17,22 +19,6 @@ use verdicts::Verdict;
 
 pub mod sums;
 pub mod verdicts;
-
-// The kind with that number, if it has formulae: list has none.
-fn map_kind(number: u64) -> Known
-    ensures { λ r. ⌜ knownMap (kindNumbered number) ≡ seenKind r ⌝ }
-{
-    let Known::Is(kind) = kinds::kind_numbered(number) else {
-        return Known::No;
-    };
-    match kind {
-        Kind::List => Known::No,
-        Kind::Poly => Known::Is(Kind::Poly),
-        Kind::Short => Known::Is(Kind::Short),
-        Kind::Circ => Known::Is(Kind::Circ),
-        Kind::Mat => Known::Is(Kind::Mat),
-    }
-}
 
 // Looks at each row of a map with n and m variables, whose products have the forms handed in.
 fn first_wrong(
@@ -79,14 +65,14 @@ fn verdict_on(
     first_wrong(kind, p, q, r, n, m, &products[..k], rows)
 }
 
-// What Check replies: a refusal's number, or the verdict and the adders.
-pub enum Reply {
-    Refused(u64),
-    Judged(Verdict, u64),
+// What is found of an admitted formula: the verdict and the adders.
+pub struct Judgement {
+    pub verdict: Verdict,
+    pub adders: u64,
 }
 
-// Refusals 6 to 8, then the verdict, of a formula with k products whose lists have the right lengths.
-fn judge(
+// The verdict on an admitted formula, and its adders.
+pub fn judge(
     kind: Kind,
     p: u64,
     q: u64,
@@ -96,31 +82,57 @@ fn judge(
     a: &[u64],
     b: &[u64],
     rows: &[u64],
-) -> Reply
-    requires { ⌜ Matching kind p q r n m (now a) (now b) (now rows) ⌝ }
-    ensures { λ x. ⌜ judged kind p q r n m (length (now (rows .entry))) (length (now (a .entry))) (now (a .entry)) (now (b .entry)) (now (rows .entry)) ≡ seenReply x ⌝ }
+) -> Judgement
+    requires { ⌜ Fitting kind p q r n m (now a) (now b) (now rows) ⌝ }
+    ensures { λ x. ⌜ verdict (formulaOf kind p q r n m (now (a .entry)) (now (b .entry)) (now (rows .entry))) ≡ (seenVerdict (x .verdict), x .adders) ⌝ }
 {
-    let k = a.len();
+    let adders = sums::adders_of(a) + sums::adders_of(b) + sums::adders_of(rows);
+    Judgement {
+        verdict: verdict_on(kind, p, q, r, n, m, a, b, rows),
+        adders: adders,
+    }
+}
+
+// Whether a mask of a product, or a row, has a bit outside its width.
+fn too_wide(n: u64, m: u64, a: &[u64], b: &[u64], rows: &[u64]) -> bool
+    ensures { λ t. ⌜ t ≡ (wide n (now (a .entry)) || (wide m (now (b .entry)) || wide (length (now (a .entry))) (now (rows .entry)))) ⌝ }
+{
     if words::any_wide(a, n) {
-        return Reply::Refused(6);
+        return true;
     }
     if words::any_wide(b, m) {
-        return Reply::Refused(6);
+        return true;
     }
-    if words::any_wide(rows, k as u64) {
-        return Reply::Refused(6);
-    }
+    words::any_wide(rows, a.len() as u64)
+}
+
+// Whether a factor is zero.
+fn zero_factor(a: &[u64], b: &[u64]) -> bool
+    ensures { λ t. ⌜ t ≡ (zeroIn (now (a .entry)) || zeroIn (now (b .entry))) ⌝ }
+{
     if words::any_zero(a) {
-        return Reply::Refused(7);
+        return true;
     }
-    if words::any_zero(b) {
-        return Reply::Refused(7);
+    words::any_zero(b)
+}
+
+// The refusal of a formula with k products whose lists have the right lengths, 6 to 8, or 0: whether a mask or row is too wide, whether a factor is zero.
+pub fn refusal(wide: bool, zero: bool, k: usize) -> u64
+    ensures { λ e. ⌜ e ≡ refusalOf wide zero k ⌝ }
+{
+    if wide {
+        return 6;
     }
-    if kinds::PRODUCTS < k {
-        return Reply::Refused(8);
+    if zero {
+        return 7;
     }
-    let adders = sums::adders_of(a) + sums::adders_of(b) + sums::adders_of(rows);
-    Reply::Judged(verdict_on(kind, p, q, r, n, m, a, b, rows), adders)
+    if kinds::PRODUCTS < k { 8 } else { 0 }
+}
+
+// What Check replies: a refusal's number, or the verdict and the adders.
+pub enum Reply {
+    Refused(u64),
+    Judged(Verdict, u64),
 }
 
 // Check of a formula on numbers and slices: the kind by its number, its sizes, k products by their masks, and a row for each output.
@@ -136,7 +148,7 @@ pub fn check(
 ) -> Reply
     ensures { λ x. ⌜ check number p q r k (now (a .entry)) (now (b .entry)) (now (rows .entry)) ≡ seenReply x ⌝ }
 {
-    let Known::Is(kind) = map_kind(number) else {
+    let Known::Is(kind) = kinds::known_map(kinds::kind_numbered(number)) else {
         return Reply::Refused(2);
     };
     let Sized::Are(n, m, u) = kinds::sizes_of(kind, p, q, r) else {
@@ -151,5 +163,11 @@ pub fn check(
     if rows.len() as u64 != u {
         return Reply::Refused(5);
     }
-    judge(kind, p, q, r, n, m, a, b, rows)
+    let e = refusal(too_wide(n, m, a, b, rows), zero_factor(a, b), a.len());
+    if e != 0 {
+        return Reply::Refused(e);
+    }
+    let said = judge(kind, p, q, r, n, m, a, b, rows);
+    let verdict = said.verdict;
+    Reply::Judged(verdict, said.adders)
 }

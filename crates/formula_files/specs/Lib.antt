@@ -1,5 +1,5 @@
 -- The file of a formula, read.
-pub mod Outcome
+pub mod FormulaFile
 pub mod Lent
 pub mod Sound
 pub mod AcceptedSound

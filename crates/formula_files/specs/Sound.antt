@@ -1,36 +1,31 @@
 -- A formula that is not refused.
---   Sound kind p q r k xs ys zs == k products with the factors xs and ys, and the rows zs, of a map of the kind that has these sizes:
---     a kind that is not list, sizes that fit, as many factors as products and as many rows as outputs, at most 64 products, factors
---     within n and m bits and not zero, rows within k bits
---   BufferRoom k t la lb lr == the lent buffers take k products and t rows
+--   Sound f             == a kind that is not list, sizes that fit, as many second factors as first ones and as many rows as outputs, at most 64 products,
+--                          factors within n and m bits and not zero, rows within as many bits as there are products
+--   BufferRoom f la lb lr == the lent buffers take its products and rows
 -- Assumes nothing.
 use Prim.Native.Nat.{ℕ, _≤_}
 use mathlib.Core.Path.{_≡_}
-use mathlib.Core.List.{List}
 use mathlib.Core.Bool.{false}
 use mathlib.Core.Option.{some}
 use lib.ListN.{length}
-use Rattle.kinds.specs.declared.Kind.{Kind}
+use Rattle.kinds.specs.Kinds.{isList}
+use Rattle.kinds.specs.Limits.{mostProducts}
 use Rattle.kinds.specs.Sizes.{sizes}
 use Rattle.words.specs.Masks.{wide, zeroIn}
-use Rattle.formula_files.specs.Outcome.{isList}
-use Rattle.kinds.specs.Limits.{mostProducts}
+use Rattle.formula_check.specs.Formula.{Admitted}
 
-pub record Sound (kind : Kind) (p q r k : ℕ) (xs ys zs : List ℕ) : Type 0 where
-  pub not-list : isList kind ≡ false
-  pub n : ℕ
-  pub m : ℕ
-  pub fits : sizes kind p q r ≡ some (n, m, length zs)
-  pub firsts : length xs ≡ k
-  pub seconds : length ys ≡ k
-  pub few : k ≤ mostProducts
-  pub narrow-firsts : wide n xs ≡ false
-  pub narrow-seconds : wide m ys ≡ false
-  pub narrow-rows : wide k zs ≡ false
-  pub nonzero-firsts : zeroIn xs ≡ false
-  pub nonzero-seconds : zeroIn ys ≡ false
+pub record Sound (f : Admitted) : Type 0 where
+  pub not-list : isList (f .kind) ≡ false
+  pub fits : sizes (f .kind) (f .p) (f .q) (f .r) ≡ some (f .n, f .m, length (f .rows))
+  pub paired : length (f .firsts) ≡ length (f .seconds)
+  pub few : length (f .firsts) ≤ mostProducts
+  pub narrow-firsts : wide (f .n) (f .firsts) ≡ false
+  pub narrow-seconds : wide (f .m) (f .seconds) ≡ false
+  pub narrow-rows : wide (length (f .firsts)) (f .rows) ≡ false
+  pub nonzero-firsts : zeroIn (f .firsts) ≡ false
+  pub nonzero-seconds : zeroIn (f .seconds) ≡ false
 
-pub record BufferRoom (k t la lb lr : ℕ) : Type 0 where
-  pub for-firsts : k ≤ la
-  pub for-seconds : k ≤ lb
-  pub for-rows : t ≤ lr
+pub record BufferRoom (f : Admitted) (la lb lr : ℕ) : Type 0 where
+  pub for-firsts : length (f .firsts) ≤ la
+  pub for-seconds : length (f .seconds) ≤ lb
+  pub for-rows : length (f .rows) ≤ lr

@@ -1,10 +1,10 @@
-// Reading a formula's file into lent buffers: the outcome for every byte string.
+// Reading a formula's file into lent buffers: what it gives for every byte string.
 // lines      the lines under the first two: products and rows
 // refusals   refusals 6 to 9 of a formula that is read
 // The first two lines: `text::heads`. Check of what was read: `formula_check`.
 ghost use mathlib.Core.Path.{_≡_};
 ghost use lib.ListN.{length};
-ghost use Rattle.formula_files.specs.Outcome.{isList, outcome};
+ghost use Rattle.formula_files.specs.FormulaFile.{formulaFile};
 ghost use Rattle.formula_files.specs.Lent.{formulaReply, firstOf, secondOf, rowsLent, Left, Under};
 use kinds::Kind;
 use kinds::Known;
@@ -14,19 +14,6 @@ use text::heads::HeadRead;
 
 pub mod lines;
 pub mod refusals;
-
-// Whether the kind is a list.
-pub fn is_list(kind: Kind) -> bool
-    ensures { λ r. ⌜ r ≡ isList kind ⌝ }
-{
-    match kind {
-        Kind::Poly => false,
-        Kind::Short => false,
-        Kind::Circ => false,
-        Kind::Mat => false,
-        Kind::List => true,
-    }
-}
 
 // Reads the lines of a formula under the first two: the refusal, 5 to 9, or 0, and the buffers are filled.
 fn read_under(
@@ -55,17 +42,16 @@ pub enum Read {
 
 // The reply; where it is a formula, the buffers are filled.
 fn read_whole(s: &[u8], a: &mut [u64], b: &mut [u64], d: &mut [u64]) -> Read
-    ensures { λ x. ⌜ (x ≡ formulaReply (outcome (now (s .entry)) (length (now (a .entry))) (length (now (b .entry))) (length (now (d .entry))))) × Left (outcome (now (s .entry)) (length (now (a .entry))) (length (now (b .entry))) (length (now (d .entry)))) (now (a .entry)) (now (b .entry)) (now (d .entry)) (now (a .exit)) (now (b .exit)) (now (d .exit)) ⌝ }
+    ensures { λ x. ⌜ (x ≡ formulaReply (formulaFile (now (s .entry)) (length (now (a .entry))) (length (now (b .entry))) (length (now (d .entry)))))
+        × Left (formulaFile (now (s .entry)) (length (now (a .entry))) (length (now (b .entry))) (length (now (d .entry)))) (now (a .entry))
+        (now (b .entry)) (now (d .entry)) (now (a .exit)) (now (b .exit)) (now (d .exit)) ⌝ }
 {
     let HeadRead::Is(known, p, q, r, k, used) = text::heads::head_lines(s) else {
         return Read::Refused(1);
     };
-    let Known::Is(kind) = known else {
+    let Known::Is(kind) = kinds::known_map(known) else {
         return Read::Refused(2);
     };
-    if is_list(kind) {
-        return Read::Refused(2);
-    }
     let Sized::Are(n, m, t) = kinds::sizes_of(kind, p, q, r) else {
         return Read::Refused(3);
     };
@@ -88,10 +74,13 @@ fn read_whole(s: &[u8], a: &mut [u64], b: &mut [u64], d: &mut [u64]) -> Read
 // Reads a formula's file: the first refusal that applies, and all three buffers 0; or the formula, with its factors and rows from the
 // buffers' start.
 pub fn read_formula(s: &[u8], a: &mut [u64], b: &mut [u64], rows: &mut [u64]) -> Read
-    ensures { λ x. ⌜ (x ≡ formulaReply (outcome (now (s .entry)) (length (now (a .entry))) (length (now (b .entry))) (length (now (rows .entry)))))
-        × (now (a .exit) ≡ firstOf (outcome (now (s .entry)) (length (now (a .entry))) (length (now (b .entry))) (length (now (rows .entry)))) (now (a .entry)))
-        × (now (b .exit) ≡ secondOf (outcome (now (s .entry)) (length (now (a .entry))) (length (now (b .entry))) (length (now (rows .entry)))) (now (b .entry)))
-        × (now (rows .exit) ≡ rowsLent (outcome (now (s .entry)) (length (now (a .entry))) (length (now (b .entry))) (length (now (rows .entry)))) (now (rows .entry))) ⌝ }
+    ensures { λ x. ⌜ (x ≡ formulaReply (formulaFile (now (s .entry)) (length (now (a .entry))) (length (now (b .entry))) (length (now (rows .entry)))))
+        × (now (a .exit) ≡ firstOf (formulaFile (now (s .entry)) (length (now (a .entry))) (length (now (b .entry))) (length (now (rows .entry))))
+        (now (a .entry)))
+        × (now (b .exit) ≡ secondOf (formulaFile (now (s .entry)) (length (now (a .entry))) (length (now (b .entry))) (length (now (rows .entry))))
+        (now (b .entry)))
+        × (now (rows .exit) ≡ rowsLent (formulaFile (now (s .entry)) (length (now (a .entry))) (length (now (b .entry))) (length (now (rows .entry))))
+        (now (rows .entry))) ⌝ }
 {
     let got = read_whole(s, a, b, rows);
     match got {

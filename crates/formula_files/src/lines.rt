@@ -36,7 +36,8 @@ pub enum Products {
 
 // k product lines at the front of s, written to a and b as far as these reach.
 fn read_products(s: &[u8], k: usize, n: usize, m: usize, a: &mut [u64], b: &mut [u64]) -> Products
-    ensures { λ r. ⌜ (productsFrom n m k (now (s .entry)) 0 (now (a .entry)) (now (b .entry)) false false ≡ seenProducts (now (s .entry)) (now (a .exit)) (now (b .exit)) r) × (bytesProducts r ≤ length (now (s .entry))) ⌝ }
+    ensures { λ r. ⌜ (productsFrom n m k (now (s .entry)) 0 (now (a .entry)) (now (b .entry)) false false
+        ≡ seenProducts (now (s .entry)) (now (a .exit)) (now (b .exit)) r) × (bytesProducts r ≤ length (now (s .entry))) ⌝ }
 {
     let mut i: usize = 0;
     let mut at: usize = 0;
@@ -58,7 +59,8 @@ fn read_products(s: &[u8], k: usize, n: usize, m: usize, a: &mut [u64], b: &mut 
 
 // The line of the products' names and the k product lines, at the front of s.
 fn products_part(s: &[u8], k: usize, n: usize, m: usize, a: &mut [u64], b: &mut [u64]) -> Products
-    ensures { λ r. ⌜ (productsPart n m k (now (s .entry)) (now (a .entry)) (now (b .entry)) ≡ seenProducts (now (s .entry)) (now (a .exit)) (now (b .exit)) r) × (bytesProducts r ≤ length (now (s .entry))) ⌝ }
+    ensures { λ r. ⌜ (productsPart n m k (now (s .entry)) (now (a .entry)) (now (b .entry))
+        ≡ seenProducts (now (s .entry)) (now (a .exit)) (now (b .exit)) r) × (bytesProducts r ≤ length (now (s .entry))) ⌝ }
 {
     let Used::Is(used) = text::name_line(s, b"a,b") else {
         return Products::No;
@@ -77,7 +79,8 @@ pub enum Rows {
 
 // t rows of k bits at the front of s, written to d as far as it reaches.
 fn read_rows(s: &[u8], t: usize, k: usize, d: &mut [u64]) -> Rows
-    ensures { λ r. ⌜ (rowsFrom k t (now (s .entry)) 0 (now (d .entry)) false ≡ seenRows (now (s .entry)) (now (d .exit)) r) × (bytesRows r ≤ length (now (s .entry))) ⌝ }
+    ensures { λ r. ⌜ (rowsFrom k t (now (s .entry)) 0 (now (d .entry)) false ≡ seenRows (now (s .entry)) (now (d .exit)) r)
+        × (bytesRows r ≤ length (now (s .entry))) ⌝ }
 {
     let mut i: usize = 0;
     let mut at: usize = 0;
@@ -143,7 +146,8 @@ pub fn read_body(
     b: &mut [u64],
     d: &mut [u64],
 ) -> BodyRead
-    ensures { λ r. ⌜ bodyRun n m k t (now (s .entry)) (now (a .entry)) (now (b .entry)) (now (d .entry)) ≡ seenBody (now (a .exit)) (now (b .exit)) (now (d .exit)) r ⌝ }
+    ensures { λ r. ⌜ bodyRun n m k t (now (s .entry)) (now (a .entry)) (now (b .entry)) (now (d .entry))
+        ≡ seenBody (now (a .exit)) (now (b .exit)) (now (d .exit)) r ⌝ }
 {
     let Products::Are(used, w, zero) = products_part(s, k, n, m, a, b) else {
         return BodyRead::No;

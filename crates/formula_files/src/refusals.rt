@@ -23,14 +23,9 @@ fn too_short(k: usize, t: usize, la: usize, lb: usize, lr: usize) -> bool
 pub fn refusal(wide: bool, zero: bool, k: usize, t: usize, la: usize, lb: usize, lr: usize) -> u64
     ensures { λ e. ⌜ e ≡ number wide zero (ltb mostProducts k) (ltb la k || (ltb lb k || ltb lr t)) ⌝ }
 {
-    if wide {
-        return 6;
-    }
-    if zero {
-        return 7;
-    }
-    if kinds::PRODUCTS < k {
-        return 8;
+    let e = formula_check::refusal(wide, zero, k);
+    if e != 0 {
+        return e;
     }
     if too_short(k, t, la, lb, lr) { 9 } else { 0 }
 }

@@ -4,11 +4,12 @@
 --   entriesPart L i n == of n entries from i on
 --   formulaeProgram s == all that is printed: the first lines (`firstPart`, first_part), then the entries
 -- What Formulae prints is decided (docs/DECISIONS.md). The program writes it in parts (first_part, entry_parts); that these are all: `Theorems`. Assumes nothing.
-use Prim.Native.Nat.{ℕ, zero, suc, _+_, _-_, _*_}
+use Prim.Native.Nat.{ℕ, zero, suc, _-_}
 use mathlib.Core.List.{List, [], _++_}
-use lib.ListN.{take, drop}
+use lib.ListN.{drop}
 use Rattle.kinds.specs.Kinds.{numberOf}
 use Rattle.kinds.specs.Refusal.{accepted, follow}
+use Rattle.records.specs.lookup.Lookup.{lookup}
 use Rattle.printing.specs.refusals.Pages.{answerText}
 use Rattle.formulae_text.specs.FormulaAnswers.{entryFormulae}
 use Rattle.formulae_program.specs.first_part.Listed.{PlanListed, listedInput, firstPart}
@@ -17,8 +18,8 @@ use Rattle.formulae_program.specs.first_part.Listed.{PlanListed, listedI
 abbrev pub rowsAt : PlanListed → ℕ → List ℕ
 rowsAt L i =
     let k = L .problem .k in
-    let d = k - L .said .ell in
-    take k (drop (i * (d + k) + d) (L .said .buffer))
+    let c = L .said in
+    drop (k - c .ell) (lookup (c .ell) k (c .shown) i (c .buffer))
 
 abbrev pub entryPart : PlanListed → ℕ → List ℕ
 entryPart L i =

@@ -3,6 +3,5 @@ pub mod FormulaeProgram
 pub mod Theorems
 pub mod Worked
 pub mod laws
-pub mod plan
 pub mod first_part
 pub mod entry_parts

@@ -17,6 +17,7 @@ use Rattle.problems.specs.Problem.{listed, posed}
 use Rattle.catalogue.specs.listing.Listing.{records, flat, fitting}
 use Rattle.bases.specs.rows.Rows.{rowOf}
 use Rattle.first_formula.specs.Choice.{formulaRecord}
+use Rattle.records.specs.lookup.Lookup.{lookup}
 use Rattle.catalogue.specs.Catalogue.{entryListing, catalogue}
 use Rattle.text.specs.Line.{cut, field, nameLine}
 use Rattle.text.specs.Numeral.{digits, numeral}
@@ -33,10 +34,10 @@ use Rattle.problem_files.specs.ProblemFile.{formsRead, problemFile}
 use Rattle.space_formulae.specs.spaces.Spaces as spaces
 use Rattle.space_formulae.specs.spaces.Spaces.{isEntry, formulaeOf}
 use Rattle.problem_files.specs.list_lines.Roles.{roleLine, roleLines, listBody}
-use Rattle.problem_files.specs.inputs.Inputs.{inputOf}
+use Rattle.problem_files.specs.inputs.Inputs.{inputFile}
 use Rattle.formulae_text.specs.lines.FormulaLines.{formulaText, formulaeText}
 use Rattle.formulae_text.specs.FormulaAnswers.{entryFormulae}
-use Rattle.formulae_program.specs.first_part.Listed.{listedInput, formulaeHead}
+use Rattle.formulae_program.specs.first_part.Listed.{listedFile, formulaeHead}
 use Rattle.formulae_program.specs.FormulaeProgram.{entriesPart, formulaeProgram}
 
 pub worked-formulae : formulaeProgram ((107 ∷ 105 ∷ 110 ∷ 100 ∷ 44 ∷ 112 ∷ 44 ∷ 113 ∷ 44 ∷ 114 ∷ 44 ∷ 107 ∷ 10 ∷ [])
@@ -52,5 +53,5 @@ unfolding bit digitsOf top clear reduce norm place insert inserts basisOf dim ri
     chosen generatorsIn fits space entries formulae rowOf formulaRecord kindNumbered within listSizes wide zeroIn repeats listed posed records flat
     fitting entryListing catalogue numeralText sizesText spacedText innerText listsText entryText recordLines countsText formulaText cut field nameLine digits
     numeral countFields headLine headLines ended roleLine roleLines listBody listLines settled problemJudged formsRead problemFile isEntry spaces.formulaeListing
-    formulaeOf formulaeText entryFormulae inputOf listedInput formulaeHead entriesPart formulaeProgram
+    formulaeOf formulaeText entryFormulae inputFile listedFile lookup formulaeHead entriesPart formulaeProgram
 worked-formulae = refl

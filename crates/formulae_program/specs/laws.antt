@@ -1,2 +1,3 @@
 -- The laws behind it.
 pub mod Shown
+pub mod Lines

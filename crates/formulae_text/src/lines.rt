@@ -9,7 +9,8 @@ ghost use Rattle.formulae_text.specs.lines.FormulaLines.{formulaText, fo
 // The line of formula i of an entry, from place `at` on, as far as there is room; the place after it.
 fn put_formula(entry: u64, i: u64, xs: &[u64], ys: &[u64], out: &mut [u8], at: usize) -> usize
     requires { ⌜ Short (now xs) (now ys) at 2000000000 ⌝ }
-    ensures { λ e. ⌜ Piece (now (out .entry)) at (formulaText entry i (now (xs .entry)) (now (ys .entry))) (21 * length (now (xs .entry)) + 21 * length (now (ys .entry)) + 46) (now (out .exit)) e ⌝ }
+    ensures { λ e. ⌜ Piece (now (out .entry)) at (formulaText entry i (now (xs .entry)) (now (ys .entry)))
+        (21 * length (now (xs .entry)) + 21 * length (now (ys .entry)) + 46) (now (out .exit)) e ⌝ }
 {
     let a = printing::record_lines::put_lead(entry, out, at);
     printing::record_lines::put_entry(i, xs, ys, out, a)
@@ -68,7 +69,8 @@ pub fn formulae_text(
     out: &mut [u8],
 ) -> usize
     requires { ⌜ Records (now listing) k t n 0 ⌝ }
-    ensures { λ e. ⌜ Piece (now (out .entry)) 0 (formulaeText entry k t n whole (now (listing .entry))) (21 * (n * (k + t)) + 46 * n + 30) (now (out .exit)) e ⌝ }
+    ensures { λ e. ⌜ Piece (now (out .entry)) 0 (formulaeText entry k t n whole (now (listing .entry))) (21 * (n * (k + t)) + 46 * n + 30)
+        (now (out .exit)) e ⌝ }
 {
     let a = put_formulae(entry, listing, k, t, n, out, 0);
     put_left(entry, whole, out, a)

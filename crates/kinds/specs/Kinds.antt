@@ -1,9 +1,11 @@
 -- The kinds of bilinear map, each with its number and its name.
---   kindEntry      == the one table: kind, number, name
+--   kindEntry      == the one table: kind, number, name, and whether it is the list of forms or a map
 --   numberOf k     == the number by which a caller names the kind
 --   nameOf k       == the bytes that name it in a file
 --   kindNumbered x == the kind with the number x; each kind is the one with its number (kind-numbered)
 --   kindNamed s    == the kind that the bytes s name
+--   isList k       == whether it is the list
+--   knownMap o     == the kind, if it is known and not the list
 -- Document 01: poly, short, circ, mat, list. Assumes nothing.
 use mathlib.Core.Path.{_≡_, refl}
 use mathlib.Core.Bool.{Bool, true, false, _&&_, cond}
@@ -19,20 +21,24 @@ use Rattle.kinds.specs.declared.Known.the-variants as found
 pub record Entry : Type 0 where
   pub number : ℕ
   pub name : List ℕ
+  pub list : Bool
 
 -- a byte string is a list of numbers below 256: `p` is 112, and so on
 abbrev pub kindEntry : Kind → Entry
-kindEntry kind.Poly = record { number = 0; name = 112 ∷ 111 ∷ 108 ∷ 121 ∷ [] }
-kindEntry kind.Short = record { number = 1; name = 115 ∷ 104 ∷ 111 ∷ 114 ∷ 116 ∷ [] }
-kindEntry kind.Circ = record { number = 2; name = 99 ∷ 105 ∷ 114 ∷ 99 ∷ [] }
-kindEntry kind.Mat = record { number = 3; name = 109 ∷ 97 ∷ 116 ∷ [] }
-kindEntry kind.List = record { number = 4; name = 108 ∷ 105 ∷ 115 ∷ 116 ∷ [] }
+kindEntry kind.Poly = record { number = 0; name = 112 ∷ 111 ∷ 108 ∷ 121 ∷ []; list = false }
+kindEntry kind.Short = record { number = 1; name = 115 ∷ 104 ∷ 111 ∷ 114 ∷ 116 ∷ []; list = false }
+kindEntry kind.Circ = record { number = 2; name = 99 ∷ 105 ∷ 114 ∷ 99 ∷ []; list = false }
+kindEntry kind.Mat = record { number = 3; name = 109 ∷ 97 ∷ 116 ∷ []; list = false }
+kindEntry kind.List = record { number = 4; name = 108 ∷ 105 ∷ 115 ∷ 116 ∷ []; list = true }
 
 abbrev pub numberOf : Kind → ℕ
 numberOf k = kindEntry k .number
 
 abbrev pub nameOf : Kind → List ℕ
 nameOf k = kindEntry k .name
+
+abbrev pub isList : Kind → Bool
+isList k = kindEntry k .list
 
 abbrev pub kinds : List Kind
 kinds = kind.Poly ∷ kind.Short ∷ kind.Circ ∷ kind.Mat ∷ kind.List ∷ []
@@ -62,6 +68,11 @@ same (x ∷ s) (y ∷ t) = eqb x y && same s t
 
 abbrev pub kindNamed : List ℕ → Option Kind
 kindNamed s = firstKind (λ k. same (nameOf k) s) kinds
+
+-- a kind that has formulae. Refusal 2: "The kind .. is unknown, or is list where a formula is sent."
+abbrev pub knownMap : Option Kind → Option Kind
+knownMap none = none
+knownMap (some k) = cond (isList k) none (some k)
 
 -- the answer of the code
 abbrev pub seenKind : Known → Option Kind

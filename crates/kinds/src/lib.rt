@@ -2,7 +2,7 @@
 // specs/ also has the list of refusals.
 // Names of kinds in files: `text::heads` reads them, `printing` prints them. The map itself: `maps`.
 ghost use mathlib.Core.Path.{_≡_};
-ghost use Rattle.kinds.specs.Kinds.{numberOf, kindNumbered, seenKind};
+ghost use Rattle.kinds.specs.Kinds.{numberOf, kindNumbered, isList, knownMap, seenKind};
 ghost use Rattle.kinds.specs.Sizes.{within, polySizes, squareSizes, matSizes, listSizes, sizes, seenSizes};
 
 // The most coordinates of a form, targets of a map or list, products of a formula, and generators of a menu (specs/Limits.antt).
@@ -52,6 +52,33 @@ pub fn kind_numbered(number: u64) -> Known
         3 => Known::Is(Kind::Mat),
         4 => Known::Is(Kind::List),
         _ => Known::No,
+    }
+}
+
+// Whether the kind is the list: its forms are handed in, and it has no formulae.
+pub fn is_list(kind: Kind) -> bool
+    ensures { λ r. ⌜ r ≡ isList kind ⌝ }
+{
+    match kind {
+        Kind::Poly => false,
+        Kind::Short => false,
+        Kind::Circ => false,
+        Kind::Mat => false,
+        Kind::List => true,
+    }
+}
+
+// The kind, if it is known and has formulae; `No` is refusal 2 of a formula.
+pub fn known_map(known: Known) -> Known
+    ensures { λ r. ⌜ knownMap (seenKind known) ≡ seenKind r ⌝ }
+{
+    let Known::Is(kind) = known else {
+        return Known::No;
+    };
+    if is_list(kind) {
+        Known::No
+    } else {
+        Known::Is(kind)
     }
 }
 

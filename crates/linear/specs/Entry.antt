@@ -5,6 +5,7 @@
 --   generatorsIn B    == the generators in the span of B
 --   space es          == the space (as its reduced basis) that the targets and the generators numbered es span
 --   Solution k B      == B is the reduced basis of a solution space for k: document 01's entry
+--   SolutionSpace k X == the vectors X, whatever they are, span a solution space for k
 --   fits k B          == the test for one: k rows, and the generators inside span k dimensions
 --   entries k         == the entries for k, each by its extension, in the order of document 01
 -- The theorems are in `Theorems`. Assumes nothing.
@@ -15,7 +16,8 @@ use Prim.Native.Nat.{ℕ, _-_}
 use lib.ListN.{length, getD}
 use lib.Dec.{eqb}
 use Rattle.linear.specs.Space.{Field, Space}
-use Rattle.linear.specs.Span.{Span}
+use Rattle.linear.specs.Span.{Span, Within}
+use Rattle.linear.specs.Rank.{Chosen, Computes}
 use Rattle.linear.specs.Basis.{reduce, inserts, basisOf, Reduced, dim}
 use Rattle.linear.specs.Order.{risingLists}
 use Rattle.linear.specs.Select.{only, firstOfEach}
@@ -58,6 +60,12 @@ module _ (S : Space) where
       pub size : length B ≡ k
       pub holds : (t : Vec) → List·Memᴰ t targets → Span S B t
       pub spanned : (v : Vec) → Span S B v → Span S (generatorsIn gens B) v
+
+    -- The same of a space that any list of vectors spans: "its dimension is k, it contains T, and the menu forms inside it span it".
+    pub record SolutionSpace (k : ℕ) (X : List Vec) : Type 0 where
+      pub size : dim S X ≡ k
+      pub holds : Computes S targets X
+      pub spanned : (v : Vec) → Span S X v → (xs : List Vec) × Chosen S gens xs × Within S xs X × Span S xs v
 
     unfoldable pub space : List ℕ → List Vec
     space es = inserts S (basisOf S targets) (chosen gens es)

@@ -1,7 +1,8 @@
 -- The theorems, for any field and any width, to be read from top to bottom. The definitions are in Space, Span, Basis, Order, Entry and Rank; the proofs in laws/.
 --   membership, insertion-*, basis, one-basis, dimension     bases: reduction decides membership, insertion is right, a space has one reduced basis and one dimension
 --   rising-all, rising-in-order, rising-number               rising lists of numbers: all of them, in dictionary order, not too many
---   entry-solves, solution-listed, spaces-once, entries-in-order, extension-first, extension-greedy, entries-few   the catalogue: none missing, none twice
+--   entry-solves, solution-listed, spaces-once, space-once, entry-space, entries-in-order, extension-shape, extension-first, extension-greedy, entries-few
+--                                                            the catalogue: none missing, none twice
 --   no-fewer, computed-exactly, least-is-rank                what the catalogue says of the fewest products
 --   formulae-exactly                                         the formulae of a space
 --   rank-formula, rank-exactly, rank-above, rank-beyond      what Rank says: never one product too many, and when it says no number
@@ -17,7 +18,7 @@ use Rattle.linear.specs.Span.{Span, SameSpan, Independent}
 use Rattle.linear.specs.Basis.{reduce, insert, basisOf, Reduced, dim}
 use Rattle.linear.specs.Order.{Before, Rising, risingLists, Ordered, factorial}
 use Rattle.linear.specs.Select.{Once}
-use Rattle.linear.specs.Entry.{Solution, space, entries}
+use Rattle.linear.specs.Entry.{Solution, SolutionSpace, space, entries}
 use Rattle.linear.specs.Rank.{Chosen, Computes, Rank}
 use Rattle.linear.specs.Formulae.{formula, above, beyond, formulae, fewest, Formula, RankFormula}
 use Rattle.linear.specs.laws.Reduce.{member}
@@ -26,9 +27,10 @@ use Rattle.linear.specs.laws.Dimension as dimensions
 use Rattle.linear.specs.laws.Independent as independence
 use Rattle.linear.specs.laws.Order.{rising-sound, rising-complete, rising-ordered}
 use Rattle.linear.specs.laws.Count.{rising-count, entries-count}
-use Rattle.linear.specs.laws.Entry.{entries-sound, entries-once, entries-ordered}
+use Rattle.linear.specs.laws.Entry.{entries-sound, entries-shape, entries-once, entries-ordered}
 use Rattle.linear.specs.Extension.{extension}
 use Rattle.linear.specs.laws.Extension.{entries-complete, entries-first, entries-greedy}
+use Rattle.linear.specs.laws.Spaces.{space-of-solution, space-listed}
 use Rattle.linear.specs.laws.Rank.{solution-from, chosen-from, no-entry, rank-is}
 use Rattle.linear.specs.laws.Formulae.{formulae-are}
 use Rattle.linear.specs.laws.Fewest as rank
@@ -97,11 +99,25 @@ module _ (S : Space) (gens targets : List (S .Vec)) where
   pub spaces-once : (k : ℕ) → Once (space S gens targets) (entries S gens targets k)
   spaces-once = entries-once S gens targets
 
+  -- The same of a space that is given by any list of vectors: exactly one entry spans it,
+  pub space-once : (k : ℕ) (X : List Vec) → SolutionSpace S gens targets k X
+      → (es : List ℕ) × List·Memᴰ es (entries S gens targets k) × SameSpan S (space S gens targets es) X
+      × ((fs : List ℕ) → List·Memᴰ fs (entries S gens targets k) → SameSpan S (space S gens targets fs) X → fs ≡ es)
+  space-once k = space-listed S gens targets k
+
+  -- and the space of every entry is one.
+  pub entry-space : (k : ℕ) (es : List ℕ) → List·Memᴰ es (entries S gens targets k) → SolutionSpace S gens targets k (space S gens targets es)
+  entry-space k es m = space-of-solution S gens targets k (space S gens targets es) (entries-sound S gens targets k es m)
+
   -- Entries stand in dictionary order of their extensions,
   pub entries-in-order : (k : ℕ) → Ordered Before (entries S gens targets k)
   entries-in-order = entries-ordered S gens targets
 
-  -- and an extension is the first of all sets of k − ℓ generator numbers that with the targets span its space: it is the greedy one.
+  -- an extension is k − ℓ generator numbers, ascending,
+  pub extension-shape : (k : ℕ) (es : List ℕ) → List·Memᴰ es (entries S gens targets k) → (length es ≡ k - dim S targets) × Rising 0 (length gens) es
+  extension-shape = entries-shape S gens targets
+
+  -- and the first of all such that with the targets span its space: it is the greedy one.
   pub extension-first : (k : ℕ) (es fs : List ℕ) → List·Memᴰ es (entries S gens targets k) → length fs ≡ k - dim S targets → Rising 0 (length gens) fs
       → space S gens targets fs ≡ space S gens targets es → (es ≡ fs) ⊎ Before es fs
   extension-first = entries-first S gens targets

@@ -19,6 +19,7 @@ pub mod Share
 pub mod Heavy
 pub mod Spread
 pub mod Rank
+pub mod Spaces
 pub mod Formulae
 pub mod Fewest
 pub mod Finite

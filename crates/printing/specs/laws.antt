@@ -1,2 +1,3 @@
 -- What the code's proofs cite.
 pub mod Print
+pub mod Digits

@@ -1,6 +1,7 @@
 // Bytes printed from a place of a lent buffer on: bytes, numbers in a base, names of kinds.
 // fields         fields of a line, sizes, the line of a refusal; a text handed over whole
 // field_lists    lists of numbers inside a field
+// pages          a text handed over on a lent page
 // refusals       the line of a refusal on a page
 // record_lines   the fields that Catalogue, Rank and Formulae print alike
 // Which text a reply has: `check_text`, `catalogue_text`, `rank_text`, `formulae_text`.
@@ -14,6 +15,7 @@ use kinds::Kind;
 
 pub mod field_lists;
 pub mod fields;
+pub mod pages;
 pub mod record_lines;
 pub mod refusals;
 

@@ -7,7 +7,8 @@ ghost use Rattle.printing.specs.record_lines.RecordLines.{leadText, list
 // Two inner lists, numbers and forms, and the line's end, from place `at` on, as far as there is room; the place after them.
 pub fn put_lists(xs: &[u64], ys: &[u64], out: &mut [u8], at: usize) -> usize
     requires { ⌜ Short (now xs) (now ys) at 4000000000 ⌝ }
-    ensures { λ e. ⌜ Piece (now (out .entry)) at (listsText (now (xs .entry)) (now (ys .entry))) (21 * length (now (xs .entry)) + 21 * length (now (ys .entry)) + 4) (now (out .exit)) e ⌝ }
+    ensures { λ e. ⌜ Piece (now (out .entry)) at (listsText (now (xs .entry)) (now (ys .entry))) (21 * length (now (xs .entry)) + 21 * length
+        (now (ys .entry)) + 4) (now (out .exit)) e ⌝ }
 {
     let a = super::field_lists::put_inner(xs, 10, 20, out, at);
     super::put_byte(out, a, 44);
@@ -28,7 +29,8 @@ pub fn put_lead(n: u64, out: &mut [u8], at: usize) -> usize
 // The line of entry i, likewise.
 pub fn put_entry(i: u64, xs: &[u64], ys: &[u64], out: &mut [u8], at: usize) -> usize
     requires { ⌜ Short (now xs) (now ys) at 3000000000 ⌝ }
-    ensures { λ e. ⌜ Piece (now (out .entry)) at (entryText i (now (xs .entry)) (now (ys .entry))) (21 * length (now (xs .entry)) + 21 * length (now (ys .entry)) + 25) (now (out .exit)) e ⌝ }
+    ensures { λ e. ⌜ Piece (now (out .entry)) at (entryText i (now (xs .entry)) (now (ys .entry))) (21 * length (now (xs .entry)) + 21 * length
+        (now (ys .entry)) + 25) (now (out .exit)) e ⌝ }
 {
     let a = put_lead(i, out, at);
     put_lists(xs, ys, out, a)

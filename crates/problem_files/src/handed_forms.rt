@@ -13,7 +13,7 @@ use maps::Count;
 pub fn handed(kind: Kind, c: u64) -> u64
     ensures { λ r. ⌜ r ≡ handed kind c ⌝ }
 {
-    if formula_files::is_list(kind) { c } else { 0 }
+    if kinds::is_list(kind) { c } else { 0 }
 }
 
 // The lines of a list: refusal 4 or 5, or 0 and the forms from the start of g and t.
@@ -57,7 +57,7 @@ pub fn read_lines(
     requires { ⌜ FormRoom kind r (now g) (now t) ⌝ }
     ensures { λ e. ⌜ bodyOf kind q r n m (now (s .entry)) ≡ refusedBy e (take (handed kind q) (now (g .exit)), take (handed kind r) (now (t .exit))) ⌝ }
 {
-    if formula_files::is_list(kind) {
+    if kinds::is_list(kind) {
         return list_lines(q, r, s, g, t);
     }
     map_lines(n, m, s)

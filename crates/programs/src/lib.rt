@@ -7,7 +7,10 @@ ghost use lib.ListN.{length, take};
 ghost use Rattle.problem_files.specs.judging.Judged.{problemOf};
 ghost use Rattle.programs.specs.Programs.{replyTo, problemProgram, catalogueProgram, rankProgram};
 ghost use Rattle.printing.specs.refusals.Pages.{replyPage};
+ghost use Rattle.printing.specs.fields.Written.{writtenIn};
+ghost use Rattle.printing.specs.pages.Printed.{pageAnswer, seenPrinted};
 use kinds::Kind;
+use printing::pages::Printed;
 use problem_files::judging::ProblemRead;
 use problem_files::judging::Purpose;
 
@@ -32,7 +35,7 @@ fn reply(
     }
 }
 
-// What is printed of an input, likewise.
+// What is printed of an input, from the start of a page that takes every reply; its length.
 fn problem_program(purpose: Purpose, file: &[u8], page: &mut [u8]) -> usize
     requires { ⌜ length (now page) ≡ replyPage ⌝ }
     ensures { λ e. ⌜ (take e (now (page .exit)) ≡ problemProgram purpose (now (file .entry))) × (e ≤ replyPage) ⌝ }
@@ -49,18 +52,32 @@ fn problem_program(purpose: Purpose, file: &[u8], page: &mut [u8]) -> usize
     }
 }
 
-// What the Catalogue program prints of an input, from the start of a page; its length.
-pub fn catalogue_program(file: &[u8], page: &mut [u8]) -> usize
-    requires { ⌜ length (now page) ≡ replyPage ⌝ }
-    ensures { λ e. ⌜ (take e (now (page .exit)) ≡ catalogueProgram (now (file .entry))) × (e ≤ replyPage) ⌝ }
+// What is printed of an input goes to a lent page, the rest of which stays as it was; a page that is too short is refused by 9. 196,608 bytes
+// are always enough.
+fn print_program(purpose: Purpose, file: &[u8], page: &mut [u8]) -> Printed
+    ensures { λ x. ⌜ (pageAnswer (problemProgram purpose (now (file .entry))) (now (page .entry)) ≡ seenPrinted x)
+        × (now (page .exit) ≡ writtenIn (problemProgram purpose (now (file .entry))) (now (page .entry)))
+        × (length (problemProgram purpose (now (file .entry))) ≤ replyPage) ⌝ }
 {
-    problem_program(Purpose::Catalogue, file, page)
+    let mut whole = printing::pages::reply_page();
+    let n = problem_program(purpose, file, &mut whole);
+    printing::pages::print_page(&whole[..n], page)
 }
 
-// What the Rank program prints of an input, likewise.
-pub fn rank_program(file: &[u8], page: &mut [u8]) -> usize
-    requires { ⌜ length (now page) ≡ replyPage ⌝ }
-    ensures { λ e. ⌜ (take e (now (page .exit)) ≡ rankProgram (now (file .entry))) × (e ≤ replyPage) ⌝ }
+// What the Catalogue program prints of an input goes to a lent page, likewise.
+pub fn catalogue_program(file: &[u8], page: &mut [u8]) -> Printed
+    ensures { λ x. ⌜ (pageAnswer (catalogueProgram (now (file .entry))) (now (page .entry)) ≡ seenPrinted x)
+        × (now (page .exit) ≡ writtenIn (catalogueProgram (now (file .entry))) (now (page .entry)))
+        × (length (catalogueProgram (now (file .entry))) ≤ replyPage) ⌝ }
 {
-    problem_program(Purpose::Rank, file, page)
+    print_program(Purpose::Catalogue, file, page)
+}
+
+// What the Rank program prints of an input goes to a lent page, likewise.
+pub fn rank_program(file: &[u8], page: &mut [u8]) -> Printed
+    ensures { λ x. ⌜ (pageAnswer (rankProgram (now (file .entry))) (now (page .entry)) ≡ seenPrinted x)
+        × (now (page .exit) ≡ writtenIn (rankProgram (now (file .entry))) (now (page .entry)))
+        × (length (rankProgram (now (file .entry))) ≤ replyPage) ⌝ }
+{
+    print_program(Purpose::Rank, file, page)
 }

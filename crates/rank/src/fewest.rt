@@ -39,7 +39,8 @@ fn least_entry(gens: &[u64], targets: &[u64], ell: usize, room: &mut [u64]) -> L
 // The first formula of the entry with the rows `w`, if there is room for it.
 fn finish(gens: &[u64], targets: &[u64], w: &[u64], out: &mut [u64]) -> Ranked
     requires { ⌜ Finishing (now gens) (now targets) (now w) ⌝ }
-    ensures { λ r. ⌜ (ranking (now (gens .entry)) (now (targets .entry)) (now (out .entry)) ≡ seenRanked r (now (out .exit))) × (now (out .exit) ≡ lentRanking (ranking (now (gens .entry)) (now (targets .entry)) (now (out .entry))) (now (out .entry))) ⌝ }
+    ensures { λ r. ⌜ (ranking (now (gens .entry)) (now (targets .entry)) (now (out .entry)) ≡ seenRanked r (now (out .exit)))
+        × (now (out .exit) ≡ lentRanking (ranking (now (gens .entry)) (now (targets .entry)) (now (out .entry))) (now (out .entry))) ⌝ }
 {
     let c = first_formula::first_formula(gens, w);
     let n = c.len;
@@ -53,7 +54,8 @@ fn finish(gens: &[u64], targets: &[u64], w: &[u64], out: &mut [u64]) -> Ranked
 // The fewest generators that compute the targets, with the formula in `out`.
 pub fn rank_of(gens: &[u64], targets: &[u64], out: &mut [u64]) -> Ranked
     requires { ⌜ length (now gens) ≤ mostGenerators ⌝ }
-    ensures { λ r. ⌜ (ranking (now (gens .entry)) (now (targets .entry)) (now (out .entry)) ≡ seenRanked r (now (out .exit))) × (now (out .exit) ≡ lentRanking (ranking (now (gens .entry)) (now (targets .entry)) (now (out .entry))) (now (out .entry))) ⌝ }
+    ensures { λ r. ⌜ (ranking (now (gens .entry)) (now (targets .entry)) (now (out .entry)) ≡ seenRanked r (now (out .exit)))
+        × (now (out .exit) ≡ lentRanking (ranking (now (gens .entry)) (now (targets .entry)) (now (out .entry))) (now (out .entry))) ⌝ }
 {
     let all = bases::basis_of(gens);
     if bases::spans::misses(all, targets) {

@@ -21,7 +21,8 @@ pub fn rank(
     ts: &[u64],
     out: &mut [u64],
 ) -> Ranked
-    ensures { λ x. ⌜ (rank number p q r k (now (gs .entry)) (now (ts .entry)) (now (out .entry)) ≡ seenRanked x (now (out .exit))) × (now (out .exit) ≡ lentRanking (rank number p q r k (now (gs .entry)) (now (ts .entry)) (now (out .entry))) (now (out .entry))) ⌝ }
+    ensures { λ x. ⌜ (rank number p q r k (now (gs .entry)) (now (ts .entry)) (now (out .entry)) ≡ seenRanked x (now (out .exit)))
+        × (now (out .exit) ≡ lentRanking (rank number p q r k (now (gs .entry)) (now (ts .entry)) (now (out .entry))) (now (out .entry))) ⌝ }
 {
     let mut g = [0u64; kinds::GENERATORS];
     let mut t = [0u64; kinds::TARGETS];

@@ -33,7 +33,8 @@ fn put_formula(
     page: &mut [u8],
 ) -> usize
     requires { ⌜ (length (now formula) ≡ programWords) × (n + t ≤ programWords) ⌝ }
-    ensures { λ e. ⌜ Piece (now (page .entry)) 0 (rankText kind p q r k ell (take n (now (formula .entry))) (take t (drop n (now (formula .entry))))) 86188 (now (page .exit)) e ⌝ }
+    ensures { λ e. ⌜ Piece (now (page .entry)) 0 (rankText kind p q r k ell (take n (now (formula .entry))) (take t (drop n (now (formula .entry))))) 86188
+        (now (page .exit)) e ⌝ }
 {
     report::rank_text(
         kind,

@@ -48,7 +48,8 @@ pub fn rank_text(
     out: &mut [u8],
 ) -> usize
     requires { ⌜ Short (now products) (now rows) 0 0 ⌝ }
-    ensures { λ e. ⌜ Piece (now (out .entry)) 0 (rankText kind p q r k ell (now (products .entry)) (now (rows .entry))) (21 * length (now (products .entry)) + 21 * length (now (rows .entry)) + 172) (now (out .exit)) e ⌝ }
+    ensures { λ e. ⌜ Piece (now (out .entry)) 0 (rankText kind p q r k ell (now (products .entry)) (now (rows .entry)))
+        (21 * length (now (products .entry)) + 21 * length (now (rows .entry)) + 172) (now (out .exit)) e ⌝ }
 {
     let a = put_rank_head(kind, p, q, r, k, ell, out);
     let b = printing::fields::put_field(products.len() as u64, out, a);

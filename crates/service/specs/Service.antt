@@ -10,22 +10,15 @@ use mathlib.Core.Option.{Option, none, some}
 use Prim.Native.Nat.{ℕ}
 use lib.ListN.{length}
 use lib.Dec.{ltb}
-use Rattle.kinds.specs.Kinds.{numberOf}
-use Rattle.kinds.specs.Refusal.{Answer, refused, accepted}
+use Rattle.kinds.specs.Refusal.{Answer, refused, accepted, follow}
 use Rattle.words.specs.Buffers.{filled}
-use Rattle.formula_files.specs.Outcome.{Outcome, outcome}
-use Rattle.formula_files.specs.Outcome as file
-use Rattle.formula_check.specs.Formula.{check}
-use Rattle.check_text.specs.CheckAnswers.{replyText}
+use Rattle.formula_files.specs.FormulaFile.{formulaFile}
+use Rattle.check_text.specs.CheckAnswers.{admittedText}
 use Rattle.kinds.specs.Limits.{mostProducts, mostTargets}
 
--- the file is read, and the formula that it holds is checked
-abbrev pub checkRead : Outcome → Answer (List ℕ)
-checkRead (file.refused e) = refused e
-checkRead (file.formula kd p q r k xs ys zs) = replyText kd p q r k (check (numberOf kd) p q r k xs ys zs)
-
+-- the file is read, and the formula that it holds is judged
 unfoldable pub checkFile : List ℕ → Answer (List ℕ)
-checkFile s = checkRead (outcome s mostProducts mostProducts mostTargets)
+checkFile s = follow (formulaFile s mostProducts mostProducts mostTargets) λ f. accepted (admittedText f)
 
 -- ---- gijpsando_check_numbers, with the lent words d: verdict (0 right, 1 wrong), output, adders
 abbrev pub verdictWords : Option ℕ → ℕ → List ℕ

@@ -18,7 +18,8 @@ pub mod check_program;
 // is as it was. Too short an out is refused by 9.
 #[no_mangle]
 pub extern "C" fn gijpsando_check(file: &[u8], out: &mut [u8]) -> usize
-    ensures { λ x. ⌜ (x ≡ replyOf (checkFile (now (file .entry))) (now (out .entry))) × (now (out .exit) ≡ bytesOf (checkFile (now (file .entry))) (now (out .entry))) ⌝ }
+    ensures { λ x. ⌜ (x ≡ replyOf (checkFile (now (file .entry))) (now (out .entry)))
+        × (now (out .exit) ≡ bytesOf (checkFile (now (file .entry))) (now (out .entry))) ⌝ }
 {
     let mut a = [0u64; kinds::PRODUCTS];
     let mut b = [0u64; kinds::PRODUCTS];

@@ -26,7 +26,8 @@ pub fn spread(
     out: &mut [u64],
 ) -> Tally
     requires { ⌜ Branch (now gens) (now w) missing b c t limit (now out) ⌝ }
-    ensures { λ r. ⌜ stateOf r (now (out .exit)) ≡ run limit (stateOf t (now (out .entry))) (formulaeFrom (now (gens .entry)) (now (w .entry)) (now (targets .entry)) (rowsOf b) (numbersOf c) (length (now (gens .entry)) - start) start missing) ⌝ }
+    ensures { λ r. ⌜ stateOf r (now (out .exit)) ≡ run limit (stateOf t (now (out .entry))) (formulaeFrom (now (gens .entry)) (now (w .entry))
+        (now (targets .entry)) (rowsOf b) (numbersOf c) (length (now (gens .entry)) - start) start missing) ⌝ }
 {
     if missing == 0 {
         return super::formula_records::keep(c, targets, t, limit, out);

@@ -41,7 +41,9 @@ pub fn formulae(
     rows: &[u64],
     out: &mut [u64],
 ) -> Listed
-    ensures { λ x. ⌜ (formulaeOf number p q r (now (gs .entry)) (now (ts .entry)) (now (rows .entry)) (now (out .entry)) ≡ seenFormulae x (now (out .exit))) × (now (out .exit) ≡ lentFormulae (formulaeOf number p q r (now (gs .entry)) (now (ts .entry)) (now (rows .entry)) (now (out .entry))) (now (out .entry))) ⌝ }
+    ensures { λ x. ⌜ (formulaeOf number p q r (now (gs .entry)) (now (ts .entry)) (now (rows .entry)) (now (out .entry)) ≡ seenFormulae x (now (out .exit)))
+        × (now (out .exit) ≡ lentFormulae (formulaeOf number p q r (now (gs .entry)) (now (ts .entry)) (now (rows .entry)) (now (out .entry)))
+        (now (out .entry))) ⌝ }
 {
     let mut g = [0u64; kinds::GENERATORS];
     let mut t = [0u64; kinds::TARGETS];

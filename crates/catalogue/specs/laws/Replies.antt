@@ -13,13 +13,14 @@ use Rattle.linear.specs.Basis.{dim}
 use Rattle.linear.specs.Entry.{entries}
 use Rattle.linear.specs.Word.{word}
 use Rattle.catalogue.specs.declared.listing.Listing.{Listing}
-use Rattle.catalogue.specs.listing.Listing.{records, recordLength, flat, fitting, Listed}
+use Rattle.catalogue.specs.listing.Listing.{records, flat, fitting, Listed}
 use Rattle.catalogue.specs.listing.laws.Listing.{found-all}
 use Rattle.catalogue.specs.declared.Catalogued.the-variants as reply
 use Rattle.catalogue.specs.Catalogue.{Catalogued, entryListing, lentCatalogue}
 use Rattle.kinds.specs.Limits.{mostGenerators}
 use Rattle.words.specs.Buffers.{largestWord}
 use Rattle.catalogue.specs.Replies.{catalogueJudged, CatalogueGiven}
+use Rattle.records.specs.Length.{recordLength}
 
 -- ---- Catalogue of a problem that is made
 module _ (gens targets : List ℕ) (k : ℕ) (old : List ℕ) where
@@ -37,7 +38,7 @@ module _ (gens targets : List ℕ) (k : ℕ) (old : List ℕ) where
       all = found-all gens targets k old after l (record { small = s; near = h }) D
 
       size : ℕ
-      size = recordLength targets k
+      size = recordLength (dim word targets) k
 
       shown : l .shown ≡ fitting size (length (entries word gens targets k)) (length old)
       shown = D .shown ∙ ap (λ (c : ℕ). fitting size c (length old)) all

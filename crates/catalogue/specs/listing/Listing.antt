@@ -1,5 +1,4 @@
 -- What a listing of the entries says, and what it writes.
---   recordLength targets k == how many words the record of an entry for k has
 --   records gens targets k == the records of all entries for k, in order
 --   flat rs                == the words of records, one after the other
 --   fitting n c w          == how many records of n words, out of c, fit into w words
@@ -16,15 +15,12 @@ use Rattle.linear.specs.Entry.{entries, space}
 use Rattle.linear.specs.Word.{word}
 use Rattle.catalogue.specs.declared.listing.Listing.{Listing}
 use Rattle.kinds.specs.Limits.{mostGenerators}
+use Rattle.records.specs.Length.{recordLength}
 
 -- Document 01: "Each is recorded as the extension ascending, then the k rows of its reduced basis".
 --   | extension: k − ℓ numbers | basis: k rows |
 unfoldable pub records : List ℕ → List ℕ → ℕ → List (List ℕ)
 records gens targets k = map (λ es. es ++ space word gens targets es) (entries word gens targets k)
-
--- Document 01: "the record's length, here 2k − ℓ".
-abbrev pub recordLength : List ℕ → ℕ → ℕ
-recordLength targets k = (k - dim word targets) + k
 
 unfoldable pub flat : List (List ℕ) → List ℕ
 flat [] = []
@@ -43,5 +39,5 @@ pub record SearchAsked (gens targets : List ℕ) (k : ℕ) : Type 0 where
 pub record Listed (gens targets : List ℕ) (k limit : ℕ) (before after : List ℕ) (r : Listing) : Type 0 where
   pub ell : r .ell ≡ dim word targets
   pub found : r .found ≡ min limit (length (entries word gens targets k))
-  pub shown : r .shown ≡ fitting (recordLength targets k) (r .found) (length before)
-  pub buffer : after ≡ flat (take (r .shown) (records gens targets k)) ++ drop (r .shown * recordLength targets k) before
+  pub shown : r .shown ≡ fitting (recordLength (dim word targets) k) (r .found) (length before)
+  pub buffer : after ≡ flat (take (r .shown) (records gens targets k)) ++ drop (r .shown * recordLength (dim word targets) k) before

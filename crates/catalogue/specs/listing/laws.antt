@@ -1,3 +1,4 @@
 -- The laws of the definitions beside this folder.
 pub mod Run
 pub mod Listing
+pub mod Placed

@@ -25,7 +25,7 @@ use Rattle.linear.specs.Entry.{entries, space, fits, sameBasis}
 use Rattle.linear.specs.Word.{word}
 use Rattle.linear.specs.laws.Dimension.{dim-length}
 use Rattle.linear.specs.laws.Select.{first-length}
-use Rattle.catalogue.specs.listing.Listing.{recordLength, fitting}
+use Rattle.catalogue.specs.listing.Listing.{fitting}
 use Rattle.catalogue.specs.listing.laws.Run.{fitting-in, fitting-le}
 use Rattle.catalogue.specs.Catalogue.{Catalogued, entryListing, catalogue, seenCatalogue}
 use Rattle.catalogue.specs.declared.Catalogued.{Catalogued as Reply}
@@ -39,6 +39,7 @@ use Rattle.printing.specs.record_lines.laws.Lines.{records-held}
 use Rattle.printing.specs.refusals.Pages.{listingRoom, replyPage}
 use Rattle.catalogue_text.specs.CatalogueAnswers.{catalogueAnswer, catalogueReply}
 use Rattle.text.specs.Limits.{programWords}
+use Rattle.records.specs.Length.{recordLength}
 
 -- ---- how much is listed
 -- of no dimension there is one space at most
@@ -64,7 +65,7 @@ listing-fitted x k old w h =
     record { held = (let a = fitting-in size found (length old) in omega arith); few = go size refl; rows = h }
   where
     size : ℕ
-    size = recordLength (x .targets) k
+    size = recordLength (dim word (x .targets)) k
 
     found : ℕ
     found = length (entries word (x .generators) (x .targets) k)

@@ -1,19 +1,16 @@
--- `check_output::write_check`: what is written is within its page. Assumes nothing.
+-- `check_output::write_check`: its reply is never refused. Assumes nothing.
+use mathlib.Core.Path.{sym}
 use borrow.Author.Needs.{needs}
-use mathlib.Core.Path.{sym, _∙_}
-use native.Mathlib.Omega.{arith}
-use lib.Seq.{length-take-le}
+use Rattle.printing.specs.pages.laws.Printed.{never-refused}
 use Rattle.check_output.proofs.write_check.Statement.{statement}
 use Rattle.check_output.proofs.write_check.Tie as tie
 
-slice-aggregate-write-all : tie.Need-slice-aggregate-write-all
-slice-aggregate-write-all c =
+write-printed-requires : tie.Need-write-printed-requires
+write-printed-requires c κs =
     let p = c .before .before .check-program in
-    let l = p .kept .1 .0 ∙ sym (c .before .before .before .before .page .ensures) in
-    sym (length-take-le (p .result) (p .last .1 .0) (omega (arith, l, p .ensures .1)))
+    never-refused _ _ (p .result) _ _ (p .ensures) (sym (c .before .before .before .before .check-page .ensures)) (p .kept .1 .0)
 
 pub write-check-spec : {M : Type 1} → statement M
 write-check-spec =
     tie.close
-    (tie.spec (λ c κs. search needs) (λ c. search needs) (λ c κs. search needs) (λ c. search needs) slice-aggregate-write-all (λ c κs. search needs)
-    (λ c. search needs))
+    (tie.spec (λ c κs. search needs) (λ c. search needs) (λ c κs. search needs) (λ c. search needs) write-printed-requires (λ c. search needs))

@@ -27,7 +27,7 @@ first-wrong-requires c κs =
     let args = c .before .before .before .before .before .before .args in
     let pre = c .before .before .before .before .before .before .pre in
     record {
-      sized = pre .matching .sized;
+      sized = pre .sized;
       few =
           (let w = c .before .product-forms .ensures .whole in let f = pre .few in let e = length-take-le (length (args .a .now)) (c .before .product-forms .last .1 .1 .1 .1 .0) (omega arith) in omega arith);
     }

@@ -1,19 +1,25 @@
--- The steps of a Check, one after the other, in the definition's terms. Assumes nothing.
+-- The steps of a Check, one after the other, in the definition's terms.
+--   unlike-a, unlike-b, unlike-rows   5: a list has the wrong length; alike: none has
+--   passed-not, passed-is             6 to 8, by their number
+--   check-2, check-3, check-5         those refusals; check-passed: what is left
+-- Assumes nothing.
 use mathlib.Core.Path.{_≡_, refl, sym, ap, ap₂, _∙_}
-use mathlib.Core.Bool.{Bool, true, false, not, _||_}
+use mathlib.Core.Bool.{Bool, true, false, not, _||_, cond}
 use mathlib.Core.List.{List}
 use mathlib.Core.Option.{Option, none, some}
-use Prim.Native.Nat.{ℕ}
+use Prim.Native.Nat.{ℕ, _≤_}
+use native.Mathlib.Omega.{arith}
 use lib.ListN.{length}
 use lib.Dec.{eqb, ltb}
-use borrow.Author.Tests.{eq-eqb, ne-eqb}
-use Rattle.kinds.specs.Kinds.{kindNumbered}
+use borrow.Author.Tests.{eq-eqb, ne-eqb, ltb-false}
+use Rattle.kinds.specs.Kinds.{kindNumbered, knownMap}
+use Rattle.kinds.specs.Limits.{mostProducts}
 use Rattle.kinds.specs.Sizes.{sizes}
-use Rattle.kinds.specs.Refusal.{refused, accepted, need, refuse}
+use Rattle.kinds.specs.Refusal.{Answer, refused, accepted, need, refuse, follow}
 use Rattle.words.specs.Masks.{wide, zeroIn}
 use Rattle.kinds.specs.declared.Kind.{Kind}
-use Rattle.formula_check.specs.Formula.{firstWrong, adders, knownMap, lengths, judged, check}
-use Rattle.formula_check.specs.sums.Sums.{productForms}
+use Rattle.formula_check.specs.Formula.{Lists, Admitted, formulaOf, passed, admit, lengths, listsHanded, verdict, check}
+use Rattle.formula_check.specs.Refusals.{refusalOf}
 
 -- ---- 5: the lengths
 or-last : (a b : Bool) → a || (b || true) ≡ true
@@ -25,54 +31,83 @@ or-mid : (a b : Bool) → a || (true || b) ≡ true
 or-mid true b = refl
 or-mid false b = refl
 
-module _ (kd : Kind) (p q r n m u k : ℕ) (xs ys rows : List ℕ) where
-  pub refused-5 : lengths k u xs ys rows ≡ true → judged kd p q r n m u k xs ys rows ≡ refused 5
-  unfolding judged
-  refused-5 e = rw e
-
-  pub unlike-a : (length xs ≡ k → ⊥) → judged kd p q r n m u k xs ys rows ≡ refused 5
+module _ (k u : ℕ) (xs ys rows : List ℕ) where
+  pub unlike-a : (length xs ≡ k → ⊥) → lengths k u xs ys rows ≡ true
   unfolding lengths
-  unlike-a d = refused-5 (ap (λ (b : Bool). not b || (not (eqb (length ys) k) || not (eqb (length rows) u))) (ne-eqb (length xs) k d))
+  unlike-a d = ap (λ (b : Bool). not b || (not (eqb (length ys) k) || not (eqb (length rows) u))) (ne-eqb (length xs) k d)
 
-  pub unlike-b : (length ys ≡ k → ⊥) → judged kd p q r n m u k xs ys rows ≡ refused 5
+  pub unlike-b : (length ys ≡ k → ⊥) → lengths k u xs ys rows ≡ true
   unfolding lengths
   unlike-b d =
-      refused-5
-      (ap (λ (b : Bool). not (eqb (length xs) k) || (not b || not (eqb (length rows) u))) (ne-eqb (length ys) k d) ∙ or-mid (not (eqb (length xs) k)) (not (eqb (length rows) u)))
+      ap (λ (b : Bool). not (eqb (length xs) k) || (not b || not (eqb (length rows) u))) (ne-eqb (length ys) k d)
+      ∙ or-mid (not (eqb (length xs) k)) (not (eqb (length rows) u))
 
-  pub unlike-rows : (length rows ≡ u → ⊥) → judged kd p q r n m u k xs ys rows ≡ refused 5
+  pub unlike-rows : (length rows ≡ u → ⊥) → lengths k u xs ys rows ≡ true
   unfolding lengths
   unlike-rows d =
-      refused-5
-      (ap (λ (b : Bool). not (eqb (length xs) k) || (not (eqb (length ys) k) || not b)) (ne-eqb (length rows) u d) ∙ or-last (not (eqb (length xs) k)) (not (eqb (length ys) k)))
+      ap (λ (b : Bool). not (eqb (length xs) k) || (not (eqb (length ys) k) || not b)) (ne-eqb (length rows) u d)
+      ∙ or-last (not (eqb (length xs) k)) (not (eqb (length ys) k))
 
--- ---- 6 to 8, and the verdict
-module _ (kd : Kind) (p q r n m : ℕ) (xs ys rows : List ℕ) (paired : length xs ≡ length ys) where
-  alike : lengths (length xs) (length rows) xs ys rows ≡ false
+  pub alike : length xs ≡ k → length ys ≡ k → length rows ≡ u → lengths k u xs ys rows ≡ false
   unfolding lengths
-  alike =
-      ap₂ (λ (a b : Bool). not a || b) (eq-eqb (length xs) (length xs) refl)
-      (ap₂ (λ (a b : Bool). not a || not b) (eq-eqb (length ys) (length xs) (sym paired)) (eq-eqb (length rows) (length rows) refl))
+  alike a b c =
+      ap₂ (λ (x y : Bool). not x || y) (eq-eqb (length xs) k a) (ap₂ (λ (x y : Bool). not x || not y) (eq-eqb (length ys) k b) (eq-eqb (length rows) u c))
 
-  pub judged-as : {wa wb wr za zb big : Bool} → wide n xs ≡ wa → wide m ys ≡ wb → wide (length xs) rows ≡ wr → zeroIn xs ≡ za
-      → zeroIn ys ≡ zb → ltb 64 (length xs) ≡ big
-      → judged kd p q r n m (length rows) (length xs) xs ys rows
-      ≡ refuse 6 (wa || (wb || wr)) (refuse 7 (za || zb) (refuse 8 big (accepted (firstWrong kd p q r n m (productForms n m xs ys) rows 0, adders xs ys rows))))
-  unfolding judged
-  judged-as a b c d e f = rw (alike, a, b, c, d, e, f)
+-- ---- 6 to 8
+module _ {A : Type 0} (a : Answer A) where
+  by-not : (w z b : Bool) (e : ℕ) → e ≡ cond w 6 (cond z 7 (cond b 8 0)) → (e ≡ 0 → ⊥) → refuse 6 w (refuse 7 z (refuse 8 b a)) ≡ refused e
+  by-not true z b e h n = ap refused (sym h)
+  by-not false true b e h n = ap refused (sym h)
+  by-not false false true e h n = ap refused (sym h)
+  by-not false false false e h n = absurd (n h)
 
--- ---- 2 and 3
+  by-is : (w z b : Bool) → _≡_ {A = ℕ} (cond w 6 (cond z 7 (cond b 8 0))) 0 → (refuse 6 w (refuse 7 z (refuse 8 b a)) ≡ a) × (b ≡ false)
+  by-is true z b h = absurd (let q : _≡_ {A = ℕ} 6 0 = h in omega arith)
+  by-is false true b h = absurd (let q : _≡_ {A = ℕ} 7 0 = h in omega arith)
+  by-is false false true h = absurd (let q : _≡_ {A = ℕ} 8 0 = h in omega arith)
+  by-is false false false h = (refl, refl)
+
+module _ (kd : Kind) (p q r n m k : ℕ) (xs ys rows : List ℕ) (w z : Bool) (e : ℕ) (W : w ≡ (wide n xs || (wide m ys || wide k rows))) (Z : z ≡ (zeroIn xs || zeroIn ys)) (E : e ≡ refusalOf w z k) where
+  pub passed-not : (e ≡ 0 → ⊥) → passed kd p q r n m k xs ys rows ≡ refused e
+  unfolding passed
+  passed-not h = rw (← W, ← Z) (by-not (accepted (formulaOf kd p q r n m xs ys rows)) w z (ltb mostProducts k) e E h)
+
+  pub passed-is : e ≡ 0 → (passed kd p q r n m k xs ys rows ≡ accepted (formulaOf kd p q r n m xs ys rows)) × (k ≤ mostProducts)
+  unfolding passed
+  passed-is h =
+      let b = by-is (accepted (formulaOf kd p q r n m xs ys rows)) w z (ltb mostProducts k) (sym E ∙ h) in
+      ((rw (← W, ← Z) (b .0)), ltb-false mostProducts k (b .1))
+
+-- ---- the reply
+abbrev pub judgedBy : Admitted → Answer (Option ℕ × ℕ)
+judgedBy f = accepted (verdict f)
+
 module _ (number p q r k : ℕ) (xs ys rows : List ℕ) where
+  abbrev after : Kind → ℕ × ℕ × ℕ → Option Lists → Answer Admitted
+  after kd z o = need 5 o λ l. passed kd p q r (z .0) (z .1) k (l .0) (l .1) (l .2)
+
+  abbrev sized : Kind → Option (ℕ × ℕ × ℕ) → Answer Admitted
+  sized kd o = need 3 o λ z. after kd z (listsHanded k xs ys rows (z .2))
+
   pub check-2 : knownMap (kindNumbered number) ≡ none → check number p q r k xs ys rows ≡ refused 2
-  unfolding check
-  check-2 e = ap (λ (o : Option Kind). need 2 o λ kd. need 3 (sizes kd p q r) λ z. judged kd p q r (z .0) (z .1) (z .2) k xs ys rows) e
+  unfolding check admit
+  check-2 e = ap (λ (o : Option Kind). follow (need 2 o λ kd. sized kd (sizes kd p q r)) judgedBy) e
 
-  pub check-kind : (kd : Kind) → knownMap (kindNumbered number) ≡ some kd → check number p q r k xs ys rows ≡ (need 3 (sizes kd p q r) λ z. judged kd p q r (z .0) (z .1) (z .2) k xs ys rows)
-  unfolding check
-  check-kind kd e = ap (λ (o : Option Kind). need 2 o λ kd. need 3 (sizes kd p q r) λ z. judged kd p q r (z .0) (z .1) (z .2) k xs ys rows) e
+  module _ (kd : Kind) (K : knownMap (kindNumbered number) ≡ some kd) where
+    check-sized : (o : Option (ℕ × ℕ × ℕ)) → sizes kd p q r ≡ o → check number p q r k xs ys rows ≡ follow (sized kd o) judgedBy
+    unfolding check admit
+    check-sized o e =
+        ap (λ (o : Option Kind). follow (need 2 o λ kd. sized kd (sizes kd p q r)) judgedBy) K ∙ ap (λ (o : Option (ℕ × ℕ × ℕ)). follow (sized kd o) judgedBy) e
 
-  pub check-3 : (kd : Kind) → knownMap (kindNumbered number) ≡ some kd → sizes kd p q r ≡ none → check number p q r k xs ys rows ≡ refused 3
-  check-3 kd e s = check-kind kd e ∙ ap (λ (o : Option (ℕ × ℕ × ℕ)). need 3 o λ z. judged kd p q r (z .0) (z .1) (z .2) k xs ys rows) s
+    pub check-3 : sizes kd p q r ≡ none → check number p q r k xs ys rows ≡ refused 3
+    check-3 = check-sized none
 
-  pub check-sized : (kd : Kind) (n m u : ℕ) → knownMap (kindNumbered number) ≡ some kd → sizes kd p q r ≡ some (n, m, u) → check number p q r k xs ys rows ≡ judged kd p q r n m u k xs ys rows
-  check-sized kd n m u e s = check-kind kd e ∙ ap (λ (o : Option (ℕ × ℕ × ℕ)). need 3 o λ z. judged kd p q r (z .0) (z .1) (z .2) k xs ys rows) s
+    module _ (n m u : ℕ) (S : sizes kd p q r ≡ some (n, m, u)) where
+      check-lists : (b : Bool) → lengths k u xs ys rows ≡ b → check number p q r k xs ys rows ≡ follow (after kd (n, m, u) (cond b none (some (xs, ys, rows)))) judgedBy
+      check-lists b e = check-sized (some (n, m, u)) S ∙ ap (λ (b : Bool). follow (after kd (n, m, u) (cond b none (some (xs, ys, rows)))) judgedBy) e
+
+      pub check-5 : lengths k u xs ys rows ≡ true → check number p q r k xs ys rows ≡ refused 5
+      check-5 = check-lists true
+
+      pub check-passed : lengths k u xs ys rows ≡ false → check number p q r k xs ys rows ≡ follow (passed kd p q r n m k xs ys rows) judgedBy
+      check-passed = check-lists false

@@ -2,6 +2,7 @@
 --   gives n m xs ys row a b   == what a row gives at the inputs a and b, whose bits are the a's and the b's
 --   Right ..                  == every output of the formula is the map's, at every input
 --   FirstDiffers .. t         == output t differs at some input, and no earlier one at any
+--   RightFormula f, FormulaDiffers f t == the same of an admitted formula
 --   Means .. v w              == the formula's kind and sizes are accepted, `right` is said exactly if it is Right, `wrong t` exactly if t FirstDiffers
 -- The theorem is `check-means` (Theorems). Document 01: "The reply is right, or wrong with the first output that differs for some input."
 -- Assumes nothing.
@@ -18,7 +19,7 @@ use Rattle.kinds.specs.Sizes.{sizes}
 use Rattle.kinds.specs.declared.Kind.{Kind}
 use Rattle.kinds.specs.declared.Kind.the-variants as kind
 use Rattle.maps.specs.Textbook.{output}
-use Rattle.formula_check.specs.Formula.{formulaOutput, adders}
+use Rattle.formula_check.specs.Formula.{formulaOutput, adders, Admitted}
 
 abbrev pub gives : (n m : ℕ) (xs ys : List ℕ) (row a b : ℕ) → Bool
 gives n m xs ys row a b = formulaOutput n m xs ys row 0 (bit a) (bit b)
@@ -34,6 +35,13 @@ pub record FirstDiffers (kd : Kind) (p q r n m : ℕ) (xs ys rows : List ℕ) (t
   pub there : t < length rows
   pub differs : (a : ℕ) × (b : ℕ) × (a < 2 ^ n) × (b < 2 ^ m) × (gives n m xs ys (getD rows t 0) a b ≢ output kd p q r (bit a) (bit b) t)
   pub first : (s : ℕ) → s < t → Agrees kd p q r n m xs ys rows s
+
+-- the same of an admitted formula
+abbrev pub RightFormula : Admitted → Type 0
+RightFormula f = Right (f .kind) (f .p) (f .q) (f .r) (f .n) (f .m) (f .firsts) (f .seconds) (f .rows)
+
+abbrev pub FormulaDiffers : Admitted → ℕ → Type 0
+FormulaDiffers f t = FirstDiffers (f .kind) (f .p) (f .q) (f .r) (f .n) (f .m) (f .firsts) (f .seconds) (f .rows) t
 
 pub record Means (number p q r k : ℕ) (xs ys rows : List ℕ) (v : Option ℕ) (w : ℕ) : Type 0 where
   pub kd : Kind

@@ -1,15 +1,25 @@
 -- The theorem that a buyer would ask for: what an accepted reply of Check means. What is refused, and by which number, is the definition `check` itself.
 --   check-means   right is replied exactly if, for every a below 2 ^ n and every b below 2 ^ m, each output of the formula is the textbook output;
 --                 wrong t exactly if t is the least output that differs for some a and b; the adders are those of document 01's rule
+--   verdict-means the same of the verdict on an admitted formula, whose kind is a map's and whose sizes fit
 -- Assumes nothing.
 use mathlib.Core.Path.{_≡_}
 use mathlib.Core.List.{List}
-use mathlib.Core.Option.{Option}
+use mathlib.Core.Bool.{false}
+use mathlib.Core.Option.{Option, none, some}
+use mathlib.Core.Logic.{_↔_}
 use Prim.Native.Nat.{ℕ}
 use Rattle.kinds.specs.Refusal.{accepted}
-use Rattle.formula_check.specs.Formula.{check}
-use Rattle.formula_check.specs.meaning.Meaning.{Means}
+use lib.ListN.{length}
+use Rattle.kinds.specs.Kinds.{isList}
+use Rattle.kinds.specs.Sizes.{sizes}
+use Rattle.formula_check.specs.Formula.{Admitted, verdict, check}
+use Rattle.formula_check.specs.meaning.Meaning.{RightFormula, FormulaDiffers, Means}
 use Rattle.formula_check.specs.meaning.laws.Meaning as meaning
+
+pub verdict-means : (f : Admitted) → sizes (f .kind) (f .p) (f .q) (f .r) ≡ some (f .n, f .m, length (f .rows)) → isList (f .kind) ≡ false
+    → ((verdict f .0 ≡ none) ↔ RightFormula f) × ((t : ℕ) → (verdict f .0 ≡ some t) ↔ FormulaDiffers f t)
+verdict-means = meaning.verdict-means
 
 pub check-means : (number p q r k : ℕ) (xs ys rows : List ℕ) (v : Option ℕ) (w : ℕ) → check number p q r k xs ys rows ≡ accepted (v, w) → Means number p q r k xs ys rows v w
 check-means = meaning.check-means

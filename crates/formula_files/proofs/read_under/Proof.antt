@@ -2,7 +2,7 @@
 use mathlib.Core.Path.{ap, _∙_}
 use Rattle.formula_files.specs.lines.Views.{seenBody}
 use Rattle.formula_files.specs.lines.laws.Told.{body-told, body-none}
-use Rattle.formula_files.specs.laws.Outcome.{under-none, under-told}
+use Rattle.formula_files.specs.laws.FormulaFile.{under-none, under-told}
 use Rattle.formula_files.proofs.read_under.Statement.{statement}
 use Rattle.formula_files.proofs.read_under.Tie as tie
 

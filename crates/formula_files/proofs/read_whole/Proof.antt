@@ -1,90 +1,87 @@
 -- `formula_files::read_whole` meets its contract. Assumes nothing.
-use mathlib.Core.Path.{_≡_, ap, sym, _∙_}
+use mathlib.Core.Path.{_≡_, ap, _∙_}
+use mathlib.Core.Option.{some}
 use native.Mathlib.Nat.{le-refl}
 use lib.ListN.{length, drop}
 use Rattle.kinds.specs.Kinds.{seenKind}
+use Rattle.kinds.specs.Refusal.{Answer}
 use Rattle.kinds.specs.Sizes.{seenSizes}
 use Rattle.text.specs.heads.Views.{seenHead}
-use Rattle.formula_files.specs.Outcome.{Outcome, rest, outcome, under}
-use Rattle.formula_files.specs.laws.Outcome.{head-fit, outcome-1, outcome-rest, rest-2, rest-list, rest-3, rest-under, under-at, left-refused, left-under}
+use Rattle.formula_check.specs.Formula.{Admitted}
+use Rattle.formula_files.specs.FormulaFile.{under, rest, formulaFile}
+use Rattle.formula_files.specs.laws.FormulaFile.{head-fit, file-1, file-rest, rest-2, rest-3, rest-under, under-at, left-refused, left-under}
 use Rattle.formula_files.proofs.read_whole.Statement.{statement}
 use Rattle.formula_files.proofs.read_whole.Tie as tie
 
 abbrev start : tie.After-known-told → tie.Start
 start c = c .before .before .before .before .before .before .before .before
 
-abbrev whole : tie.Start → Outcome
-whole c = outcome (c .args .s .now) (length (c .args .a .now)) (length (c .args .b .now)) (length (c .args .d .now))
+abbrev whole : tie.Start → Answer Admitted
+whole c = formulaFile (c .args .s .now) (length (c .args .a .now)) (length (c .args .b .now)) (length (c .args .d .now))
 
--- the outcome, once the first two lines are read
+-- what is read, once the first two lines are
 head : (c : tie.After-known-told) →
     let g = c .before .known .given .0 in
     let args = start c .args in
     whole (start c) ≡ rest (record { kind = seenKind (g .0); p = g .1 .0; q = g .1 .1 .0; r = g .1 .1 .1 .0; k = g .1 .1 .1 .1 .0 })
     (drop (g .1 .1 .1 .1 .1 .0) (args .s .now)) (length (args .a .now)) (length (args .b .now)) (length (args .d .now))
-head c = outcome-rest _ _ _ _ _ _ (c .before .before .before .head-lines .ensures .0 ∙ ap (seenHead (start c .args .s .now)) (c .before .known .given .1))
+head c = file-rest _ _ _ _ _ _ (c .before .before .before .head-lines .ensures .0 ∙ ap (seenHead (start c .args .s .now)) (c .before .known .given .1))
 
 -- and once the sizes are known
 sized : (c : tie.After-known-told3) →
-    let h = c .before .before .before .before .before .before .before .before .before in
+    let h = c .before .before .before .before .before .before .before .before in
     let g = h .before .known .given .0 in
     let o = c .before .n .given .0 in
     let args = start h .args in
-    whole (start h) ≡ under (c .before .before .before .before .before .before .before .known2 .given .0 .0) (g .1 .0) (g .1 .1 .0) (g .1 .1 .1 .0) (g .1 .1 .1 .1 .0) (o .0) (o .1 .0) (o .1 .1 .0)
+    whole (start h) ≡ under (c .before .before .before .before .before .kind .given .0 .0) (g .1 .0) (g .1 .1 .0) (g .1 .1 .1 .0) (g .1 .1 .1 .1 .0) (o .0) (o .1 .0) (o .1 .1 .0)
     (length (args .a .now)) (length (args .b .now)) (length (args .d .now)) (drop (g .1 .1 .1 .1 .1 .0) (args .s .now))
 sized c =
-    let e = c .before .before .before .before in
-    head (c .before .before .before .before .before .before .before .before .before) ∙ rest-under _ _ _ _ _ _ _ _ _ _ _ _ _
-    (ap seenKind (c .before .before .before .before .before .before .before .known2 .given .1))
-    (sym (e .before .is-list .ensures) ∙ e .if1 .left) (c .before .before .before .sizes-of .ensures ∙ ap seenSizes (c .before .n .given .1))
+    let kind = c .before .before .before .before .before .kind in
+    head (c .before .before .before .before .before .before .before .before) ∙ rest-under _ _ _ _ _ _ _ _ _ (kind .given .0 .0)
+    (c .before .before .before .before .before .before .before .known-map .ensures ∙ ap seenKind (kind .given .1)) _ _ _ (c .before .before .before .sizes-of .ensures ∙ ap seenSizes (c .before .n .given .1))
 
 returns : tie.Need-returns
 returns c =
     let s = c .before .before .before .before .before .before .before .args .s .now in
-    left-refused _ _ _ _ _ _ _ _ (outcome-1 _ _ _ _ (c .before .before .head-lines .ensures .0 ∙ ap (seenHead s) (c .enum-told .given .1)))
+    left-refused _ _ _ _ _ _ _ _ (file-1 _ _ _ _ (c .before .before .head-lines .ensures .0 ∙ ap (seenHead s) (c .enum-told .given .1)))
+
+returns-2 : tie.Need-returns-2
+returns-2 c =
+    left-refused _ _ _ _ _ _ _ _ (head (c .before .before .before) ∙ rest-2 _ _ _ _ _ _ _ _ _ (c .before .before .known-map .ensures ∙ ap seenKind (c .enum-told2 .given .1)))
 
 returns-3 : tie.Need-returns-3
 returns-3 c =
-    left-refused _ _ _ _ _ _ _ _ (head (c .before .before .before .before .before) ∙ rest-list _ _ _ _ _ _ _ _ _ _ (ap seenKind (c .before .before .before .known2 .given .1))
-    (sym (c .before .is-list .ensures) ∙ c .if1 .taken))
-
-returns-4 : tie.Need-returns-4
-returns-4 c =
-    let e = c .before .before .before in
-    let k = e .before .before .before in
-    left-refused _ _ _ _ _ _ _ _ (head (k .before .before) ∙ rest-3 _ _ _ _ _ _ _ _ _ _ (ap seenKind (k .known2 .given .1))
-    (sym (e .before .is-list .ensures) ∙ e .if1 .left) (c .before .before .sizes-of .ensures ∙ ap seenSizes (c .enum-told3 .given .1)))
+    let kind = c .before .before .before .before .kind in
+    left-refused _ _ _ _ _ _ _ _ (head (c .before .before .before .before .before .before .before) ∙ rest-3 _ _ _ _ _ _ _ _ _ (kind .given .0 .0)
+    (c .before .before .before .before .before .before .known-map .ensures ∙ ap seenKind (kind .given .1)) (c .before .before .sizes-of .ensures ∙ ap seenSizes (c .enum-told3 .given .1)))
 
 sub-read-under : tie.Need-sub-read-under
 sub-read-under c =
-    let h = c .before .before .before .before .before .before .before .before .before in
+    let h = c .before .before .before .before .before .before .before .before in
     head-fit _ _ _ _ _ _ _ _ (h .before .before .before .head-lines .ensures .1) (h .before .known .given .1)
+
+returns-4 : tie.Need-returns-4
+returns-4 c =
+    let z = c .before .before .before .before .before .before .before .before .before .before .before .before in
+    let h = z .before .before .before .before .before .before .before .before in
+    let lines = under-at _ _ _ _ (start h .args .s .now) (h .before .known .given .0 .1 .1 .1 .1 .1 .0) _ _ _ _ _ _ _ (c .before .before .before .before .before .before .before .read-under .ensures) in
+    left-refused _ _ _ _ _ _ _ _ (sized z ∙ lines .stopped _ _ _ _ (c .if1 .taken))
 
 returns-5 : tie.Need-returns-5
 returns-5 c =
     let z = c .before .before .before .before .before .before .before .before .before .before .before .before in
-    let h = z .before .before .before .before .before .before .before .before .before in
-    let lines = under-at _ _ _ _ (start h .args .s .now) (h .before .known .given .0 .1 .1 .1 .1 .1 .0) _ _ _ _ _ _ _
-    (c .before .before .before .before .before .before .before .read-under .ensures) in
-    left-refused _ _ _ _ _ _ _ _ (sized z ∙ lines .stopped _ _ _ _ (c .if2 .taken))
-
-returns-6 : tie.Need-returns-6
-returns-6 c =
-    let z = c .before .before .before .before .before .before .before .before .before .before .before .before in
-    let h = z .before .before .before .before .before .before .before .before .before in
-    let lines = under-at _ _ _ _ (start h .args .s .now) (h .before .known .given .0 .1 .1 .1 .1 .1 .0) _ _ _ _ _ _ _
-    (c .before .before .before .before .before .before .before .read-under .ensures) in
-    left-under _ _ _ _ _ _ _ _ _ (sized z) (lines .all _ _ _ _ (c .if2 .left))
+    let h = z .before .before .before .before .before .before .before .before in
+    let lines = under-at _ _ _ _ (start h .args .s .now) (h .before .known .given .0 .1 .1 .1 .1 .1 .0) _ _ _ _ _ _ _ (c .before .before .before .before .before .before .before .read-under .ensures) in
+    left-under _ _ _ _ _ _ _ _ _ (sized z) (lines .all _ _ _ _ (c .if1 .left))
 
 pub read-whole-spec : {M : Type 1} → statement M
 read-whole-spec =
     tie.close
-    (tie.spec (λ c κs. tt) (λ c. c .match .keys1) (λ c. c .match .keys2) returns (λ c. c .match2 .keys1) (λ c. c .match2 .keys2)
-    (λ c. left-refused _ _ _ _ _ _ _ _ (head (c .before .before) ∙ rest-2 _ _ _ _ _ _ _ _ _ (ap seenKind (c .enum-told2 .given .1))))
-    (λ c κs. tt) returns-3 (λ c κs. tt) (λ c. c .match3 .keys1) (λ c. c .match3 .keys2) returns-4 sub-read-under sub-read-under (λ c. le-refl _)
+    (tie.spec (λ c κs. tt) (λ c. c .match .keys1) (λ c. c .match .keys2) returns (λ c κs. tt) (λ c. c .match2 .keys1) (λ c. c .match2 .keys2) returns-2
+    (λ c κs. tt) (λ c. c .match3 .keys1) (λ c. c .match3 .keys2) returns-3 sub-read-under sub-read-under (λ c. le-refl _)
     (λ c κs. tt) (λ c. c .before .before .before .before .before .before .before .read-under .kept .1 .1 .1 .1 .1 .0)
     (λ c. c .before .before .before .before .before .before .before .read-under .kept .1 .1 .1 .1 .1 .1 .0)
-    (λ c. c .before .before .before .before .before .before .before .read-under .kept .1 .1 .1 .1 .1 .1 .1 .0) returns-5
+    (λ c. c .before .before .before .before .before .before .before .read-under .kept .1 .1 .1 .1 .1 .1 .1 .0) returns-4
     (λ c. c .before .before .before .before .before .before .before .read-under .kept .1 .1 .1 .1 .1 .0)
     (λ c. c .before .before .before .before .before .before .before .read-under .kept .1 .1 .1 .1 .1 .1 .0)
-    (λ c. c .before .before .before .before .before .before .before .read-under .kept .1 .1 .1 .1 .1 .1 .1 .0) returns-6)
+    (λ c. c .before .before .before .before .before .before .before .read-under .kept .1 .1 .1 .1 .1 .1 .1 .0) returns-5)

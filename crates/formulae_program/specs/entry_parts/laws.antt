@@ -1,2 +1,2 @@
 -- The laws behind it.
-pub mod Records
+pub mod Parts

@@ -1,9 +1,10 @@
 -- A problem with its Catalogue, and what the Formulae program prints of it first.
---   PlanListed      == a problem and its Catalogue
---   listedEntries P == the problem P of a file with its Catalogue, or its refusal
---   listedInput s   == those of the input s, or its refusal
---   formulaeHead .. == Catalogue's first two lines, and the names of a formula's line
---   firstPart L     == those of a problem with its Catalogue
+--   PlanListed             == a problem and its Catalogue
+--   listedEntries old P    == the problem P of a file with its Catalogue, in a listing that holds old, or its refusal
+--   listedFile s u v old   == those of the input s, where buffers of u and v words are lent for a list's forms, or its refusal
+--   listedInput s          == those in a program's buffers
+--   formulaeHead ..        == Catalogue's first two lines, and the names of a formula's line
+--   firstPart L            == those of a problem with its Catalogue
 -- What Formulae prints is decided (docs/DECISIONS.md). Assumes nothing.
 use Prim.Native.Nat.{ℕ}
 use mathlib.Core.List.{List, [], _∷_, _++_}
@@ -15,20 +16,24 @@ use Rattle.problem_files.specs.declared.judging.Purpose.the-variants as purpose
 use Rattle.catalogue.specs.Catalogue.{Catalogued, catalogue}
 use Rattle.catalogue_text.specs.report.CatalogueReports.{countsText}
 use Rattle.printing.specs.refusals.Pages.{listingRoom}
-use Rattle.problem_files.specs.inputs.Inputs.{inputOf}
+use Rattle.problem_files.specs.inputs.Inputs.{inputFile}
+use Rattle.text.specs.Limits.{programWords}
 use Rattle.text.specs.Line.{LF}
 
 pub record PlanListed : Type 0 where
   pub problem : ProblemFile
   pub said : Catalogued
 
-abbrev pub listedEntries : ProblemFile → Answer PlanListed
-listedEntries P =
-    follow (catalogue (numberOf (P .kind)) (P .p) (P .q) (P .r) (P .k) (P .generators) (P .targets) listingRoom) λ c.
+abbrev pub listedEntries : List ℕ → ProblemFile → Answer PlanListed
+listedEntries old P =
+    follow (catalogue (numberOf (P .kind)) (P .p) (P .q) (P .r) (P .k) (P .generators) (P .targets) old) λ c.
     accepted (record { problem = P; said = c })
 
-unfoldable pub listedInput : List ℕ → Answer PlanListed
-listedInput s = follow (inputOf purpose.Catalogue s) listedEntries
+unfoldable pub listedFile : List ℕ → (u v : ℕ) → List ℕ → Answer PlanListed
+listedFile s u v old = follow (inputFile purpose.Catalogue s u v) (listedEntries old)
+
+abbrev pub listedInput : List ℕ → Answer PlanListed
+listedInput s = listedFile s programWords programWords listingRoom
 
 -- `entry,formula,products,rows`
 abbrev pub formulaeNames : List ℕ

@@ -1,108 +1,62 @@
 -- Every entry that is shown has its formulae: the call on its rows is not refused.
---   at-record         the part of a listing that holds the second half of a record
---   listing-entry     the rows at an entry's place are those of a solution space
+--   entry-solution, entry-rows   the rows of an entry, looked up, are those of its space, a solution
 --   rows-below        the rows of a solution space have the generators' width
 --   posed-with        so the problem is accepted with them
---   entry-accepted    and their formulae are listed
+--   entry-shown       and their formulae are listed
 -- Assumes nothing.
 use Prim.Native.Nat.{ℕ, zero, suc, _+_, _-_, _*_, _^_, _<_, _≤_}
 use mathlib.Core.Path.{_≡_, refl, sym, ap, ap₂, _∙_, subst}
 use mathlib.Core.Bool.{Bool, true, false, not, _||_, true≢false}
-use mathlib.Core.List.{List, [], _∷_, _++_, map, append-assoc, List·Memᴰ, List·Memᴰ·head, List·Memᴰ·tail, List·Memᴰ·not-nil}
+use mathlib.Core.List.{List, [], _∷_, List·Memᴰ, List·Memᴰ·head, List·Memᴰ·tail, List·Memᴰ·not-nil}
 use mathlib.Core.Option.{Option}
 use native.Mathlib.Omega.{arith}
-use native.Mathlib.Nat.{suc-mul}
-use lib.ListN.{length, take, drop, length-append}
-use lib.Seq.{take-at, drop-at, drop-append-add}
+use lib.ListN.{length, getD, drop}
+use lib.Seq.{drop-at}
 use lib.Dec.{ltb}
-use borrow.Author.Tests.{lt-ltb, le-ltb, ltb-true, ltb-false}
+use borrow.Author.Tests.{lt-ltb, le-ltb, ltb-true}
 use Rattle.kinds.specs.declared.Kind.{Kind}
 use Rattle.kinds.specs.declared.Kind.the-variants as kind
 use Rattle.kinds.specs.Sizes.{sizes}
 use Rattle.kinds.specs.Refusal.{Answer, accepted, need, refuse, follow}
-use Rattle.kinds.specs.laws.Refusal.{accepted-inj, follow-inv, refuse-inv}
 use Rattle.words.specs.Masks.{wide, zeroIn}
 use Rattle.linear.specs.Basis.{dim}
-use Rattle.linear.specs.Entry.{Solution, generatorsIn, inside, space, entries}
+use Rattle.linear.specs.Entry.{Solution, generatorsIn, inside, space}
 use Rattle.linear.specs.Word.{word, Below}
-use Rattle.linear.specs.Theorems.{entry-solves}
 use Rattle.linear.specs.laws.Word.{span-below}
 use Rattle.linear.specs.laws.Span.{mem-cons, span-mem}
 use Rattle.linear.specs.laws.Select.{only-mem}
-use Rattle.linear.specs.laws.Order.{mem-map}
-use Rattle.catalogue.specs.listing.Listing.{records, recordLength, flat, fitting}
-use Rattle.catalogue.specs.listing.laws.Listing.{record-length}
+use Rattle.linear.specs.laws.Order.{mem-getD, mem-map}
 use Rattle.catalogue.specs.listing.laws.Run.{fitting-le}
 use Rattle.maps.specs.Generators.{listOf, generatorForm, generatorForms, generator-below, countOf, generatorCount}
 use Rattle.words.specs.lists.Lists.{repeats, unlike}
 use Rattle.problems.specs.Problem.{Problem, problem, targetForms, listed, mapped, sorted, posed}
 use Rattle.problems.specs.laws.Taken.{listed-taken, mapped-taken, posed-kind}
 use Rattle.catalogue.specs.Catalogue.{Catalogued, catalogue}
-use Rattle.catalogue.specs.Catalogue as search
+use Rattle.theorems.specs.catalogue_and_rank.Theorems.{CatalogueMeans, catalogue-means, look-up-means}
 use Rattle.space_formulae.specs.spaces.Spaces.{Formulae, isEntry, formulaeOf}
 use Rattle.space_formulae.specs.spaces.Spaces as spaces
+use Rattle.space_formulae.specs.spaces.Theorems.{FormulaeMeans, formulae-means}
 use Rattle.space_formulae.specs.spaces.laws.Entry.{is-entry}
+use Rattle.kinds.specs.laws.Refusal.{accepted-inj}
 use Rattle.kinds.specs.Limits.{mostGenerators}
+use Rattle.records.specs.Length.{recordLength}
+use Rattle.records.specs.lookup.Lookup.{lookup}
 
--- ---- the rows in a listing of records es ++ f es
-module _ (f : List ℕ → List ℕ) (d k : ℕ) where
-  abbrev line : List ℕ → List ℕ
-  line es = es ++ f es
+-- ---- the rows of an entry
+module _ (gens targets : List ℕ) (k : ℕ) (old : List ℕ) (c : Catalogued) (M : CatalogueMeans gens targets k old c) (i : ℕ) (h : i < c .shown) where
+  there : List·Memᴰ (getD (M .extensions) i []) (M .extensions)
+  there =
+      let few : c .shown ≤ c .found = subst (λ (s : ℕ). s ≤ c .found) (sym (M .shown)) (fitting-le (recordLength (dim word targets) k) (c .found) (length old)) in
+      mem-getD (M .extensions) i [] (let f = M .found in omega arith)
 
-  abbrev Sized : List (List ℕ) → Type 0
-  Sized l = (es : List ℕ) → List·Memᴰ es l → (length es ≡ d) × (length (f es) ≡ k)
+  entry-solution : Solution word gens targets k (space word gens targets (getD (M .extensions) i []))
+  entry-solution = M .all (space word gens targets (getD (M .extensions) i [])) .0 (mem-map (space word gens targets) there)
 
-  here : (e more : List ℕ) → length e ≡ d → length (f e) ≡ k → take k (drop d ((e ++ f e) ++ more)) ≡ f e
-  here e more a b = ap (λ (z : List ℕ). take k (drop d z)) (append-assoc e (f e) more) ∙ ap (take k) (drop-at e (f e ++ more) d a) ∙ take-at (f e) more k b
-
-  later : (e more : List ℕ) (i : ℕ) → length e ≡ d → length (f e) ≡ k → drop (suc i * (d + k) + d) ((e ++ f e) ++ more) ≡ drop (i * (d + k) + d) more
-  later e more i a b =
-      let n : suc i * (d + k) + d ≡ length (e ++ f e) + (i * (d + k) + d) = omega (arith, suc-mul i (d + k), length-append e (f e), a, b) in
-      ap (λ (z : ℕ). drop z ((e ++ f e) ++ more)) n ∙ drop-append-add (e ++ f e) more (i * (d + k) + d)
-
-  at-record : (l : List (List ℕ)) (tail : List ℕ) (s i : ℕ) → Sized l → i < s → s ≤ length l
-      → (es : List ℕ) × List·Memᴰ es l × (take k (drop (i * (d + k) + d) (flat (take s (map line l)) ++ tail)) ≡ f es)
-  unfolding flat
-  at-record [] tail s i z h m = absurd (omega arith)
-  at-record (e ∷ l) tail zero i z h m = absurd (omega arith)
-  at-record (e ∷ l) tail (suc s) zero z h m =
-      let y = z e (List·Memᴰ·head refl) in
-      let more : List ℕ = flat (take s (map line l)) ++ tail in (
-        e,
-        List·Memᴰ·head refl,
-        ap (λ (n : ℕ). take k (drop n ((line e ++ flat (take s (map line l))) ++ tail))) (let q : 0 * (d + k) + d ≡ d = omega arith in q)
-            ∙ ap (λ (b : List ℕ). take k (drop d b)) (append-assoc (line e) (flat (take s (map line l))) tail) ∙ here e more (y .0) (y .1),
-      )
-  at-record (e ∷ l) tail (suc s) (suc i) z h m =
-      let y = z e (List·Memᴰ·head refl) in
-      let more : List ℕ = flat (take s (map line l)) ++ tail in
-      let r = at-record l tail s i (λ es n. z es (List·Memᴰ·tail n)) (omega arith) (omega arith) in (
-        r .0,
-        List·Memᴰ·tail (r .1),
-        ap (λ (b : List ℕ). take k (drop (suc i * (d + k) + d) b)) (append-assoc (line e) (flat (take s (map line l))) tail)
-            ∙ ap (take k) (later e more i (y .0) (y .1)) ∙ r .2,
-      )
-
-module _ (gens targets : List ℕ) (k : ℕ) where
-  sized : Sized (space word gens targets) (k - dim word targets) k (entries word gens targets k)
-  unfolding records
-  sized es m =
-      let E = entry-solves word gens targets k es m in
-      let r = record-length gens targets k (es ++ space word gens targets es) (mem-map (λ (x : List ℕ). x ++ space word gens targets x) m) in
-      let b = E .size in
-      (omega (arith, r, b, length-append es (space word gens targets es)), b)
-
-listing-entry : (x : Problem) (k : ℕ) (old : List ℕ) (i : ℕ) → i < search.entryListing x k old .shown
-    → (W : List ℕ) × Solution word (x .generators) (x .targets) k W × (take k (drop (i * ((k - dim word (x .targets)) + k) + (k - dim word (x .targets))) (search.entryListing x k old .buffer)) ≡ W)
-unfolding search.entryListing records
-listing-entry x k old i h =
-    let gens = x .generators in
-    let targets = x .targets in
-    let found : ℕ = length (entries word gens targets k) in
-    let shown : ℕ = fitting (recordLength targets k) found (length old) in
-    let r = at-record (space word gens targets) (k - dim word targets) k (entries word gens targets k) (drop (shown * recordLength targets k) old) shown i (sized gens targets k) h
-    (fitting-le (recordLength targets k) found (length old)) in
-    (space word gens targets (r .0), entry-solves word gens targets k (r .0) (r .1), r .2)
+  entry-rows : drop (k - c .ell) (lookup (c .ell) k (c .shown) i (c .buffer)) ≡ space word gens targets (getD (M .extensions) i [])
+  entry-rows =
+      let es : List ℕ = getD (M .extensions) i [] in
+      let a : length es ≡ k - c .ell = M .shape es there .0 ∙ ap (λ (n : ℕ). k - n) (sym (M .ell)) in
+      ap (drop (k - c .ell)) (look-up-means gens targets k old c M i .0 h) ∙ drop-at es (space word gens targets es) (k - c .ell) a
 
 -- ---- widths
 below-wide : (w : ℕ) (xs : List ℕ) → Below w xs → wide w xs ≡ false
@@ -176,15 +130,38 @@ module _ (p q r : ℕ) (gs ts : List ℕ) (x : Problem) (k : ℕ) (W : List ℕ)
       (refuse 10 (not (isEntry (y .generators) (y .targets) W)) (accepted (spaces.formulaeListing y W old)))) (posed-with number e)
       ∙ ap₂ (λ (a b : Bool). refuse 8 a (refuse 10 (not b) (accepted (spaces.formulaeListing x W old)))) far good
 
-pub entry-accepted : (number p q r k : ℕ) (gs ts old room : List ℕ) (c : Catalogued) → catalogue number p q r k gs ts old ≡ accepted c → (i : ℕ) → i < c .shown
-    → (f : Formulae) × (formulaeOf number p q r gs ts (take k (drop (i * ((k - c .ell) + k) + (k - c .ell)) (c .buffer))) room ≡ accepted f)
-unfolding catalogue search.entryListing
-entry-accepted number p q r k gs ts old room c e i h =
-    let a = follow-inv (posed number p q r gs ts []) (λ x. refuse 8 (ltb (dim word (x .targets) + 6) k) (accepted (search.entryListing x k old))) c e in
-    let x : Problem = a .0 in
-    let b = refuse-inv 8 (ltb (dim word (x .targets) + 6) k) (accepted (search.entryListing x k old)) c (a .2) in
-    let l : search.entryListing x k old ≡ c = accepted-inj (search.entryListing x k old) c (b .1) in
-    let w = listing-entry x k old i (subst (λ (y : Catalogued). i < y .shown) (sym l) h) in
-    let g = formulae-with p q r gs ts x k (w .0) (w .1) number room (a .1) (ltb-false (dim word (x .targets) + 6) k (b .0)) in
-    subst (λ (y : Catalogued). (f : Formulae) × (formulaeOf number p q r gs ts (take k (drop (i * ((k - y .ell) + k) + (k - y .ell)) (y .buffer))) room ≡ accepted f)) l
-    (spaces.formulaeListing x (w .0) room, ap (λ (rows : List ℕ). formulaeOf number p q r gs ts rows room) (w .2) ∙ g)
+-- what is said of entry i of a Catalogue, whose rows are looked up
+pub record EntryShown (number p q r k : ℕ) (gs ts old room : List ℕ) (c : Catalogued) (i : ℕ) (rows : List ℕ) : Type 0 where
+  pub x : Problem
+  pub catalogued : CatalogueMeans (x .generators) (x .targets) k old c
+  pub basis : rows ≡ space word (x .generators) (x .targets) (getD (catalogued .extensions) i [])
+  pub posed-as : posed number p q r gs ts rows ≡ accepted x
+  pub said : Formulae
+  pub accepted-as : formulaeOf number p q r gs ts rows room ≡ accepted said
+  pub means : FormulaeMeans (x .generators) (x .targets) rows room said
+
+pub entry-shown : (number p q r k : ℕ) (gs ts old room : List ℕ) (c : Catalogued) → catalogue number p q r k gs ts old ≡ accepted c → (i : ℕ) → i < c .shown
+    → EntryShown number p q r k gs ts old room c i (drop (k - c .ell) (lookup (c .ell) k (c .shown) i (c .buffer)))
+entry-shown number p q r k gs ts old room c e i h =
+    let m = catalogue-means number p q r k gs ts old c e in
+    let x : Problem = m .0 in
+    let M = m .3 in
+    let rows : List ℕ = drop (k - c .ell) (lookup (c .ell) k (c .shown) i (c .buffer)) in
+    let W : List ℕ = space word (x .generators) (x .targets) (getD (M .extensions) i []) in
+    let E = entry-solution (x .generators) (x .targets) k old c M i h in
+    let b : rows ≡ W = entry-rows (x .generators) (x .targets) k old c M i h in
+    let a : posed number p q r gs ts rows ≡ accepted x = ap (posed number p q r gs ts) b ∙ posed-with p q r gs ts x k W E number (m .1) in
+    let f : formulaeOf number p q r gs ts rows room ≡ accepted (spaces.formulaeListing x W room) =
+    ap (λ (rows : List ℕ). formulaeOf number p q r gs ts rows room) b ∙ formulae-with p q r gs ts x k W E number room (m .1) (m .2) in
+    let F = formulae-means number p q r gs ts rows room (spaces.formulaeListing x W room) f in
+    record {
+      x = x;
+      catalogued = M;
+      basis = b;
+      posed-as = a;
+      said = spaces.formulaeListing x W room;
+      accepted-as = f;
+      means =
+          subst (λ (y : Problem). FormulaeMeans (y .generators) (y .targets) rows room (spaces.formulaeListing x W room))
+          (accepted-inj (F .0) x (sym (F .1) ∙ a)) (F .3);
+    }

@@ -12,7 +12,7 @@ use borrow.Author.Tests.{eqb-true, eq-eqb}
 use Rattle.linear.specs.Space.{Field, Space}
 use Rattle.linear.specs.Span.{Span, Within}
 use Rattle.linear.specs.Basis.{reduce, basisOf, Reduced, dim}
-use Rattle.linear.specs.Order.{Before, risingLists, Ordered}
+use Rattle.linear.specs.Order.{Before, Rising, risingLists, Ordered}
 use Rattle.linear.specs.Select.{Once}
 use Rattle.linear.specs.Entry.{sameVec, sameBasis, inside, chosen, generatorsIn, fits, Solution, space, entries}
 use Rattle.linear.specs.laws.Space.{add-nul, take-put, one-scale, minus-add}
@@ -20,7 +20,7 @@ use Rattle.linear.specs.laws.Span.{span-mem, span-bind, span-mono}
 use Rattle.linear.specs.laws.Reduce.{member}
 use Rattle.linear.specs.laws.Insert.{isNul-nul, span-of-reduce, inserts-reduced, inserts-span, basisOf-reduced, basisOf-span}
 use Rattle.linear.specs.laws.Dimension.{basisOf-is, same-size}
-use Rattle.linear.specs.laws.Order.{rising-ordered}
+use Rattle.linear.specs.laws.Order.{rising-sound, rising-ordered}
 use Rattle.linear.specs.laws.Select.{only-mem, first-mem, first-once, first-ordered}
 
 module _ (S : Space) where
@@ -121,6 +121,13 @@ module _ (S : Space) where
         (k - dim S targets)) [] es m in
         let f = fits-yes gens k (space S gens targets es) (space-reduced es) (r .1) in
         record { reduced = space-reduced es; size = f .0; holds = space-holds es; spanned = f .1 }
+
+    pub entries-shape : (k : ℕ) (es : List ℕ) → List·Memᴰ es (entries S gens targets k) → (length es ≡ k - dim S targets) × Rising 0 (length gens) es
+    unfolding entries
+    entries-shape k es m =
+        let n = k - dim S targets in
+        let r = first-mem (space S gens targets) (fits S gens k) (sameBasis S) sameBasis-yes sameBasis-no (risingLists (length gens) 0 n) [] es m in
+        rising-sound (length gens) 0 n (length gens) (omega arith) es (r .0)
 
     pub entries-once : (k : ℕ) → Once (space S gens targets) (entries S gens targets k)
     unfolding entries

@@ -1,8 +1,8 @@
 -- The rising lists of m numbers: each that `risingLists` has is one, each one is there, and they stand in dictionary order.
 -- Assumes nothing.
-use mathlib.Core.Path.{_≡_, refl, sym, ap, subst}
-use mathlib.Core.Logic.{_⊎_, inl, inr}
-use mathlib.Core.List.{List, [], _∷_, _++_, map, List·Memᴰ, List·Memᴰ·head, List·Memᴰ·tail, List·Memᴰ·not-nil, Memᴰ·append-left, Memᴰ·append-right}
+use mathlib.Core.Path.{_≡_, refl, sym, ap, ap₂, _∙_, subst}
+use mathlib.Core.Logic.{_⊎_, inl, inr, ⊎-elim, _↔_}
+use mathlib.Core.List.{List, [], _∷_, _++_, map, List·Memᴰ, List·Memᴰ·head, List·Memᴰ·tail, List·Memᴰ·not-nil, List·Memᴰ·cases-cons, Memᴰ·append-left, Memᴰ·append-right}
 use Prim.Native.Nat.{ℕ, zero, suc, _+_, _<_, _≤_}
 use native.Mathlib.Nat.{suc-inj}
 use native.Mathlib.Omega.{arith}
@@ -22,6 +22,30 @@ before-asym (e ∷ es) (f ∷ fs) h k = go h k (before-asym es fs)
     go (inl a) (inr b) ih = omega arith
     go (inr a) (inl b) ih = omega arith
     go (inr a) (inr b) ih = ih (a .1) (b .1)
+
+-- two lists in dictionary order with the same members are one
+pub ordered-same : (l m : List (List ℕ)) → Ordered Before l → Ordered Before m → ((x : List ℕ) → List·Memᴰ x l ↔ List·Memᴰ x m) → l ≡ m
+ordered-same [] [] o p h = refl
+ordered-same [] (y ∷ m) o p h = absurd (List·Memᴰ·not-nil (h y .1 (List·Memᴰ·head refl)))
+ordered-same (x ∷ l) [] o p h = absurd (List·Memᴰ·not-nil (h x .0 (List·Memᴰ·head refl)))
+ordered-same (x ∷ l) (y ∷ m) o p h = ap₂ _∷_ same (ordered-same l m (o .1) (p .1) (λ z. (left z, right z)))
+  where
+    meet : (x ≡ y) ⊎ List·Memᴰ x m → (y ≡ x) ⊎ List·Memᴰ y l → x ≡ y
+    meet (inl e) b = e
+    meet (inr a) (inl e) = sym e
+    meet (inr a) (inr b) = absurd (before-asym x y (o .0 y b) (p .0 x a))
+
+    same : x ≡ y
+    same = meet (List·Memᴰ·cases-cons (h x .0 (List·Memᴰ·head refl))) (List·Memᴰ·cases-cons (h y .1 (List·Memᴰ·head refl)))
+
+    -- the first of a list is not among the others
+    left : (z : List ℕ) → List·Memᴰ z l → List·Memᴰ z m
+    left z k = ⊎-elim (λ (e : z ≡ y). absurd (let b = subst (Before x) (e ∙ sym same) (o .0 z k) in before-asym x x b b)) (λ n. n)
+        (List·Memᴰ·cases-cons (h z .0 (List·Memᴰ·tail k)))
+
+    right : (z : List ℕ) → List·Memᴰ z m → List·Memᴰ z l
+    right z k = ⊎-elim (λ (e : z ≡ x). absurd (let b = subst (Before y) (e ∙ same) (p .0 z k) in before-asym y y b b)) (λ n. n)
+        (List·Memᴰ·cases-cons (h z .1 (List·Memᴰ·tail k)))
 
 pub rising-from : (lo lo′ hi : ℕ) (es : List ℕ) → lo ≤ lo′ → Rising lo′ hi es → Rising lo hi es
 rising-from lo lo′ hi [] h r = tt

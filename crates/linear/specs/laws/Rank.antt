@@ -39,7 +39,7 @@ module _ (S : Space) (gens targets : List (S .Vec)) where
   unfolding generatorsIn
   generatorsIn-mem C ρ x m s = mem-only (inside S C) gens x m (yes-inside S C ρ x s)
 
-  generatorsIn-gens : (C : List Vec) (x : Vec) → List·Memᴰ x (generatorsIn S gens C) → List·Memᴰ x gens
+  pub generatorsIn-gens : (C : List Vec) (x : Vec) → List·Memᴰ x (generatorsIn S gens C) → List·Memᴰ x gens
   unfolding generatorsIn
   generatorsIn-gens C x m = only-mem (inside S C) gens x m .0
 

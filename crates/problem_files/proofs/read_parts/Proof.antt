@@ -9,7 +9,7 @@ use Rattle.kinds.specs.Sizes.{sizes, seenSizes}
 use Rattle.text.specs.heads.Head.{headLines}
 use Rattle.text.specs.heads.Views.{seenHead}
 use Rattle.text.specs.declared.heads.HeadRead.the-variants as hd
-use Rattle.formula_files.specs.laws.Outcome.{head-fit}
+use Rattle.formula_files.specs.laws.FormulaFile.{head-fit}
 use Rattle.problem_files.specs.handed_forms.laws.Lines.{body-targets}
 use Rattle.problem_files.specs.laws.Steps.{file-1, file-2, file-3, file-read}
 use Rattle.problem_files.proofs.read_parts.Statement.{statement}

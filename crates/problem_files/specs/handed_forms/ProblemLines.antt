@@ -15,7 +15,7 @@ use Rattle.kinds.specs.declared.Kind.{Kind}
 use Rattle.kinds.specs.Refusal.{Answer, accepted, need, refuse}
 use Rattle.maps.specs.Generators.{countOf}
 use Rattle.formula_files.specs.lines.Formula.{ended}
-use Rattle.formula_files.specs.Outcome.{isList}
+use Rattle.kinds.specs.Kinds.{isList}
 use Rattle.problem_files.specs.list_lines.Roles.{listBody}
 use Rattle.kinds.specs.Limits.{mostGenerators, mostTargets}
 

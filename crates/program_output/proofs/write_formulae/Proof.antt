@@ -1,20 +1,24 @@
--- `program_output::write_formulae`: the reply's head is within its page. Assumes nothing.
-use borrow.Author.Needs.{needs}
+-- `program_output::write_formulae`: what is printed is never refused. Assumes nothing.
 use mathlib.Core.Path.{sym, _∙_}
-use Rattle.program_output.proofs.Pages.{counts}
+use borrow.Author.Needs.{needs}
+use Rattle.printing.specs.pages.laws.Printed.{never-refused}
 use Rattle.program_output.proofs.write_formulae.Statement.{statement}
 use Rattle.program_output.proofs.write_formulae.Tie as tie
 
-slice-aggregate-write-all : tie.Need-slice-aggregate-write-all
-slice-aggregate-write-all c =
-    let at = c .before .before .before .before .before in
-    let p = at .start in
-    let page = at .before .before .before .before .before .part-page in
-    counts (p .last .1 .1 .1 .1 .0) (p .kept .1 .1 .1 .1 .0 ∙ sym (page .ensures)) (p .ensures .room) .1
+write-printed-requires : tie.Need-write-printed-requires
+write-printed-requires c κs =
+    let p = c .before .before .first-page in
+    let page = c .before .before .before .before .before .before .before .before .before .before .before .part-page in
+    never-refused _ _ (p .result) _ _ (p .ensures) (sym (page .ensures)) (p .kept .1 .0)
+
+write-entries-requires : tie.Need-write-entries-requires
+write-entries-requires c κs =
+    let p = c .before .before .before .before .before .before .before .before .before .before in
+    p .first-page .kept .1 .0 ∙ sym (p .before .before .before .before .before .before .before .before .before .part-page .ensures)
 
 pub write-formulae-spec : {M : Type 1} → statement M
 write-formulae-spec =
     tie.close
-    (tie.spec (λ c κs. search needs) (λ c. search needs) (λ c. search needs) (λ c. search needs) (λ c. search needs) (λ c κs. search needs)
-    (λ c. search needs) slice-aggregate-write-all (λ c κs. search needs) (λ c. search needs) (λ c. search needs) (λ c. search needs)
-    (λ c. search needs) (λ c κs. search needs) (λ c. search needs))
+    (tie.spec (λ c κs. search needs) (λ c. search needs) (λ c. search needs) (λ c. search needs) (λ c κs. search needs) (λ c. search needs)
+    (λ c κs. search needs) (λ c. search needs) write-printed-requires (λ c. search needs) (λ c. search needs) (λ c. search needs) (λ c. search needs)
+    (λ c. search needs) write-entries-requires (λ c. search needs) (λ c. search needs) (λ c. search needs))

@@ -3,10 +3,10 @@
 --   program-refused, program-said   what is printed, from the code's answer to the input
 -- Assumes nothing.
 use Prim.Native.Nat.{ℕ, _≤_}
-use mathlib.Core.Path.{_≡_, sym, ap, ap₂, _∙_}
+use mathlib.Core.Path.{_≡_, sym, ap, ap₂, _∙_, subst}
 use mathlib.Core.List.{List}
 use native.Mathlib.Omega.{arith}
-use lib.ListN.{take}
+use lib.ListN.{length, take}
 use Rattle.kinds.specs.declared.Kind.{Kind}
 use Rattle.kinds.specs.Refusal.{Answer, accepted, follow}
 use Rattle.printing.specs.fields.RefusedText.{refusedText}
@@ -16,14 +16,23 @@ use Rattle.problem_files.specs.Lent.{seenRead}
 use Rattle.problem_files.specs.declared.judging.Purpose.{Purpose}
 use Rattle.problem_files.specs.declared.judging.ProblemRead.{ProblemRead}
 use Rattle.problem_files.specs.declared.judging.ProblemRead.the-variants as read
-use Rattle.problem_files.specs.inputs.Inputs.{Input}
+use Rattle.problem_files.specs.inputs.laws.Input.{Input}
+use Rattle.text.specs.Limits.{programWords}
 use Rattle.printing.specs.refusals.Pages.{answerText, replyPage}
+use Rattle.printing.specs.pages.Printed.{pageAnswer, seenPrinted}
+use Rattle.printing.specs.fields.Written.{writtenIn}
+use Rattle.printing.specs.declared.pages.Printed.{Printed}
 use Rattle.programs.specs.Programs.{replyTo, problemProgram}
 
-pub for-purpose : (a b : Purpose) (s d : List ℕ) (n : ℕ) → (take n d ≡ problemProgram a s) × (n ≤ replyPage) → a ≡ b → (take n d ≡ problemProgram b s) × (n ≤ replyPage)
-for-purpose a b s d n P e = (P .0 ∙ ap (λ (x : Purpose). problemProgram x s) e, P .1)
+-- of a text on a page, and that a page for a whole reply takes it
+abbrev Answered : (t d : List ℕ) → Printed → List ℕ → Type 0
+Answered t d x d₁ = (pageAnswer t d ≡ seenPrinted x) × (d₁ ≡ writtenIn t d) × (length t ≤ replyPage)
 
-module _ (a : Purpose) (s : List ℕ) (x : ProblemRead) (g t : List ℕ) (I : Input a s x g t) where
+pub for-purpose : (a b : Purpose) (s d : List ℕ) (x : Printed) (d₁ : List ℕ) → Answered (problemProgram a s) d x d₁ → a ≡ b
+    → Answered (problemProgram b s) d x d₁
+for-purpose a b s d x d₁ P e = subst (λ (c : Purpose). Answered (problemProgram c s) d x d₁) e P
+
+module _ (a : Purpose) (s : List ℕ) (x : ProblemRead) (g t : List ℕ) (I : Input a s programWords programWords x g t) where
   program-is : (y : ProblemRead) → x ≡ y → problemProgram a s ≡ answerText (follow (seenRead g t y) λ P. accepted (replyTo a P))
   unfolding problemProgram
   program-is y h = ap (λ (o : Answer ProblemFile). answerText (follow o λ P. accepted (replyTo a P))) (I .answer ∙ ap (seenRead g t) h)

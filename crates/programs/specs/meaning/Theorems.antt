@@ -3,16 +3,23 @@
 --   RankAnswered, rank-answered             Rank's text, of an answer that is the least number of products
 -- So a program refuses exactly the inputs that are refused when read (`inputOf`). The definitions: inputOf (problem_files, inputs), catalogueProgram, rankProgram (programs), catalogueText (catalogue_text, report),
 -- rankAnswer (rank_text), CatalogueMeans and RankMeans (theorems, catalogue_and_rank). Assumes nothing.
-use Prim.Native.Nat.{ℕ}
-use mathlib.Core.Path.{_≡_, ap, _∙_}
-use mathlib.Core.List.{List, []}
-use lib.ListN.{length}
+use Prim.Native.Nat.{ℕ, _+_, _-_, _*_, _<_, _≤_}
+use mathlib.Core.Path.{_≡_, sym, ap, _∙_, subst}
+use mathlib.Core.List.{List, [], _++_, List·Memᴰ}
+use native.Mathlib.Omega.{arith}
+use lib.ListN.{length, take, drop, getD}
+use lib.Seq.{length-take-le, getD-take}
 use lib.Dec.{ltb}
 use Rattle.kinds.specs.Kinds.{numberOf}
 use Rattle.kinds.specs.Refusal.{Answer, accepted, follow}
 use Rattle.kinds.specs.laws.Refusal.{refuse-inv}
 use Rattle.linear.specs.Basis.{dim}
+use Rattle.linear.specs.Entry.{space}
 use Rattle.linear.specs.Word.{word}
+use Rattle.linear.specs.laws.Order.{mem-getD, mem-map}
+use Rattle.records.specs.Length.{recordLength}
+use Rattle.catalogue.specs.listing.laws.Run.{fitting-le}
+use Rattle.printing.specs.record_lines.RecordLines.{entryText, recordLines}
 use Rattle.problems.specs.Problem.{Problem, posed}
 use Rattle.problem_files.specs.judging.Judged.{ProblemFile}
 use Rattle.problem_files.specs.ProblemFile.{problemFile}
@@ -21,12 +28,14 @@ use Rattle.catalogue.specs.Catalogue.{Catalogued}
 use Rattle.rank.specs.Rank.{rank}
 use Rattle.theorems.specs.catalogue_and_rank.Theorems.{CatalogueMeans, catalogue-means, RankMeans, rank-means}
 use Rattle.rank.specs.fewest.Fewest.{Ranking}
-use Rattle.catalogue_text.specs.report.CatalogueReports.{catalogueText}
+use Rattle.catalogue_text.specs.report.CatalogueReports.{entriesText, entryNames, countsText, catalogueText}
 use Rattle.printing.specs.refusals.Pages.{listingRoom, answerText}
 use Rattle.catalogue_text.specs.CatalogueAnswers.{catalogueAnswer, catalogueReply}
 use Rattle.rank_text.specs.RankAnswers.{rankAnswer, rankReply}
-use Rattle.problem_files.specs.inputs.Inputs.{inputOf}
+use Rattle.problem_files.specs.inputs.Inputs.{inputFile, inputOf}
 use Rattle.programs.specs.Programs.{replyTo, problemProgram, catalogueProgram, rankProgram}
+use Rattle.programs.specs.meaning.Lines.{linesOf}
+use Rattle.programs.specs.meaning.laws.Lines.{Stands, lines-are}
 use Rattle.programs.specs.meaning.laws.Answered.{file-posed, catalogue-accepted, rank-accepted}
 use Rattle.text.specs.Limits.{programWords, mostBytes}
 
@@ -37,6 +46,10 @@ pub record CatalogueAnswered (s : List ℕ) (P : ProblemFile) : Type 0 where
   pub said : Catalogued
   pub means : CatalogueMeans (x .generators) (x .targets) (P .k) listingRoom said
   pub prints : catalogueProgram s ≡ catalogueText (P .kind) (P .p) (P .q) (P .r) (P .k) (said .ell) (said .found) (said .shown) (said .buffer)
+  -- line i under the names is entry i: its number, its extension and its basis
+  pub lines : catalogueProgram s
+      ≡ countsText (P .kind) (P .p) (P .q) (P .r) (P .k) (said .ell) (said .found) (said .shown) ++ entryNames
+      ++ linesOf entryText (space word (x .generators) (x .targets)) 0 (take (said .shown) (means .extensions))
 
 pub record RankAnswered (s : List ℕ) (P : ProblemFile) : Type 0 where
   pub x : Problem
@@ -45,25 +58,55 @@ pub record RankAnswered (s : List ℕ) (P : ProblemFile) : Type 0 where
   pub means : RankMeans (x .generators) (x .targets) listingRoom said
   pub prints : rankProgram s ≡ rankAnswer (P .kind) (P .p) (P .q) (P .r) (P .k) (dim word (x .targets)) (length (x .targets)) (accepted said)
 
+-- the lines of what a Catalogue's listing holds
+listing-lines : (gens targets : List ℕ) (k : ℕ) (old : List ℕ) (c : Catalogued) (M : CatalogueMeans gens targets k old c)
+    → entriesText (k - c .ell) k 0 (c .shown) (c .buffer) ≡ linesOf entryText (space word gens targets) 0 (take (c .shown) (M .extensions))
+listing-lines gens targets k old c M =
+    ap (λ (n : ℕ). recordLines entryText (k - c .ell) k 0 n (c .buffer)) (sym count)
+    ∙ lines-are (k - c .ell) k (c .buffer) entryText (space word gens targets) (take (c .shown) (M .extensions)) 0 stands
+  where
+    few : c .shown ≤ length (M .extensions)
+    few = subst (λ (n : ℕ). c .shown ≤ n) (M .found) (subst (λ (s : ℕ). s ≤ c .found) (sym (M .shown)) (fitting-le (recordLength (dim word targets) k) (c .found) (length old)))
+
+    count : length (take (c .shown) (M .extensions)) ≡ c .shown
+    count = length-take-le (c .shown) (M .extensions) few
+
+    stands : Stands (k - c .ell) k (c .buffer) (space word gens targets) (take (c .shown) (M .extensions)) 0
+    stands j h =
+        let l : j < c .shown = omega (arith, h, count) in
+        let es : List ℕ = getD (M .extensions) j [] in
+        let g : getD (take (c .shown) (M .extensions)) j [] ≡ es = getD-take (c .shown) (M .extensions) j [] l in
+        let m : List·Memᴰ es (M .extensions) = mem-getD (M .extensions) j [] (omega (arith, l, few)) in (
+          ap length g ∙ M .shape es m .0 ∙ ap (λ (n : ℕ). k - n) (sym (M .ell)),
+          ap (λ (x : List ℕ). length (space word gens targets x)) g ∙ M .all (space word gens targets es) .0 (mem-map (space word gens targets) m) .size,
+          ap (λ (n : ℕ). take ((k - c .ell) + k) (drop (n * ((k - c .ell) + k)) (c .buffer))) (let z : 0 + j ≡ j = omega arith in z)
+              ∙ M .record-at j l ∙ ap (λ (x : List ℕ). x ++ space word gens targets x) (sym g),
+        )
+
 pub catalogue-answered : (s : List ℕ) (P : ProblemFile) → inputOf purpose.Catalogue s ≡ accepted P → CatalogueAnswered s P
-unfolding inputOf problemProgram catalogueReply
+unfolding inputFile problemProgram catalogueReply catalogueText
 catalogue-answered s P e =
     let f = refuse-inv 1 (ltb mostBytes (length s)) (problemFile purpose.Catalogue s programWords programWords) P e .1 in
     let g = file-posed purpose.Catalogue s programWords programWords P f in
     let c = catalogue-accepted (numberOf (P .kind)) (P .p) (P .q) (P .r) (P .k) (P .generators) (P .targets) listingRoom (g .0) (g .1) (g .2) in
     let m = catalogue-means (numberOf (P .kind)) (P .p) (P .q) (P .r) (P .k) (P .generators) (P .targets) listingRoom (c .0) (c .1) in
+    let printed =
+    ap (λ (o : Answer ProblemFile). answerText (follow o λ Q. accepted (replyTo purpose.Catalogue Q))) e
+    ∙ ap (catalogueAnswer (P .kind) (P .p) (P .q) (P .r) (P .k)) (c .1) in
     record {
       x = m .0;
       posed-as = m .1;
       said = c .0;
       means = m .3;
-      prints =
-          ap (λ (o : Answer ProblemFile). answerText (follow o λ Q. accepted (replyTo purpose.Catalogue Q))) e
-          ∙ ap (catalogueAnswer (P .kind) (P .p) (P .q) (P .r) (P .k)) (c .1);
+      prints = printed;
+      lines =
+          printed
+          ∙ ap (λ (t : List ℕ). countsText (P .kind) (P .p) (P .q) (P .r) (P .k) (c .0 .ell) (c .0 .found) (c .0 .shown) ++ entryNames ++ t)
+          (listing-lines (m .0 .generators) (m .0 .targets) (P .k) listingRoom (c .0) (m .3));
     }
 
 pub rank-answered : (s : List ℕ) (P : ProblemFile) → inputOf purpose.Rank s ≡ accepted P → RankAnswered s P
-unfolding inputOf problemProgram rankReply
+unfolding inputFile problemProgram rankReply
 rank-answered s P e =
     let f = refuse-inv 1 (ltb mostBytes (length s)) (problemFile purpose.Rank s programWords programWords) P e .1 in
     let g = file-posed purpose.Rank s programWords programWords P f in

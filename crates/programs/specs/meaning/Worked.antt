@@ -38,7 +38,7 @@ use Rattle.problem_files.specs.judging.Judged.{settled, problemJudged}
 use Rattle.problem_files.specs.ProblemFile.{formsRead, problemFile}
 use Rattle.catalogue_text.specs.CatalogueAnswers.{catalogueReply}
 use Rattle.rank_text.specs.RankAnswers.{rankReply}
-use Rattle.problem_files.specs.inputs.Inputs.{inputOf}
+use Rattle.problem_files.specs.inputs.Inputs.{inputFile}
 use Rattle.programs.specs.Programs.{problemProgram, catalogueProgram, rankProgram}
 
 pub worked-catalogue : catalogueProgram (107 ∷ 105 ∷ 110 ∷ 100 ∷ 44 ∷ 112 ∷ 44 ∷ 113 ∷ 44 ∷ 114 ∷ 44 ∷ 107 ∷ 10 ∷ 112 ∷ 111 ∷ 108 ∷ 121 ∷ 44 ∷ 50 ∷ 44 ∷ 51 ∷ 44 ∷ 48 ∷ 44 ∷ 53 ∷ 10 ∷ [])
@@ -52,7 +52,7 @@ unfolding bit digitsOf top clear reduce norm place insert inserts basisOf dim ri
     chosen generatorsIn fits space entries kindNumbered within polySizes wide zeroIn formOf productForm pair targetForm generatorCount firstMask
     secondMask generatorForm listOf generatorForms countOf targetForms mapped posed records flat fitting entryListing catalogue numeralText sizesText
     spacedText innerText listsText entryText recordLines countsText catalogueText cut field nameLine digits numeral countFields headLine headLines
-    ended mapLines settled problemJudged formsRead problemFile catalogueReply inputOf problemProgram
+    ended mapLines settled problemJudged formsRead problemFile catalogueReply inputFile problemProgram
 worked-catalogue = refl
 
 pub worked-rank : rankProgram (107 ∷ 105 ∷ 110 ∷ 100 ∷ 44 ∷ 112 ∷ 44 ∷ 113 ∷ 44 ∷ 114 ∷ 44 ∷ 107 ∷ 10 ∷ 112 ∷ 111 ∷ 108 ∷ 121 ∷ 44 ∷ 50 ∷ 44 ∷ 50 ∷ 44 ∷ 48 ∷ 44 ∷ 48 ∷ 10 ∷ [])
@@ -64,5 +64,5 @@ unfolding bit digitsOf top clear reduce norm place insert inserts basisOf dim ri
     chosen generatorsIn fits space entries kindNumbered within polySizes wide zeroIn formOf productForm pair targetForm generatorCount firstMask
     secondMask generatorForm listOf generatorForms countOf targetForms mapped posed formulae leastFrom missed fewest rowOf formulaRecord ranking rank
     numeralText sizesText spacedText innerText listsText rankHead rankText cut field nameLine digits numeral countFields headLine headLines ended mapLines
-    settled problemJudged formsRead problemFile rankReply inputOf problemProgram
+    settled problemJudged formsRead problemFile rankReply inputFile problemProgram
 worked-rank = refl

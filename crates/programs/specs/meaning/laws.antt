@@ -1,2 +1,3 @@
 -- The laws behind it.
 pub mod Answered
+pub mod Lines

@@ -1,6 +1,6 @@
 -- Document 01's Check case, as a file.
 --   worked-file      its text, byte by byte
---   worked-outcome   what reading it gives
+--   worked-reading   what reading it gives
 -- Assumes nothing.
 use mathlib.Core.Path.{_≡_, refl}
 use mathlib.Core.List.{List, [], _∷_}
@@ -14,7 +14,9 @@ use Rattle.text.specs.heads.Head.{countFields, headLine, headLines}
 use Rattle.printing.specs.Print.{numeralText}
 use Rattle.round_trips.specs.formulae.HeadText.{fieldsText, fileHead}
 use Rattle.formula_files.specs.lines.Formula.{productLine, products, rows, ended, body}
-use Rattle.formula_files.specs.Outcome.{formula, readJudged, rest, outcome}
+use Rattle.kinds.specs.Refusal.{accepted}
+use Rattle.formula_check.specs.Formula.{Admitted, formulaOf, passed, admit}
+use Rattle.formula_files.specs.FormulaFile.{rest, formulaFile}
 use Rattle.round_trips.specs.formulae.BodyText.{productsText, rowsText, bodyText}
 use Rattle.round_trips.specs.formulae.FileText.{fileText}
 
@@ -26,10 +28,13 @@ workedBytes =
     ∷ 97 ∷ 44 ∷ 98 ∷ 10 ∷ 49 ∷ 44 ∷ 49 ∷ 10 ∷ 50 ∷ 44 ∷ 50 ∷ 10 ∷ 51 ∷ 44 ∷ 51 ∷ 10
     ∷ 114 ∷ 111 ∷ 119 ∷ 10 ∷ 49 ∷ 10 ∷ 55 ∷ 10 ∷ 50 ∷ 10 ∷ []
 
-pub worked-file : fileText kind.Poly 2 2 0 3 (1 ∷ 2 ∷ 3 ∷ []) (1 ∷ 2 ∷ 3 ∷ []) (1 ∷ 7 ∷ 2 ∷ []) ≡ workedBytes
+abbrev pub workedFormula : Admitted
+workedFormula = formulaOf kind.Poly 2 2 0 2 2 (1 ∷ 2 ∷ 3 ∷ []) (1 ∷ 2 ∷ 3 ∷ []) (1 ∷ 7 ∷ 2 ∷ [])
+
+pub worked-file : fileText workedFormula ≡ workedBytes
 unfolding fileText fileHead fieldsText bodyText productsText rowsText numeralText
 worked-file = refl
 
-pub worked-outcome : outcome workedBytes 3 3 3 ≡ formula kind.Poly 2 2 0 3 (1 ∷ 2 ∷ 3 ∷ []) (1 ∷ 2 ∷ 3 ∷ []) (1 ∷ 7 ∷ 2 ∷ [])
-unfolding outcome rest readJudged body products rows ended productLine headLines headLine countFields nameLine field cut numeral digits polySizes within wide zeroIn
-worked-outcome = refl
+pub worked-reading : formulaFile workedBytes 3 3 3 ≡ accepted workedFormula
+unfolding formulaFile rest admit passed body products rows ended productLine headLines headLine countFields nameLine field cut numeral digits polySizes within wide zeroIn
+worked-reading = refl

@@ -16,7 +16,7 @@ use mathlib.Core.Bool.{cond}
 use Rattle.kinds.specs.declared.Kind.{Kind}
 use Rattle.text.specs.Line.{LF, comma}
 use Rattle.printing.specs.Print.{maskText}
-use Rattle.formula_files.specs.Outcome.{isList}
+use Rattle.kinds.specs.Kinds.{isList}
 use Rattle.problem_files.specs.list_lines.Roles.{roleNames, generatorRole, targetRole}
 use Rattle.round_trips.specs.formulae.HeadText.{fileHead}
 

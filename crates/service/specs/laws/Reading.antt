@@ -1,37 +1,55 @@
--- From the reading of a file to the numbers that are checked. Assumes nothing.
+-- From the reading of a file to the formula that is judged.
+--   read-ready, read-checks   a formula is read: the buffers hold it, and its text is the answer
+--   refused-checks            the reading is refused, and so is the file
+-- Assumes nothing.
 use mathlib.Core.Path.{_≡_, refl, sym, ap, ap₂, _∙_}
 use mathlib.Core.List.{List}
+use mathlib.Core.Option.{Option, some}
 use Prim.Native.Nat.{ℕ, _≤_}
 use native.Mathlib.Omega.{arith}
 use lib.ListN.{length, take, drop, length-append, length-drop}
 use lib.Seq.{take-append-seam}
+use Rattle.kinds.specs.Limits.{mostProducts, mostTargets}
+use Rattle.kinds.specs.Refusal.{Answer, refused, accepted, follow}
+use Rattle.kinds.specs.Sizes.{sizes}
 use Rattle.kinds.specs.declared.Kind.{Kind}
-use Rattle.kinds.specs.Kinds.{numberOf}
-use Rattle.kinds.specs.Refusal.{refused}
 use Rattle.words.specs.Buffers.{filled}
-use Rattle.formula_files.specs.Outcome.{Outcome, outcome}
-use Rattle.formula_files.specs.Outcome as file
+use Rattle.formula_check.specs.Formula.{Admitted, formulaOf}
+use Rattle.formula_files.specs.FormulaFile.{formulaFile}
 use Rattle.formula_files.specs.Lent.{formulaReply, firstOf, secondOf, rowsLent}
 use Rattle.formula_files.specs.Sound.{Sound, BufferRoom}
 use Rattle.formula_files.specs.AcceptedSound.{formula-accepted-sound}
 use Rattle.formula_files.specs.declared.Read.the-variants as read
-use Rattle.formula_check.specs.Formula.{check}
-use Rattle.check_text.specs.CheckAnswers.{replyText}
-use Rattle.check_text.specs.Buffers.{outputsOf, FormulaBuffers}
-use Rattle.check_text.specs.laws.Replying.{outs}
-use Rattle.service.specs.Service.{checkRead, checkFile}
+use Rattle.check_text.specs.CheckAnswers.{admittedText}
+use Rattle.check_text.specs.Buffers.{formulaIn, FormulaBuffers}
+use Rattle.check_text.specs.laws.Replying.{sizes-in}
+use Rattle.service.specs.Service.{checkFile}
 
 -- ---- a reply that is a formula
-abbrev Was : Outcome → Kind → (p q r k : ℕ) → Type 0
-Was o kd p q r k = (xs : List ℕ) × (ys : List ℕ) × (zs : List ℕ) × (o ≡ file.formula kd p q r k xs ys zs)
+pub record Was (o : Answer Admitted) (kd : Kind) (p q r k : ℕ) : Type 0 where
+  pub f : Admitted
+  pub is : o ≡ accepted f
+  pub kind : f .kind ≡ kd
+  pub first : f .p ≡ p
+  pub second : f .q ≡ q
+  pub third : f .r ≡ r
+  pub products : length (f .firsts) ≡ k
 
-was : (o : Outcome) (kd : Kind) (p q r k : ℕ) → formulaReply o ≡ read.Formula kd p q r k → Was o kd p q r k
-was (file.refused e) kd p q r k h = absurd (let z : _≡_ {A = ℕ} 0 1 = cc in omega arith)
-was (file.formula kd′ p′ q′ r′ k′ xs ys zs) kd p q r k h = (xs, ys, zs, cc)
+was : (o : Answer Admitted) (kd : Kind) (p q r k : ℕ) → formulaReply o ≡ read.Formula kd p q r k → Was o kd p q r k
+was (refused e) kd p q r k h = absurd (let z : _≡_ {A = ℕ} 0 1 = cc in omega arith)
+was (accepted f) kd p q r k h = record { f = f; is = refl; kind = cc; first = cc; second = cc; third = cc; products = cc }
 
-pub refused-is : (o : Outcome) (e : ℕ) → formulaReply o ≡ read.Refused e → o ≡ file.refused e
-refused-is (file.refused e′) e h = cc
-refused-is (file.formula kd′ p′ q′ r′ k′ xs ys zs) e h = absurd (let z : _≡_ {A = ℕ} 0 1 = cc in omega arith)
+-- the same formula, by the kind and sizes that were told
+module _ (f : Admitted) (kd : Kind) (p q r : ℕ) (a : f .kind ≡ kd) (b : f .p ≡ p) (c : f .q ≡ q) (d : f .r ≡ r) where
+  told-sizes : (o : Option (ℕ × ℕ × ℕ)) → sizes (f .kind) (f .p) (f .q) (f .r) ≡ o → sizes kd p q r ≡ o
+  told-sizes o e = rw (← a, ← b, ← c, ← d) e
+
+  told-formula : formulaOf kd p q r (f .n) (f .m) (f .firsts) (f .seconds) (f .rows) ≡ f
+  told-formula = rw (← a, ← b, ← c, ← d)
+
+refused-is : (o : Answer Admitted) (e : ℕ) → formulaReply o ≡ read.Refused e → o ≡ refused e
+refused-is (refused e′) e h = cc
+refused-is (accepted f) e h = absurd (let z : _≡_ {A = ℕ} 0 1 = cc in omega arith)
 
 -- ---- the numbers in the buffers
 take-filled : (n : ℕ) (xs d : List ℕ) → length xs ≡ n → take n (filled xs d) ≡ xs
@@ -40,68 +58,70 @@ take-filled n xs d e = ap (λ (k : ℕ). take k (filled xs d)) (sym e) ∙ take-
 filled-length : (xs d : List ℕ) → length xs ≤ length d → length (filled xs d) ≡ length d
 filled-length xs d h = length-append xs (drop (length xs) d) ∙ (let e = length-drop (length xs) d in omega arith)
 
-module _ (s : List ℕ) (kd : Kind) (p q r k : ℕ) (a b rows a₁ b₁ rows₁ : List ℕ) (la : length a ≡ 64) (lb : length b ≡ 64) (lr : length rows ≡ 64)
-    (told : read.Formula kd p q r k ≡ formulaReply (outcome s (length a) (length b) (length rows)))
-    (fa : a₁ ≡ firstOf (outcome s (length a) (length b) (length rows)) a) (fb : b₁ ≡ secondOf (outcome s (length a) (length b) (length rows)) b)
-    (fr : rows₁ ≡ rowsLent (outcome s (length a) (length b) (length rows)) rows) where
-  abbrev O : Outcome
-  O = outcome s (length a) (length b) (length rows)
+-- what is read into buffers of these lengths is what the call reads
+lent-as : (s a b rows : List ℕ) → length a ≡ mostProducts → length b ≡ mostProducts → length rows ≡ mostTargets
+    → formulaFile s mostProducts mostProducts mostTargets ≡ formulaFile s (length a) (length b) (length rows)
+lent-as s a b rows la lb lr = ap₂ (λ (x y : ℕ). formulaFile s x y mostTargets) (sym la) (sym lb) ∙ ap (formulaFile s (length a) (length b)) (sym lr)
+
+module _ (s : List ℕ) (kd : Kind) (p q r k : ℕ) (a b rows a₁ b₁ rows₁ : List ℕ) (la : length a ≡ mostProducts) (lb : length b ≡ mostProducts) (lr : length rows ≡ mostTargets)
+    (told : read.Formula kd p q r k ≡ formulaReply (formulaFile s (length a) (length b) (length rows)))
+    (fa : a₁ ≡ firstOf (formulaFile s (length a) (length b) (length rows)) a) (fb : b₁ ≡ secondOf (formulaFile s (length a) (length b) (length rows)) b)
+    (fr : rows₁ ≡ rowsLent (formulaFile s (length a) (length b) (length rows)) rows) where
+  abbrev O : Answer Admitted
+  O = formulaFile s (length a) (length b) (length rows)
 
   W : Was O kd p q r k
   W = was O kd p q r k (sym told)
 
-  xs : List ℕ
-  xs = W .0
+  f : Admitted
+  f = W .f
 
-  ys : List ℕ
-  ys = W .1
+  S : Sound (W .f) × BufferRoom (W .f) (length a) (length b) (length rows)
+  S = formula-accepted-sound s (length a) (length b) (length rows) (W .f) (W .is)
 
-  zs : List ℕ
-  zs = W .2
+  ea : a₁ ≡ filled (W .f .firsts) a
+  ea = fa ∙ ap (λ (o : Answer Admitted). firstOf o a) (W .is)
 
-  S : Sound kd p q r k (W .0) (W .1) (W .2) × BufferRoom k (length (W .2)) (length a) (length b) (length rows)
-  S = formula-accepted-sound s (length a) (length b) (length rows) kd p q r k (W .0) (W .1) (W .2) (W .3)
+  eb : b₁ ≡ filled (W .f .seconds) b
+  eb = fb ∙ ap (λ (o : Answer Admitted). secondOf o b) (W .is)
 
-  ea : a₁ ≡ filled (W .0) a
-  ea = fa ∙ ap (λ (o : Outcome). firstOf o a) (W .3)
+  er : rows₁ ≡ filled (W .f .rows) rows
+  er = fr ∙ ap (λ (o : Answer Admitted). rowsLent o rows) (W .is)
 
-  eb : b₁ ≡ filled (W .1) b
-  eb = fb ∙ ap (λ (o : Outcome). secondOf o b) (W .3)
-
-  er : rows₁ ≡ filled (W .2) rows
-  er = fr ∙ ap (λ (o : Outcome). rowsLent o rows) (W .3)
-
-  rows-out : outputsOf kd p q r ≡ length (W .2)
-  rows-out = outs kd p q r (S .0 .n, S .0 .m, length (W .2)) (S .0 .fits)
+  fits : sizes kd p q r ≡ some (W .f .n, W .f .m, length (W .f .rows))
+  fits = told-sizes (W .f) kd p q r (W .kind) (W .first) (W .second) (W .third) (some (W .f .n, W .f .m, length (W .f .rows))) (S .0 .fits)
 
   pub read-ready : FormulaBuffers kd p q r k a₁ b₁ rows₁
   read-ready =
       record {
-        n = S .0 .n;
-        m = S .0 .m;
-        u = length (W .2);
-        sized = S .0 .fits;
-        firsts = (let l = ap length ea ∙ filled-length (W .0) a (let f = S .0 .firsts in let g = S .1 .for-firsts in omega arith) in let g = S .1 .for-firsts in omega arith);
-        seconds = (let l = ap length eb ∙ filled-length (W .1) b (let f = S .0 .seconds in let g = S .1 .for-seconds in omega arith) in let g = S .1 .for-seconds in omega arith);
-        outputs = (let l = ap length er ∙ filled-length (W .2) rows (S .1 .for-rows) in let g = S .1 .for-rows in omega arith);
+        n = W .f .n;
+        m = W .f .m;
+        u = length (W .f .rows);
+        sized = fits;
+        firsts = (let l = ap length ea ∙ filled-length (W .f .firsts) a (S .1 .for-firsts) in omega (arith, l, W .products, S .1 .for-firsts));
+        seconds = (let l = ap length eb ∙ filled-length (W .f .seconds) b (S .1 .for-seconds) in omega (arith, l, W .products, S .0 .paired, S .1 .for-seconds));
+        outputs = (let l = ap length er ∙ filled-length (W .f .rows) rows (S .1 .for-rows) in omega (arith, l, S .1 .for-rows));
+        few = omega (arith, W .products, S .0 .few);
       }
 
-  -- what the buffers hold is what the file says
-  pub read-checks : checkFile s ≡ replyText kd p q r k (check (numberOf kd) p q r k (take k a₁) (take k b₁) (take (outputsOf kd p q r) rows₁))
+  -- the buffers hold the formula
+  in-buffers : formulaIn kd p q r k a₁ b₁ rows₁ ≡ W .f
+  in-buffers =
+      ap (λ (z : ℕ × ℕ × ℕ). formulaOf kd p q r (z .0) (z .1) (take k a₁) (take k b₁) (take (z .2) rows₁)) (sizes-in kd p q r (W .f .n, W .f .m, length (W .f .rows)) fits)
+      ∙ ap₂ (λ (x y : List ℕ). formulaOf kd p q r (W .f .n) (W .f .m) x y (take (length (W .f .rows)) rows₁))
+      (ap (take k) ea ∙ take-filled k (W .f .firsts) a (W .products)) (ap (take k) eb ∙ take-filled k (W .f .seconds) b (sym (S .0 .paired) ∙ W .products))
+      ∙ ap (formulaOf kd p q r (W .f .n) (W .f .m) (W .f .firsts) (W .f .seconds)) (ap (take (length (W .f .rows))) er ∙ take-filled (length (W .f .rows)) (W .f .rows) rows refl)
+      ∙ told-formula (W .f) kd p q r (W .kind) (W .first) (W .second) (W .third)
+
+  pub read-checks : checkFile s ≡ accepted (admittedText (formulaIn kd p q r k a₁ b₁ rows₁))
   unfolding checkFile
   read-checks =
-      ap checkRead (sixty ∙ W .3)
-      ∙ sym
-      (ap (replyText kd p q r k)
-      (ap₂ (λ (x y : List ℕ). check (numberOf kd) p q r k x y (take (outputsOf kd p q r) rows₁))
-      (ap (take k) ea ∙ take-filled k (W .0) a (S .0 .firsts)) (ap (take k) eb ∙ take-filled k (W .1) b (S .0 .seconds))
-      ∙ ap (check (numberOf kd) p q r k (W .0) (W .1)) (ap₂ take rows-out er ∙ take-filled (length (W .2)) (W .2) rows refl)))
-    where
-      sixty : outcome s 64 64 64 ≡ O
-      sixty = ap₂ (λ (x y : ℕ). outcome s x y 64) (sym la) (sym lb) ∙ ap (outcome s (length a) (length b)) (sym lr)
+      ap (λ (o : Answer Admitted). follow o (λ g. accepted (admittedText g))) (lent-as s a b rows la lb lr ∙ W .is)
+      ∙ sym (ap (λ (g : Admitted). accepted (admittedText g)) in-buffers)
 
-pub refused-checks : (s : List ℕ) (a b rows : List ℕ) (e : ℕ) → length a ≡ 64 → length b ≡ 64 → length rows ≡ 64
-    → read.Refused e ≡ formulaReply (outcome s (length a) (length b) (length rows)) → checkFile s ≡ refused e
+pub refused-checks : (s : List ℕ) (a b rows : List ℕ) (e : ℕ) → length a ≡ mostProducts → length b ≡ mostProducts → length rows ≡ mostTargets
+    → read.Refused e ≡ formulaReply (formulaFile s (length a) (length b) (length rows)) → checkFile s ≡ refused e
 unfolding checkFile
 refused-checks s a b rows e la lb lr told =
-    ap checkRead (ap₂ (λ (x y : ℕ). outcome s x y 64) (sym la) (sym lb) ∙ ap (outcome s (length a) (length b)) (sym lr) ∙ refused-is (outcome s (length a) (length b) (length rows)) e (sym told))
+    ap (λ (o : Answer Admitted). follow o (λ g. accepted (admittedText g)))
+    (lent-as s a b rows la lb lr ∙ refused-is (formulaFile s (length a) (length b) (length rows)) e (sym told))

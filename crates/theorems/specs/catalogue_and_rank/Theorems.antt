@@ -1,14 +1,17 @@
 -- What Catalogue and Rank say, in the words of document 01's demand: none missing, none twice, none fewer. To be read from top to bottom.
 --   CatalogueMeans, catalogue-means   found counts every space of k dimensions that contains the targets and is spanned by generators, each once
+--   catalogue-pinned                  no other reply means that
+--   look-up-means                     an entry asked for by its number is that entry's record
 --   RankMeans, rank-means             r is the least number of generators that compute the targets, and the buffer holds a formula with r products
 -- The definitions: catalogue (Catalogue), rank (Rank), posed (problems), entries and Solution (linear, Entry), Rank and Computes (linear, Rank). Assumes nothing.
-use mathlib.Core.Path.{_≡_, refl, sym, ap, _∙_, subst}
+use mathlib.Core.Path.{_≡_, refl, sym, ap, ap₂, _∙_, subst}
 use mathlib.Core.Logic.{_⊎_, inl, inr, _↔_}
 use mathlib.Core.Bool.{not}
 use mathlib.Core.List.{List, [], _∷_, _++_, map, List·Memᴰ, List·Memᴰ·head}
-use Prim.Native.Nat.{ℕ, _+_, _-_, _*_, _^_, _<_, _≤_}
+use Prim.Native.Nat.{ℕ, zero, suc, _+_, _-_, _*_, _^_, _<_, _≤_}
 use native.Mathlib.Omega.{arith}
-use lib.ListN.{length, take, drop}
+use native.Mathlib.Decide.{decLt}
+use lib.ListN.{length, take, drop, getD, length-append, length-take, length-drop}
 use lib.Dec.{ltb, eqb}
 use borrow.Author.Tests.{eqb-true, ltb-false, not-false}
 use Rattle.kinds.specs.Refusal.{accepted, refuse}
@@ -19,24 +22,34 @@ use Rattle.problems.specs.Problem.{Problem, posed}
 use Rattle.linear.specs.Basis.{dim}
 use Rattle.linear.specs.Order.{Before, Rising, Ordered}
 use Rattle.linear.specs.Select.{Once}
-use Rattle.linear.specs.Entry.{Solution, space, entries, chosen}
+use Rattle.linear.specs.Span.{SameSpan}
+use Rattle.linear.specs.Entry.{Solution, SolutionSpace, space, entries, chosen}
 use Rattle.linear.specs.Rank.{Chosen, Computes}
 use Rattle.linear.specs.Formulae as formulae
 use Rattle.linear.specs.Formulae.{Fewest, formula, fewest, RankFormula}
 use Rattle.linear.specs.Word.{word}
-use Rattle.linear.specs.Theorems.{entry-solves, solution-listed, spaces-once, entries-in-order, extension-first, no-fewer, rank-formula, rank-exactly, rank-above, rank-beyond}
-use Rattle.linear.specs.laws.Order.{mem-map, mem-map-inv}
+use Rattle.linear.specs.Theorems.{one-basis, entry-solves, solution-listed, spaces-once, space-once, entry-space, entries-in-order, extension-shape, extension-first, no-fewer, rank-formula, rank-exactly, rank-above, rank-beyond}
+use Rattle.linear.specs.laws.Order.{before-asym, ordered-same, mem-getD, mem-map, mem-map-inv}
+use Rattle.linear.specs.laws.Entry.{space-reduced}
 use Rattle.linear.specs.laws.Rank.{solution-within, entries-below}
 use Rattle.bases.specs.rows.Rows.{rowOf}
 use Rattle.bases.specs.rows.laws.Rows.{row-sum, row-only}
-use Rattle.catalogue.specs.listing.laws.Run.{fitting-none}
-use Rattle.catalogue.specs.listing.Listing.{records, recordLength, flat, fitting}
+use Rattle.catalogue.specs.listing.laws.Run.{fitting-le, fitting-none}
+use Rattle.catalogue.specs.listing.laws.Placed.{entry-placed}
+use Rattle.catalogue.specs.listing.Listing.{records, flat, fitting}
 use Rattle.first_formula.specs.Choice.{formulaRecord}
 use Rattle.rank.specs.fewest.Fewest.{Ranking, is, above, beyond, written, ranking}
 use Rattle.catalogue.specs.Catalogue.{Catalogued, entryListing, catalogue}
 use Rattle.rank.specs.Rank.{rank}
+use Rattle.records.specs.Length.{recordLength}
+use Rattle.records.specs.lookup.Lookup.{lookup}
+use Rattle.records.specs.lookup.laws.Lookup.{not-shown, held}
 
 -- ---- Catalogue
+-- the record of an entry, by its extension
+abbrev pub entryRecord : List ℕ → List ℕ → List ℕ → List ℕ
+entryRecord gens targets es = es ++ space word gens targets es
+
 pub record CatalogueMeans (gens targets : List ℕ) (k : ℕ) (old : List ℕ) (c : Catalogued) : Type 0 where
   -- ℓ is the dimension of the targets' span
   pub ell : c .ell ≡ dim word targets
@@ -47,12 +60,21 @@ pub record CatalogueMeans (gens targets : List ℕ) (k : ℕ) (old : List ℕ) (
   pub all : (W : List ℕ) → List·Memᴰ W (map (space word gens targets) extensions) ↔ Solution word gens targets k W
   -- none comes twice
   pub once : Once (space word gens targets) extensions
+  -- the same of a space that is given by any list of vectors: it is spanned by exactly one of them, and each of them is such a space
+  pub each-space : (X : List ℕ) → SolutionSpace word gens targets k X
+      → (es : List ℕ) × List·Memᴰ es extensions × SameSpan word (space word gens targets es) X
+      × ((fs : List ℕ) → List·Memᴰ fs extensions → SameSpan word (space word gens targets fs) X → fs ≡ es)
+  pub every-entry : (es : List ℕ) → List·Memᴰ es extensions → SolutionSpace word gens targets k (space word gens targets es)
+  -- an extension is a "set of k − ℓ menu numbers .. written ascending"
+  pub shape : (es : List ℕ) → List·Memᴰ es extensions → (length es ≡ k - dim word targets) × Rising 0 (length gens) es
   -- "Entries are listed in dictionary order of their extensions"; an extension is the "first in dictionary order" of all k − ℓ numbers with its space
   pub ordered : Ordered Before extensions
   pub first : (es fs : List ℕ) → List·Memᴰ es extensions → length fs ≡ k - dim word targets → Rising 0 (length gens) fs → space word gens targets fs ≡ space word gens targets es → (es ≡ fs) ⊎ Before es fs
   -- the first shown records, then the old content
-  pub shown : c .shown ≡ fitting (recordLength targets k) (c .found) (length old)
-  pub buffer : c .buffer ≡ flat (take (c .shown) (map (λ es. es ++ space word gens targets es) extensions)) ++ drop (c .shown * recordLength targets k) old
+  pub shown : c .shown ≡ fitting (recordLength (dim word targets) k) (c .found) (length old)
+  pub buffer : c .buffer ≡ flat (take (c .shown) (map (entryRecord gens targets) extensions)) ++ drop (c .shown * recordLength (dim word targets) k) old
+  -- record i stands at i times its length: "the extension ascending, then the k rows of its reduced basis"
+  pub record-at : (i : ℕ) → i < c .shown → take (recordLength (c .ell) k) (drop (i * recordLength (c .ell) k) (c .buffer)) ≡ entryRecord gens targets (getD extensions i [])
   -- "For k below ℓ, or above what the menu spans, found and shown are 0."
   pub outside : (k < dim word targets) ⊎ (dim word gens < k) → (c .found ≡ 0) × (c .shown ≡ 0)
   -- no entry, though the generators span k dimensions: no k or fewer of them compute the targets
@@ -107,13 +129,61 @@ module _ (gens targets : List ℕ) (k : ℕ) where
         found = refl;
         all = spaces-all;
         once = spaces-once word gens targets k;
+        each-space = space-once word gens targets k;
+        every-entry = entry-space word gens targets k;
+        shape = extension-shape word gens targets k;
         ordered = entries-in-order word gens targets k;
         first = extension-first word gens targets k;
         shown = refl;
         buffer = refl;
-        outside = λ h. (nothing-outside h, ap (λ (c : ℕ). fitting (recordLength targets k) c (length old)) (nothing-outside h) ∙ fitting-none (recordLength targets k) (length old));
+        record-at =
+            λ i h.
+            let size = recordLength (dim word targets) k in
+            let shown = fitting size (length (entries word gens targets k)) (length old) in
+            entry-placed gens targets k (drop (shown * size) old) shown i h (fitting-le size (length (entries word gens targets k)) (length old));
+        outside = λ h. (nothing-outside h, ap (λ (c : ℕ). fitting (recordLength (dim word targets) k) c (length old)) (nothing-outside h) ∙ fitting-none (recordLength (dim word targets) k) (length old));
         none = λ e h xs. no-fewer word gens targets k h (no-entries e) xs;
       }
+
+-- ---- what is said is the only reply that means this
+module _ (gens targets : List ℕ) (k : ℕ) (old : List ℕ) (c d : Catalogued) (M : CatalogueMeans gens targets k old c) (N : CatalogueMeans gens targets k old d) where
+  -- an extension of the one is of the other
+  moved : (es : List ℕ) → List·Memᴰ es (M .extensions) → List·Memᴰ es (N .extensions)
+  moved es m =
+      let E = N .each-space (space word gens targets es) (M .every-entry es m) in
+      let F = N .shape (E .0) (E .1) in
+      let G = M .shape es m in
+      let q : space word gens targets (E .0) ≡ space word gens targets es =
+      one-basis word (space word gens targets (E .0)) (space word gens targets es) (space-reduced word gens targets (E .0)) (space-reduced word gens targets es) (E .2) in
+      subst (λ (fs : List ℕ). List·Memᴰ fs (N .extensions)) (sym (same (E .0) (M .first es (E .0) m (F .0) (F .1) q) (N .first (E .0) es (E .1) (G .0) (G .1) (sym q)))) (E .1)
+    where
+      same : (fs : List ℕ) → (es ≡ fs) ⊎ Before es fs → (fs ≡ es) ⊎ Before fs es → es ≡ fs
+      same fs (inl e) b = e
+      same fs (inr a) (inl e) = sym e
+      same fs (inr a) (inr b) = absurd (before-asym es fs a b)
+
+pub catalogue-pinned : (gens targets : List ℕ) (k : ℕ) (old : List ℕ) (c d : Catalogued) → CatalogueMeans gens targets k old c → CatalogueMeans gens targets k old d → c ≡ d
+catalogue-pinned gens targets k old c d M N =
+    ap₂ (λ (x : ℕ × ℕ) (y : ℕ × List ℕ). record { ell = x .0; found = x .1; shown = y .0; buffer = y .1 })
+    (ap₂ (λ (l f : ℕ). (l, f)) ell found) (ap₂ (λ (s : ℕ) (b : List ℕ). (s, b)) shown buffer)
+  where
+    ell : c .ell ≡ d .ell
+    ell = M .ell ∙ sym (N .ell)
+
+    extensions : M .extensions ≡ N .extensions
+    extensions = ordered-same (M .extensions) (N .extensions) (M .ordered) (N .ordered) (λ es. (moved gens targets k old c d M N es, moved gens targets k old d c N M es))
+
+    found : c .found ≡ d .found
+    found = M .found ∙ ap length extensions ∙ sym (N .found)
+
+    shown : c .shown ≡ d .shown
+    shown = M .shown ∙ ap (λ (f : ℕ). fitting (recordLength (dim word targets) k) f (length old)) found ∙ sym (N .shown)
+
+    buffer : c .buffer ≡ d .buffer
+    buffer =
+        M .buffer
+        ∙ ap₂ (λ (s : ℕ) (l : List (List ℕ)). flat (take s (map (entryRecord gens targets) l)) ++ drop (s * recordLength (dim word targets) k) old) shown extensions
+        ∙ sym (N .buffer)
 
 pub catalogue-means : (number p q r k : ℕ) (gs ts old : List ℕ) (c : Catalogued) → catalogue number p q r k gs ts old ≡ accepted c
     → (x : Problem) × (posed number p q r gs ts [] ≡ accepted x) × (k ≤ dim word (x .targets) + 6) × CatalogueMeans (x .generators) (x .targets) k old c
@@ -127,6 +197,51 @@ catalogue-means number p q r k gs ts old c e =
       subst (CatalogueMeans (i .0 .generators) (i .0 .targets) k old)
           (accepted-inj (entryListing (i .0) k old) c (j .1)) (listing-means (i .0 .generators) (i .0 .targets) k old),
     )
+
+-- ---- the look-up
+-- a part of n words from i times n on, where there are n words, is within w
+stretch : (i n w : ℕ) → n ≤ w - i * n → i * n + n ≤ w
+stretch i zero w h = let z : i * 0 ≡ 0 = omega arith in omega arith
+stretch i (suc n) w h = omega arith
+
+-- Document 01: "An entry asked for by its number comes back as that stretch of the listing buffer; a number not below shown .. brings back an empty one."
+pub look-up-means : (gens targets : List ℕ) (k : ℕ) (old : List ℕ) (c : Catalogued) (M : CatalogueMeans gens targets k old c) (number : ℕ)
+    → (number < c .shown → lookup (c .ell) k (c .shown) number (c .buffer) ≡ entryRecord gens targets (getD (M .extensions) number []))
+    × (c .shown ≤ number → lookup (c .ell) k (c .shown) number (c .buffer) ≡ [])
+look-up-means gens targets k old c M number = (
+  λ h. sym (held (c .ell) k (c .shown) number (c .buffer) h (near h) (room h))
+      ∙ ap (λ (n : ℕ). take n (drop (number * recordLength (c .ell) k) (c .buffer)))
+      (let q : number * recordLength (c .ell) k + recordLength (c .ell) k - number * recordLength (c .ell) k ≡ recordLength (c .ell) k = omega arith in q)
+      ∙ M .record-at number h,
+  λ h. sym (not-shown (c .ell) k (c .shown) number (c .buffer) h),
+)
+  where
+    near : number < c .shown → c .ell ≤ k
+    near h = go (decLt k (dim word targets))
+      where
+        go : Dec (k < dim word targets) → c .ell ≤ k
+        go (yes l) = absurd (let z = M .outside (inl l) .1 in omega arith)
+        go (no l) = let e = M .ell in omega arith
+
+    room : number < c .shown → number * recordLength (c .ell) k + recordLength (c .ell) k ≤ length (c .buffer)
+    room h =
+        let es : List ℕ = getD (M .extensions) number [] in
+        let few : c .shown ≤ c .found = subst (λ (s : ℕ). s ≤ c .found) (sym (M .shown)) (fitting-le (recordLength (dim word targets) k) (c .found) (length old)) in
+        let m : List·Memᴰ es (M .extensions) = mem-getD (M .extensions) number [] (let f = M .found in omega arith) in
+        let a : length es ≡ k - dim word targets = M .shape es m .0 in
+        let b : length (space word gens targets es) ≡ k = M .all (space word gens targets es) .0 (mem-map (space word gens targets) m) .size in
+        let l : length (take (recordLength (c .ell) k) (drop (number * recordLength (c .ell) k) (c .buffer))) ≡ length (es ++ space word gens targets es) = ap length (M .record-at number h) in
+        stretch number (recordLength (c .ell) k) (length (c .buffer))
+        (omega (
+          arith,
+          l,
+          a,
+          b,
+          M .ell,
+          length-append es (space word gens targets es),
+          length-take (recordLength (c .ell) k) (drop (number * recordLength (c .ell) k) (c .buffer)),
+          length-drop (number * recordLength (c .ell) k) (c .buffer),
+        ))
 
 module _ (gens targets old : List ℕ) where
   formula-means : (es : List ℕ) → RankFormula word gens targets es → (t : ℕ) → List·Memᴰ t targets → rowForm (chosen word gens es) (rowOf (chosen word gens es) t) 0 ≡ t

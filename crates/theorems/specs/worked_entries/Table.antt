@@ -34,7 +34,7 @@ use Rattle.catalogue.specs.Catalogue.{Catalogued, entryListing, catalogue}
 use Rattle.rank.specs.Rank.{rank}
 use Rattle.space_formulae.specs.spaces.Spaces as space
 use Rattle.space_formulae.specs.spaces.Spaces.{isEntry, formulaeOf}
-use Rattle.formula_check.specs.Formula.{firstWrong, lengths, judged, check}
+use Rattle.formula_check.specs.Formula.{firstWrong, passed, admit, lengths, check}
 use Rattle.formula_check.specs.sums.Sums.{productForms, addersOf}
 use Rattle.forms.specs.Row.{rowForm}
 
@@ -117,7 +117,7 @@ held-catalogues = (refl, refl, refl, refl, refl)
 -- Check's lines
 held-checks : LineHolds right × LineHolds wrongRow
 unfolding bit kindNumbered within polySizes wide zeroIn formOf productForm weight pair targetForm productForms rowForm firstWrong addersOf lengths
-    judged check
+    passed admit check
 held-checks = (refl, refl)
 
 -- Rank's lines

@@ -11,12 +11,10 @@ use native.Mathlib.Omega.{arith}
 use lib.ListN.{length, take, drop, length-append, length-map, length-take}
 use lib.Seq.{take-take}
 use Rattle.linear.specs.Basis.{basisOf, dim}
-use Rattle.linear.specs.Order.{risingLists}
-use Rattle.linear.specs.Entry.{sameBasis, fits, entries, space}
+use Rattle.linear.specs.Entry.{entries, space}
 use Rattle.linear.specs.Word.{word}
-use Rattle.linear.specs.laws.Order.{rising-sound, mem-map-inv}
-use Rattle.linear.specs.laws.Select.{first-mem}
-use Rattle.linear.specs.laws.Entry.{sameBasis-yes, sameBasis-no, entries-sound}
+use Rattle.linear.specs.laws.Order.{mem-map-inv}
+use Rattle.linear.specs.laws.Entry.{entries-sound, entries-shape}
 use Rattle.linear.specs.laws.Rank.{entries-below}
 use Rattle.linear.specs.laws.Count.{entries-count}
 use Rattle.records.specs.declared.Tally.{Tally}
@@ -26,19 +24,15 @@ use Rattle.catalogue.specs.walk.Walk.{search}
 use Rattle.catalogue.specs.walk.laws.Search.{search-is}
 use Rattle.catalogue.specs.declared.listing.Listing.{Listing}
 use Rattle.catalogue.specs.listing.Walked.{start}
-use Rattle.catalogue.specs.listing.Listing.{records, recordLength, flat, fitting, SearchAsked, Listed}
+use Rattle.catalogue.specs.listing.Listing.{records, flat, fitting, SearchAsked, Listed}
 use Rattle.catalogue.specs.listing.laws.Run.{fitting-le, fitting-none, afterAll, run-limit}
+use Rattle.records.specs.Length.{recordLength}
 
-pub record-length : (gens targets : List ℕ) (k : ℕ) (r : List ℕ) → List·Memᴰ r (records gens targets k) → length r ≡ recordLength targets k
-unfolding records entries
+pub record-length : (gens targets : List ℕ) (k : ℕ) (r : List ℕ) → List·Memᴰ r (records gens targets k) → length r ≡ recordLength (dim word targets) k
+unfolding records
 record-length gens targets k =
-    mem-map-inv (λ es. es ++ space word gens targets es) (λ r. length r ≡ recordLength targets k) (entries word gens targets k)
-    (λ es m. length-append es (space word gens targets es) ∙ ap₂ _+_ (number es m) (entries-sound word gens targets k es m .size))
-  where
-    number : (es : List ℕ) → List·Memᴰ es (entries word gens targets k) → length es ≡ k - dim word targets
-    number es m =
-        rising-sound (length gens) 0 (k - dim word targets) (length gens) (omega arith) es
-        (first-mem (space word gens targets) (fits word gens k) (sameBasis word) (sameBasis-yes word) (sameBasis-no word) (risingLists (length gens) 0 (k - dim word targets)) [] es m .0) .0
+    mem-map-inv (λ es. es ++ space word gens targets es) (λ r. length r ≡ recordLength (dim word targets) k) (entries word gens targets k)
+    (λ es m. length-append es (space word gens targets es) ∙ ap₂ _+_ (entries-shape word gens targets k es m .0) (entries-sound word gens targets k es m .size))
 
 pub records-length : (gens targets : List ℕ) (k : ℕ) → length (records gens targets k) ≡ length (entries word gens targets k)
 unfolding records
@@ -58,8 +52,8 @@ listed-below gens targets k l limit buffer e h =
     record {
       ell = e;
       found = omega (arith, z);
-      shown = sym (fitting-none (recordLength targets k) (length buffer));
-      buffer = ap (λ (x : ℕ). drop x buffer) (let q : 0 ≡ 0 * recordLength targets k = omega arith in q);
+      shown = sym (fitting-none (recordLength (dim word targets) k) (length buffer));
+      buffer = ap (λ (x : ℕ). drop x buffer) (let q : 0 ≡ 0 * recordLength (dim word targets) k = omega arith in q);
     }
 
 pub listed-run : (gens targets : List ℕ) (k limit : ℕ) (buffer : List ℕ) → dim word targets ≤ k → (l : ℕ) → l ≡ dim word targets → (t : Tally) (last : List ℕ)
@@ -69,7 +63,7 @@ listed-run gens targets k limit buffer h l e t last q =
     record { ell = e; found = count; shown = shown; buffer = content }
   where
     n : ℕ
-    n = recordLength targets k
+    n = recordLength (dim word targets) k
 
     rs : List (List ℕ)
     rs = records gens targets k

@@ -2,7 +2,7 @@
 -- they agree at every input; and the first row whose form is not the target's is found. Assumes nothing.
 use mathlib.Core.Path.{_≡_, refl, sym, ap, ap₂, _∙_, subst}
 use mathlib.Core.Logic.{_≢_, _↔_}
-use mathlib.Core.Bool.{Bool, true, false, not, _&&_, _||_, cond}
+use mathlib.Core.Bool.{Bool, true, false, not, _&&_, _||_, cond, true≢false}
 use mathlib.Core.List.{List, [], _∷_}
 use mathlib.Core.Option.{Option, none, some}
 use Prim.Native.Nat.{ℕ, zero, suc, _+_, _*_, _^_, _<_, _≤_}
@@ -16,11 +16,11 @@ use lib.Pow.{pow-pos}
 use borrow.Author.Tests.{eq-eqb, ne-eqb, eqb-true, not-false}
 use Rattle.linear.specs.Bit.{bit, xorB}
 use Rattle.linear.specs.Word.{scaleW}
-use Rattle.kinds.specs.Kinds.{kindNumbered}
+use Rattle.kinds.specs.Kinds.{kindNumbered, isList}
 use Rattle.kinds.specs.Sizes.{sizes}
 use Rattle.kinds.specs.laws.Sizes.{sizes-bounds}
-use Rattle.kinds.specs.Refusal.{accepted, need}
-use Rattle.kinds.specs.laws.Refusal.{accepted-inj, need-inv, refuse-inv, neither}
+use Rattle.kinds.specs.Refusal.{accepted}
+use Rattle.kinds.specs.laws.Refusal.{accepted-inj, follow-inv, neither}
 use Rattle.words.specs.Masks.{wide, zeroIn}
 use Rattle.kinds.specs.declared.Kind.{Kind}
 use Rattle.kinds.specs.declared.Kind.the-variants as kind
@@ -29,10 +29,11 @@ use Rattle.forms.specs.products.laws.Product.{product-below}
 use Rattle.maps.specs.Textbook.{output}
 use Rattle.maps.specs.Target.{value, targetForm}
 use Rattle.maps.specs.Meaning.{target-value, target-below, value-xor, value-zero, value-product, value-equal, value-differs}
-use Rattle.formula_check.specs.Formula.{formulaOutput, firstWrong, adders, knownMap, lengths, judged, check}
+use Rattle.formula_check.specs.Formula.{formulaOutput, firstWrong, Lists, Admitted, formulaOf, admit, lengths, listsHanded, verdict, check}
 use Rattle.formula_check.specs.sums.Sums.{productForms}
 use Rattle.forms.specs.Row.{rowForm}
-use Rattle.formula_check.specs.meaning.Meaning.{gives, Agrees, Right, FirstDiffers, Means}
+use Rattle.formula_check.specs.laws.Admitted.{admit-inv}
+use Rattle.formula_check.specs.meaning.Meaning.{gives, Agrees, Right, FirstDiffers, RightFormula, FormulaDiffers, Means}
 
 -- ---- a row's form
 scale-value : (n m : ℕ) (a b : ℕ → Bool) (c : Bool) (f : ℕ) → value n m (scaleW c f) a b ≡ c && value n m f a b
@@ -146,9 +147,9 @@ module _ (kd : Kind) (p q r n m : ℕ) (xs ys rows : List ℕ) (sized : sizes kd
       let x = value-differs n m (rowForm (productForms n m xs ys) (getD rows t 0) 0) (targetForm kd p q r n m t) (row-below n m xs ys (getD rows t 0) 0) (target-below kd p q r n m t) d in
       (x .0, x .1, x .2, x .3, λ e. x .4 (given-here t (x .0) (x .1) ∙ e ∙ sym (wanted-here t h (x .0) (x .1))))
 
-  -- ---- the verdict
-  abbrev verdict : Option ℕ
-  verdict = firstWrong kd p q r n m (productForms n m xs ys) rows 0
+  -- ---- the said
+  abbrev said : Option ℕ
+  said = firstWrong kd p q r n m (productForms n m xs ys) rows 0
 
   -- what was found, from output 0 on
   abbrev Verdict : Option ℕ → Type 0
@@ -165,8 +166,8 @@ module _ (kd : Kind) (p q r n m : ℕ) (xs ys rows : List ℕ) (sized : sizes kd
       subst (λ (x : ℕ). (x < length rows) × (Equal x → ⊥) × ((s : ℕ) → s < x → Equal s)) (sym e)
       (f .2 .0, (λ g. f .2 .1 (g ∙ ap (targetForm kd p q r n m) (sym (zero-plus (f .0))))), λ s h. f .2 .2 s h ∙ ap (targetForm kd p q r n m) (zero-plus s))
 
-  found : Verdict verdict
-  found = from-zero verdict (first-found kd p q r n m (productForms n m xs ys) rows 0)
+  found : Verdict said
+  found = from-zero said (first-found kd p q r n m (productForms n m xs ys) rows 0)
 
   differ-no : (t : ℕ) → t < length rows → Differs t → Equal t → ⊥
   differ-no t h d e = d .4 (equal-agrees t h e (d .0) (d .1) (d .2) (d .3))
@@ -198,22 +199,23 @@ module _ (kd : Kind) (p q r n m : ℕ) (xs ys rows : List ℕ) (sized : sizes kd
       same g (no l) (yes b) = absurd (differ-no t (g .there) (g .differs) (f .2 t b))
       same g (no l) (no b) = omega arith
 
-  pub right-iff : (verdict ≡ none) ↔ Right kd p q r n m xs ys rows
-  right-iff = none-right verdict found
+  pub right-iff : (said ≡ none) ↔ Right kd p q r n m xs ys rows
+  right-iff = none-right said found
 
-  pub wrong-iff : (t : ℕ) → (verdict ≡ some t) ↔ FirstDiffers kd p q r n m xs ys rows t
-  wrong-iff = some-wrong verdict found
+  pub wrong-iff : (t : ℕ) → (said ≡ some t) ↔ FirstDiffers kd p q r n m xs ys rows t
+  wrong-iff = some-wrong said found
+
+-- ---- the verdict on an admitted formula
+not-list : (kd : Kind) → isList kd ≡ false → kd ≢ kind.List
+not-list kd h z = absurd (true≢false (ap isList (sym z) ∙ h))
+
+pub verdict-means : (f : Admitted) → sizes (f .kind) (f .p) (f .q) (f .r) ≡ some (f .n, f .m, length (f .rows)) → isList (f .kind) ≡ false
+    → ((verdict f .0 ≡ none) ↔ RightFormula f) × ((t : ℕ) → (verdict f .0 ≡ some t) ↔ FormulaDiffers f t)
+verdict-means f S h =
+    let N = not-list (f .kind) h in
+    (right-iff (f .kind) (f .p) (f .q) (f .r) (f .n) (f .m) (f .firsts) (f .seconds) (f .rows) S N, wrong-iff (f .kind) (f .p) (f .q) (f .r) (f .n) (f .m) (f .firsts) (f .seconds) (f .rows) S N)
 
 -- ---- an accepted reply
--- a kind that has formulae is the one named, and not list
-known-inv : (o : Option Kind) (kd : Kind) → knownMap o ≡ some kd → (o ≡ some kd) × (kd ≢ kind.List)
-known-inv none kd e = absurd (let z : _≡_ {A = ℕ} 0 1 = cc in omega arith)
-known-inv (some kind.Poly) kd e = (e, λ z. absurd (let z : _≡_ {A = ℕ} 0 1 = cc in omega arith))
-known-inv (some kind.Short) kd e = (e, λ z. absurd (let z : _≡_ {A = ℕ} 0 1 = cc in omega arith))
-known-inv (some kind.Circ) kd e = (e, λ z. absurd (let z : _≡_ {A = ℕ} 0 1 = cc in omega arith))
-known-inv (some kind.Mat) kd e = (e, λ z. absurd (let z : _≡_ {A = ℕ} 0 1 = cc in omega arith))
-known-inv (some kind.List) kd e = absurd (let z : _≡_ {A = ℕ} 0 1 = cc in omega arith)
-
 pub lengths-inv : (k u : ℕ) (xs ys rows : List ℕ) → lengths k u xs ys rows ≡ false → (length xs ≡ k) × (length ys ≡ k) × (length rows ≡ u)
 unfolding lengths
 lengths-inv k u xs ys rows e =
@@ -221,44 +223,37 @@ lengths-inv k u xs ys rows e =
     let b = neither (not (eqb (length ys) k)) (not (eqb (length rows) u)) (a .1) in
     (eqb-true (length xs) k (not-false (eqb (length xs) k) (a .0)), eqb-true (length ys) k (not-false (eqb (length ys) k) (b .0)), eqb-true (length rows) u (not-false (eqb (length rows) u) (b .1)))
 
-judged-inv : (kd : Kind) (p q r n m u k : ℕ) (xs ys rows : List ℕ) (x : Option ℕ × ℕ) → judged kd p q r n m u k xs ys rows ≡ accepted x
-    → (lengths k u xs ys rows ≡ false) × ((firstWrong kd p q r n m (productForms n m xs ys) rows 0, adders xs ys rows) ≡ x)
-unfolding judged
-judged-inv kd p q r n m u k xs ys rows x e =
-    let a = refuse-inv 5 (lengths k u xs ys rows) _ x e in
-    let b = refuse-inv 6 (wide n xs || (wide m ys || wide k rows)) _ x (a .1) in
-    let c = refuse-inv 7 (zeroIn xs || zeroIn ys) _ x (b .1) in
-    let d = refuse-inv 8 (ltb 64 k) _ x (c .1) in
-    (a .0, accepted-inj (firstWrong kd p q r n m (productForms n m xs ys) rows 0, adders xs ys rows) x (d .1))
+-- the lists that are handed in, where they have the right lengths
+handed-inv : (k u : ℕ) (xs ys rows : List ℕ) (l : Lists) → listsHanded k xs ys rows u ≡ some l → (lengths k u xs ys rows ≡ false) × ((xs, ys, rows) ≡ l)
+handed-inv k u xs ys rows l e = go (lengths k u xs ys rows) refl e
+  where
+    go : (b : Bool) → lengths k u xs ys rows ≡ b → cond b none (some (xs, ys, rows)) ≡ some l → (lengths k u xs ys rows ≡ false) × ((xs, ys, rows) ≡ l)
+    go true q h = absurd (let z : _≡_ {A = ℕ} 0 1 = cc in omega arith)
+    go false q h = (q, cc)
 
 pub check-means : (number p q r k : ℕ) (xs ys rows : List ℕ) (v : Option ℕ) (w : ℕ) → check number p q r k xs ys rows ≡ accepted (v, w) → Means number p q r k xs ys rows v w
 unfolding check
 check-means number p q r k xs ys rows v w e =
-    go (need-inv 2 (knownMap (kindNumbered number)) _ (v, w) e)
-  where
-    step : (kd : Kind) → knownMap (kindNumbered number) ≡ some kd → (z : ℕ × ℕ × ℕ) → sizes kd p q r ≡ some z → judged kd p q r (z .0) (z .1) (z .2) k
-        xs ys rows ≡ accepted (v, w) → Means number p q r k xs ys rows v w
-    step kd K z S j =
-        let i = judged-inv kd p q r (z .0) (z .1) (z .2) k xs ys rows (v, w) j in
-        let l = lengths-inv k (z .2) xs ys rows (i .0) in
-        let N = known-inv (kindNumbered number) kd K in
-        let T : sizes kd p q r ≡ some (z .0, z .1, length rows) = S ∙ ap (λ (u : ℕ). some (z .0, z .1, u)) (sym (l .2)) in
-        let E : firstWrong kd p q r (z .0) (z .1) (productForms (z .0) (z .1) xs ys) rows 0 ≡ v = ap (λ (x : Option ℕ × ℕ). x .0) (i .1) in
-        record {
-          kd = kd;
-          n = z .0;
-          m = z .1;
-          named = N .0;
-          map = N .1;
-          sized = T;
-          products = l .0;
-          pairs = l .1;
-          right = subst (λ (o : Option ℕ). (o ≡ none) ↔ Right kd p q r (z .0) (z .1) xs ys rows) E
-              (right-iff kd p q r (z .0) (z .1) xs ys rows T (N .1));
-          wrong = λ t. subst (λ (o : Option ℕ). (o ≡ some t) ↔ FirstDiffers kd p q r (z .0) (z .1) xs ys rows t) E
-              (wrong-iff kd p q r (z .0) (z .1) xs ys rows T (N .1) t);
-          cost = sym (ap (λ (x : Option ℕ × ℕ). x .1) (i .1));
-        }
-
-    go : (kd : Kind) × (knownMap (kindNumbered number) ≡ some kd) × ((need 3 (sizes kd p q r) λ z. judged kd p q r (z .0) (z .1) (z .2) k xs ys rows) ≡ accepted (v, w)) → Means number p q r k xs ys rows v w
-    go (kd, K, f) = let s = need-inv 3 (sizes kd p q r) (λ z. judged kd p q r (z .0) (z .1) (z .2) k xs ys rows) (v, w) f in step kd K (s .0) (s .1) (s .2)
+    let i = follow-inv (admit (kindNumbered number) p q r k (listsHanded k xs ys rows)) (λ f. accepted (verdict f)) (v, w) e in
+    let A = admit-inv (kindNumbered number) p q r k (listsHanded k xs ys rows) (i .0) (i .1) in
+    let kd = A .kd in
+    let H = handed-inv k (A .u) xs ys rows (A .l) (A .listed) in
+    let l = lengths-inv k (A .u) xs ys rows (H .0) in
+    let T : sizes kd p q r ≡ some (A .n, A .m, length rows) = A .sized ∙ ap (λ (u : ℕ). some (A .n, A .m, u)) (sym (l .2)) in
+    let F : formulaOf kd p q r (A .n) (A .m) xs ys rows ≡ i .0 = ap (λ (l : Lists). formulaOf kd p q r (A .n) (A .m) (l .0) (l .1) (l .2)) (H .1) ∙ A .is in
+    let N = not-list kd (A .is-map) in
+    let J : verdict (formulaOf kd p q r (A .n) (A .m) xs ys rows) ≡ (v, w) = ap verdict F ∙ accepted-inj (verdict (i .0)) (v, w) (i .2) in
+    let E : firstWrong kd p q r (A .n) (A .m) (productForms (A .n) (A .m) xs ys) rows 0 ≡ v = ap (λ (x : Option ℕ × ℕ). x .0) J in
+    record {
+      kd = kd;
+      n = A .n;
+      m = A .m;
+      named = A .is-named;
+      map = N;
+      sized = T;
+      products = l .0;
+      pairs = l .1;
+      right = subst (λ (o : Option ℕ). (o ≡ none) ↔ Right kd p q r (A .n) (A .m) xs ys rows) E (right-iff kd p q r (A .n) (A .m) xs ys rows T N);
+      wrong = λ t. subst (λ (o : Option ℕ). (o ≡ some t) ↔ FirstDiffers kd p q r (A .n) (A .m) xs ys rows t) E (wrong-iff kd p q r (A .n) (A .m) xs ys rows T N t);
+      cost = sym (ap (λ (x : Option ℕ × ℕ). x .1) J);
+    }

@@ -1,16 +1,15 @@
 -- `formulae_program::first_part::put_head` meets its contract. Assumes nothing.
-use Rattle.formulae_program.specs.first_part.laws.Start.{head-put}
 use borrow.Author.Needs.{needs}
+use Rattle.formulae_program.specs.first_part.laws.Start.{head-put}
 use Rattle.formulae_program.proofs.first_part.put_head.Statement.{statement}
 use Rattle.formulae_program.proofs.first_part.put_head.Tie as tie
 
 returns : tie.Need-returns
 returns c =
     let args = c .before .before .before .before .before .before .before .before .before .before .args in
-    let pre = c .before .before .before .before .before .before .before .before .before .before .pre in
-    let put-counts = c .before .before .before .before .before .before .before .put-counts in
-    head-put (args .kind) (args .p) (args .q) (args .r) (args .k) (args .ell) (args .found) (args .shown) _ _ (args .page .now) _ _ pre
-    (put-counts .ensures) (c .before .before .put-bytes .ensures)
+    let counts = c .before .before .before .before .before .before .before .put-counts in
+    head-put (args .kind) (args .p) (args .q) (args .r) (args .k) (args .ell) (args .found) (args .shown) _ _ _ _ _ (counts .ensures)
+    (c .before .before .put-bytes .ensures)
 
 pub put-head-spec : {M : Type 1} → statement M
 put-head-spec =

@@ -21,7 +21,7 @@ use Rattle.maps.specs.Generators.{countOf}
 use Rattle.problems.specs.Replies.{refusedBy}
 use Rattle.problems.specs.laws.Laying.{list-targets}
 use Rattle.formula_files.specs.lines.laws.Body.{ended-not, ended-yes}
-use Rattle.formula_files.specs.Outcome.{isList}
+use Rattle.kinds.specs.Kinds.{isList}
 use Rattle.problem_files.specs.list_lines.Roles.{listBody}
 use Rattle.problem_files.specs.handed_forms.ProblemLines.{handed, listLines, mapLines, bodyOf, FormRoom}
 use Rattle.kinds.specs.Limits.{mostGenerators, mostTargets}

@@ -32,7 +32,7 @@ use Rattle.linear.specs.laws.Fewest.{least-some, fewest-entry, fewest-none, few
 use Rattle.bases.specs.declared.Basis.{Basis}
 use Rattle.bases.specs.Basis.{rowsOf, Holds, rows-length}
 use Rattle.catalogue.specs.declared.listing.Listing.{Listing}
-use Rattle.catalogue.specs.listing.Listing.{records, recordLength, flat, fitting, Listed}
+use Rattle.catalogue.specs.listing.Listing.{records, flat, fitting, Listed}
 use Rattle.catalogue.specs.listing.laws.Listing.{record-length}
 use Rattle.first_formula.specs.declared.Choice.{Choice}
 use Rattle.first_formula.specs.Choice.{numbersOf, formsOf, Chose, recordOf, chose-record, formulaRecord}
@@ -41,6 +41,7 @@ use Rattle.bases.specs.rows.Rows.{rowOf}
 use Rattle.rank.specs.declared.fewest.Least.{Least as Answered}
 use Rattle.rank.specs.declared.fewest.Least.the-variants as answered
 use Rattle.rank.specs.fewest.Fewest.{is, above, beyond, written, ranking, Asking, Here, LeastFound, Finishing}
+use Rattle.records.specs.Length.{recordLength}
 
 module _ (gens targets : List ℕ) where
   pub record Looking (ell k : ℕ) (buffer : List ℕ) : Type 0 where
@@ -87,9 +88,9 @@ module _ (gens targets : List ℕ) where
     pub is : first (entries word gens targets k) ≡ some entry
     pub size : length (space word gens targets entry) ≡ k
     pub numbers : length entry ≡ k - dim word targets
-    pub buffer : after ≡ (entry ++ space word gens targets entry) ++ drop (recordLength targets k) before
+    pub buffer : after ≡ (entry ++ space word gens targets entry) ++ drop (recordLength (dim word targets) k) before
 
-  pub first-entry : (k : ℕ) (before after : List ℕ) (r : Listing) → Listed gens targets k 1 before after r → r .found ≢ 0 → recordLength targets k ≤ length before → FirstEntry k before after
+  pub first-entry : (k : ℕ) (before after : List ℕ) (r : Listing) → Listed gens targets k 1 before after r → r .found ≢ 0 → recordLength (dim word targets) k ≤ length before → FirstEntry k before after
   first-entry k before after r D n h = go (entries word gens targets k) refl
     where
       go : (l : List (List ℕ)) → entries word gens targets k ≡ l → FirstEntry k before after
@@ -101,8 +102,8 @@ module _ (gens targets : List ℕ) where
             size = S .size;
             numbers = omega (arith, S .size, record-length gens targets k (es ++ space word gens targets es) there, length-append es (space word gens targets es));
             buffer =
-                D .buffer ∙ ap₂ (λ (x y : ℕ). flat (take x (records gens targets k)) ++ drop y before) one (ap (λ (x : ℕ). x * recordLength targets k) one ∙ one-mul (recordLength targets k))
-                ∙ ap (λ (x : List ℕ). x ++ drop (recordLength targets k) before) head;
+                D .buffer ∙ ap₂ (λ (x y : ℕ). flat (take x (records gens targets k)) ++ drop y before) one (ap (λ (x : ℕ). x * recordLength (dim word targets) k) one ∙ one-mul (recordLength (dim word targets) k))
+                ∙ ap (λ (x : List ℕ). x ++ drop (recordLength (dim word targets) k) before) head;
           }
         where
           m : List·Memᴰ es (entries word gens targets k)
@@ -118,7 +119,7 @@ module _ (gens targets : List ℕ) where
           there = subst (List·Memᴰ (es ++ space word gens targets es)) (sym listed) (List·Memᴰ·head refl)
 
           one : r .shown ≡ 1
-          one = D .shown ∙ ap (λ (c : ℕ). fitting (recordLength targets k) c (length before)) (D .found ∙ (let b = ap length e in let z : min 1 (length (entries word gens targets k)) ≡ 1 = omega arith in z)) ∙ one-fits (recordLength targets k) (length before) h
+          one = D .shown ∙ ap (λ (c : ℕ). fitting (recordLength (dim word targets) k) c (length before)) (D .found ∙ (let b = ap length e in let z : min 1 (length (entries word gens targets k)) ≡ 1 = omega arith in z)) ∙ one-fits (recordLength (dim word targets) k) (length before) h
 
           head : flat (take 1 (records gens targets k)) ≡ es ++ space word gens targets es
           head = unfold flat in ap (λ (x : List (List ℕ)). flat (take 1 x)) listed ∙ append-nil (es ++ space word gens targets es)
@@ -129,7 +130,7 @@ module _ (gens targets : List ℕ) where
       record {
         entry = F .entry;
         least = L .is ∙ step ell k h ∙ ap (λ (o : Option (List ℕ)). orElse o (leastFrom word gens targets (ell + 7 - (k + 1)) (k + 1))) (F .is);
-        rows = ap (λ (b : List ℕ). take k (drop (k - ell) b)) (F .buffer) ∙ cut (F .entry) (space word gens targets (F .entry)) (drop (recordLength targets k) before) (F .numbers ∙ ap (λ (x : ℕ). k - x) (sym d)) (F .size);
+        rows = ap (λ (b : List ℕ). take k (drop (k - ell) b)) (F .buffer) ∙ cut (F .entry) (space word gens targets (F .entry)) (drop (recordLength (dim word targets) k) before) (F .numbers ∙ ap (λ (x : ℕ). k - x) (sym d)) (F .size);
         from = L .from;
         near = omega arith;
         room = m ∙ L .room;

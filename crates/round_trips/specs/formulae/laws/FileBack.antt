@@ -3,10 +3,9 @@
 --   file-back   the whole text, but for what 6 to 9 judge
 -- Assumes nothing.
 use Prim.Native.Nat.{ℕ, _+_, _-_, _*_, _^_, _<_, _≤_}
-use mathlib.Core.Path.{_≡_, refl, _∙_}
-use mathlib.Core.List.{List}
-use mathlib.Core.Bool.{false, _&&_}
-use mathlib.Core.Option.{some}
+use mathlib.Core.Path.{_≡_, ap, _∙_}
+use mathlib.Core.Bool.{Bool, false, _&&_, cond}
+use mathlib.Core.Option.{none, some}
 use native.Mathlib.Omega.{arith}
 use lib.ListN.{length}
 use lib.Dec.{eqb}
@@ -18,11 +17,15 @@ use Rattle.kinds.specs.laws.Sizes.{both, given-some, within-yes, mat-within, Wi
 use Rattle.words.specs.laws.Masks.{AllBelow}
 use Rattle.round_trips.specs.formulae.HeadText.{fileHead}
 use Rattle.round_trips.specs.formulae.laws.HeadBack.{head-back}
-use Rattle.formula_files.specs.Outcome.{isList, readJudged, outcome}
+use Rattle.kinds.specs.Kinds.{isList}
+use Rattle.kinds.specs.Refusal.{follow}
+use Rattle.formula_check.specs.Formula.{Admitted, passed}
+use Rattle.formula_files.specs.FormulaFile.{heldIn, formulaFile}
+use Rattle.formula_files.specs.Sound.{Sound}
 use Rattle.round_trips.specs.formulae.BodyText.{bodyText}
 use Rattle.round_trips.specs.formulae.FileText.{fileText}
 use Rattle.round_trips.specs.formulae.laws.BodyBack.{body-back}
-use Rattle.formula_files.specs.laws.Outcome.{outcome-rest, rest-judged}
+use Rattle.formula_files.specs.laws.FormulaFile.{file-rest, rest-judged}
 
 -- ---- the sizes
 pub record FewLines (p q r : ℕ) : Type 0 where
@@ -50,12 +53,14 @@ sizes-few kind.Mat p q r z l e =
 sizes-few kind.List p q r z l e = absurd (let q : _≡_ {A = ℕ} 0 1 = cc in omega arith)
 
 -- ---- the whole text
-pub file-back : (kind : Kind) (p q r n m la lb lr : ℕ) (xs ys zs : List ℕ) → isList kind ≡ false → sizes kind p q r ≡ some (n, m, length zs)
-    → length xs < 10000 → length xs ≡ length ys → AllBelow (2 ^ 64) xs → AllBelow (2 ^ 64) ys → AllBelow (2 ^ 64) zs
-    → outcome (fileText kind p q r (length xs) xs ys zs) la lb lr ≡ readJudged kind p q r (length xs) n m (length zs) la lb lr xs ys zs
+pub file-back : (f : Admitted) (la lb lr : ℕ) → Sound f → AllBelow (2 ^ 64) (f .firsts) → AllBelow (2 ^ 64) (f .seconds) → AllBelow (2 ^ 64) (f .rows)
+    → formulaFile (fileText f) la lb lr ≡ follow (passed (f .kind) (f .p) (f .q) (f .r) (f .n) (f .m) (length (f .firsts)) (f .firsts) (f .seconds) (f .rows)) (heldIn la lb lr)
 unfolding fileText
-file-back kind p q r n m la lb lr xs ys zs l z hk e hx hy hz =
-    let F : FewLines p q r = sizes-few kind p q r (n, m, length zs) l z in
-    outcome-rest (fileHead kind p q r (length xs) (bodyText xs ys zs)) la lb lr (record { kind = some kind; p = p; q = q; r = r; k = length xs }) (bodyText xs ys zs)
-    (head-back kind p q r (length xs) (bodyText xs ys zs) (omega (arith, F .first)) (omega (arith, F .second)) (omega (arith, F .third)) hk)
-    ∙ rest-judged (some kind) p q r (length xs) (bodyText xs ys zs) la lb lr kind n m (length zs) xs ys zs refl l z (body-back xs ys zs e hx hy hz)
+file-back f la lb lr S hx hy hz =
+    let k = length (f .firsts) in
+    let t = bodyText (f .firsts) (f .seconds) (f .rows) in
+    let F : FewLines (f .p) (f .q) (f .r) = sizes-few (f .kind) (f .p) (f .q) (f .r) (f .n, f .m, length (f .rows)) (S .not-list) (S .fits) in
+    file-rest (fileHead (f .kind) (f .p) (f .q) (f .r) k t) la lb lr (record { kind = some (f .kind); p = f .p; q = f .q; r = f .r; k = k }) t
+    (head-back (f .kind) (f .p) (f .q) (f .r) k t (omega (arith, F .first)) (omega (arith, F .second)) (omega (arith, F .third)) (omega (arith, S .few)))
+    ∙ rest-judged (some (f .kind)) (f .p) (f .q) (f .r) k t la lb lr (f .kind) (ap (λ (b : Bool). cond b none (some (f .kind))) (S .not-list)) (f .n) (f .m) (length (f .rows)) (f .firsts) (f .seconds) (f .rows)
+    (S .fits) (body-back (f .firsts) (f .seconds) (f .rows) (S .paired) hx hy hz)

@@ -25,20 +25,10 @@ use Rattle.round_trips.specs.formulae.HeadText.{fieldsText, fileHead}
 use Rattle.text.specs.laws.Numeral.{digits-cons, numeral-one, numeral-more}
 use Rattle.text.specs.laws.Line.{name-is, field-is}
 use Rattle.text.specs.heads.laws.Head.{fields-is, head-is, heads-is, kind-back}
+use Rattle.printing.specs.laws.Digits.{below, above, digits-back}
 use Rattle.printing.specs.laws.Print.{printed-one, printed-more}
 
 -- ---- a digit
-pub digit-back : (d : ℕ) → d < 16 → digit (digitByte d) ≡ d
-digit-back d h = go (ltb d 10) refl
-  where
-    go : (t : Bool) → ltb d 10 ≡ t → digit (cond t (48 + d) (87 + d)) ≡ d
-    go true e =
-        let l : d < 10 = ltb-true d 10 e in
-        simp (le-leb 48 (48 + d) (omega arith), le-leb (48 + d) 57 (omega arith)) (omega arith)
-    go false e =
-        let l : 10 ≤ d = ltb-false d 10 e in
-        simp (le-leb 48 (87 + d) (omega arith), lt-leb (87 + d) 57 (omega arith), le-leb 97 (87 + d) (omega arith), le-leb (87 + d) 102 (omega arith)) (omega arith)
-
 digit-not-zero : (d : ℕ) → 0 < d → digitByte d ≡ 48 → ⊥
 digit-not-zero d h = go (ltb d 10)
   where
@@ -46,51 +36,8 @@ digit-not-zero d h = go (ltb d 10)
     go true e = omega arith
     go false e = omega arith
 
--- ---- reading two parts
-pub digits-append : (base v : ℕ) (s t : List ℕ) → digits base v (s ++ t) ≡ (digits base v s >>= λ u. digits base u t)
-unfolding digits
-digits-append base v [] t = refl
-digits-append base v (b ∷ s) t = go (ltb (digit b) base) (digits-append base (v * base + digit b) s t)
-  where
-    go : (c : Bool) → digits base (v * base + digit b) (s ++ t) ≡ (digits base (v * base + digit b) s >>= λ u. digits base u t)
-        → cond c (digits base (v * base + digit b) (s ++ t)) none ≡ (cond c (digits base (v * base + digit b) s) none >>= λ u. digits base u t)
-    go true e = e
-    go false e = refl
-
-digits-last : (base v d : ℕ) → d < base → base ≤ 16 → digits base v (digitByte d ∷ []) ≡ some (v * base + d)
-unfolding digits
-digits-last base v d h b =
-    let e = digit-back d (omega arith) in
-    digits-cons base v (digitByte d) [] (rw e h) ∙ rw e
-
+-- ---- a numeral
 module _ (base : ℕ) (two : 2 ≤ base) (sixteen : base ≤ 16) where
-  below : (f n : ℕ) → n < base ^ suc f → n / base < base ^ f
-  below f n h = div-lt-iff-lt-mul {k = base} (omega arith) .1 (rw pow-suc at h)
-
-  above : (n : ℕ) → base ≤ n → 0 < n / base
-  above n h = go (ltb 0 (n / base)) refl
-    where
-      go : (t : Bool) → ltb 0 (n / base) ≡ t → 0 < n / base
-      go true e = ltb-true 0 (n / base) e
-      go false e =
-          let z : n / base < 1 = omega (arith, ltb-false 0 (n / base) e) in
-          let l : n < 1 * base = div-lt-iff-lt-mul {k = base} (omega arith) .0 z in
-          absurd (omega (arith, one-mul base))
-
-  pub digits-back : (f n : ℕ) → n < base ^ f → digits base 0 (numeralText base f n) ≡ some n
-  unfolding digits numeralText
-  digits-back zero n h =
-      let e : n < 1 = rw pow-zero at h in
-      ap some (omega arith)
-  digits-back (suc f) n h = go (ltb n base) refl (λ l. digits-back f (n / base) l)
-    where
-      go : (t : Bool) → ltb n base ≡ t → (n / base < base ^ f → digits base 0 (numeralText base f (n / base)) ≡ some (n / base))
-          → digits base 0 (cond t (digitByte n ∷ []) (numeralText base f (n / base) ++ (digitByte (n % base) ∷ []))) ≡ some n
-      go true e ih = digits-last base 0 n (ltb-true n base e) sixteen ∙ ap some (omega (arith, zero-mul base))
-      go false e ih =
-          digits-append base 0 (numeralText base f (n / base)) (digitByte (n % base) ∷ [])
-          ∙ rw (ih (below f n h)) (digits-last base (n / base) (n % base) (mod-lt n (omega arith)) sixteen ∙ ap some (div-add-mod' n base))
-
   pub lead : (f n : ℕ) → 0 < n → n < base ^ f → (0 < length (numeralText base f n)) × (getD (numeralText base f n) 0 0 ≡ 48 → ⊥)
   unfolding numeralText
   lead zero n p h =
@@ -105,7 +52,7 @@ module _ (base : ℕ) (two : 2 ≤ base) (sixteen : base ≤ 16) where
           → P (cond t (digitByte n ∷ []) (numeralText base f (n / base) ++ (digitByte (n % base) ∷ [])))
       go true e ih = (omega arith, digit-not-zero n p)
       go false e ih =
-          let q = ih (above n (ltb-false n base e)) (below f n h) in (
+          let q = ih (above base two sixteen n (ltb-false n base e)) (below base two sixteen f n h) in (
             omega (arith, q, length-append (numeralText base f (n / base)) (digitByte (n % base) ∷ [])),
             rw (List·getD-append (numeralText base f (n / base)) (digitByte (n % base) ∷ []) 0 0 (q .0)) (q .1),
           )
@@ -127,14 +74,14 @@ module _ (base : ℕ) (two : 2 ≤ base) (sixteen : base ≤ 16) where
       go true e =
           let p = printed-one base f n (ltb-true n base e) in
           let l : length (numeralText base (suc f) n) ≡ 1 = rw p in
-          numeral-one base (suc f) (numeralText base (suc f) n) (omega arith) (omega arith) (omega arith) ∙ digits-back (suc f) n h
+          numeral-one base (suc f) (numeralText base (suc f) n) (omega arith) (omega arith) (omega arith) ∙ digits-back base two sixteen (suc f) n h
       go false e =
           let m = ltb-false n base e in
           let p = printed-more base f n m in
-          let q = lead f (n / base) (above n m) (below f n h) in
+          let q = lead f (n / base) (above base two sixteen n m) (below base two sixteen f n h) in
           let w = lead (suc f) n (omega arith) h in
           let l : length (numeralText base (suc f) n) ≡ length (numeralText base f (n / base)) + 1 = rw p (length-append (numeralText base f (n / base)) (digitByte (n % base) ∷ [])) in
-          numeral-more base (suc f) (numeralText base (suc f) n) (omega (arith, q, l)) (printed-length (suc f) n) (ne-eqb (getD (numeralText base (suc f) n) 0 0) 48 (w .1)) ∙ digits-back (suc f) n h
+          numeral-more base (suc f) (numeralText base (suc f) n) (omega (arith, q, l)) (printed-length (suc f) n) (ne-eqb (getD (numeralText base (suc f) n) 0 0) 48 (w .1)) ∙ digits-back base two sixteen (suc f) n h
 
 -- counts and masks
 pub count-back : (n : ℕ) → n < 10000 → count (countText n) ≡ some n

@@ -17,7 +17,7 @@ use Rattle.text.specs.Reading.{_>>=_}
 use Rattle.text.specs.Numeral.{digit, digits}
 use Rattle.printing.specs.Print.{digitByte, numeralText}
 use Rattle.printing.specs.laws.Print.{printed-one, printed-more}
-use Rattle.round_trips.specs.formulae.laws.HeadBack.{digits-append}
+use Rattle.printing.specs.laws.Digits.{digits-append}
 
 pub byte-back : (b : ℕ) → digit b < 16 → digitByte (digit b) ≡ b
 byte-back b h = go (leb 48 b) (leb b 57) (leb 97 b) (leb b 102) refl refl refl refl h

@@ -25,7 +25,7 @@ use Rattle.problems.specs.Theorems.{IsMap, posed-map, posed-list}
 use Rattle.problems.specs.Taken.{ListTaken}
 use Rattle.problems.specs.laws.Taken.{posed-kind}
 use Rattle.problems.specs.laws.Laying.{list-targets}
-use Rattle.formula_files.specs.Outcome.{isList}
+use Rattle.kinds.specs.Kinds.{isList}
 use Rattle.problem_files.specs.handed_forms.ProblemLines.{handed, listLines, mapLines, bodyOf}
 use Rattle.problem_files.specs.handed_forms.laws.Lines.{list-taken, map-none}
 use Rattle.round_trips.specs.formulae.laws.FileBack.{sizes-few}

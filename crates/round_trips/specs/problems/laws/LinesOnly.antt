@@ -20,7 +20,7 @@ use Rattle.text.specs.Reading.{_>>=_}
 use Rattle.text.specs.Line.{LF, comma, nameLine, maskLine}
 use Rattle.printing.specs.Print.{maskText}
 use Rattle.formula_files.specs.lines.Formula.{ended}
-use Rattle.formula_files.specs.Outcome.{isList}
+use Rattle.kinds.specs.Kinds.{isList}
 use Rattle.problem_files.specs.list_lines.Roles.{roleNames, generatorRole, targetRole, roleLine, roleLines, listBody}
 use Rattle.problem_files.specs.handed_forms.ProblemLines.{listLines, mapLines, bodyOf}
 use Rattle.round_trips.specs.formulae.laws.HeadOnly.{inv, inj, name-only, field-only}

@@ -1,6 +1,5 @@
 -- The Check program's text: a refusal's number is at most 9, a text has from 36 to 173 bytes, so the exported call's reply tells them apart.
---   file-refusals   a file is refused by a number of at most 9
---   file-texts      an accepted file's text has more than 35 bytes and at most 173
+--   file-fine   a file is refused by a number of at most 9, or its text has more than 35 bytes and at most 173
 -- Assumes nothing.
 use mathlib.Core.Path.{_≡_, refl, sym, ap, ap₂, _∙_, subst}
 use mathlib.Core.Bool.{Bool, true, false, _||_, cond}
@@ -14,29 +13,28 @@ use lib.Seq.{take-append-seam}
 use lib.Dec.{ltb}
 use borrow.Author.Tests.{lt-ltb, le-ltb}
 use Rattle.kinds.specs.declared.Kind.{Kind}
-use Rattle.kinds.specs.Kinds.{numberOf, nameOf, kindNumbered}
+use Rattle.kinds.specs.Kinds.{nameOf, knownMap}
+use Rattle.kinds.specs.Limits.{mostProducts, mostTargets}
 use Rattle.kinds.specs.Sizes.{sizes}
-use Rattle.kinds.specs.Refusal.{Answer, refused, accepted, need, refuse}
+use Rattle.kinds.specs.Refusal.{Answer, refused, accepted, need, refuse, follow}
 use Rattle.words.specs.Buffers.{filled}
 use Rattle.words.specs.Masks.{wide, zeroIn}
-use Rattle.text.specs.heads.Head.{Head, headLines}
+use Rattle.text.specs.heads.Head.{headLines}
 use Rattle.printing.specs.Print.{numberText}
 use Rattle.formula_files.specs.lines.Formula.{body}
 use Rattle.text.specs.Line.{LF}
-use Rattle.formula_files.specs.Outcome.{Outcome, outcome, rest, isList}
-use Rattle.formula_files.specs.Outcome as file
-use Rattle.formula_check.specs.Formula.{firstWrong, adders, lengths, check, judged, knownMap}
-use Rattle.formula_check.specs.sums.Sums.{productForms}
+use Rattle.formula_files.specs.FormulaFile.{tooShort, rest, formulaFile}
+use Rattle.formula_check.specs.Formula.{Lists, Admitted, formulaOf, passed, admit, verdict}
 use Rattle.formula_check.specs.declared.verdicts.Verdict.{Verdict}
-use Rattle.formula_check.specs.declared.verdicts.Verdict.the-variants as verdict
+use Rattle.formula_check.specs.declared.verdicts.Verdict.the-variants as said
 use Rattle.check_text.specs.replies.CheckText.{checkNames, verdictText, checkText}
 use Rattle.printing.specs.fields.Fields.{sizesText, fieldText}
 use Rattle.printing.specs.fields.RefusedText.{refusedName, refusedText}
 use Rattle.check_text.specs.replies.CheckTextLong.{check-text-long}
 use Rattle.printing.specs.fields.Written.{bytesIn, writtenIn}
 use Rattle.printing.specs.fields.laws.Pieces.{name-short, number-short}
-use Rattle.check_text.specs.CheckAnswers.{verdictOf, replyText, replyOf, bytesOf}
-use Rattle.service.specs.Service.{checkRead, checkFile}
+use Rattle.check_text.specs.CheckAnswers.{verdictOf, admittedText, replyOf, bytesOf}
+use Rattle.service.specs.Service.{checkFile}
 use Rattle.printing.specs.refusals.Pages.{checkPage, answerText}
 use Rattle.service.specs.check_program.CheckProgram.{programText}
 use Rattle.text.specs.Limits.{mostBytes}
@@ -46,81 +44,48 @@ abbrev Small : {A : Type 0} → Answer A → Type 0
 Small (refused e) = e ≤ 9
 Small (accepted x) = Unit {0}
 
-five : (a b c d : Bool) (x : Option ℕ × ℕ) → Small (refuse 5 a (refuse 6 b (refuse 7 c (refuse 8 d (accepted x)))))
-five true b c d x = omega arith
-five false true c d x = omega arith
-five false false true d x = omega arith
-five false false false true x = omega arith
-five false false false false x = tt
+module _ {A B : Type 0} where
+  small-need : (e : ℕ) (o : Option A) (f : A → Answer B) → e ≤ 9 → ((a : A) → Small (f a)) → Small (need e o f)
+  small-need e none f h k = h
+  small-need e (some a) f h k = k a
 
-judged-small : (kd : Kind) (p q r n m u k : ℕ) (xs ys rows : List ℕ) → Small (judged kd p q r n m u k xs ys rows)
-unfolding judged
-judged-small kd p q r n m u k xs ys rows =
-    five (lengths k u xs ys rows) (wide n xs || (wide m ys || wide k rows)) (zeroIn xs || zeroIn ys) (ltb 64 k) (firstWrong kd p q r n m (productForms n m xs ys) rows 0, adders xs ys rows)
+  small-follow : (o : Answer A) (f : A → Answer B) → Small o → ((a : A) → Small (f a)) → Small (follow o f)
+  small-follow (refused e) f h k = h
+  small-follow (accepted a) f h k = k a
 
-check-small : (number p q r k : ℕ) (xs ys rows : List ℕ) → Small (check number p q r k xs ys rows)
-unfolding check
-check-small number p q r k xs ys rows = kinded (knownMap (kindNumbered number))
-  where
-    sized : (kd : Kind) (o : Option (ℕ × ℕ × ℕ)) → Small (need 3 o λ z. judged kd p q r (z .0) (z .1) (z .2) k xs ys rows)
-    sized kd none = omega arith
-    sized kd (some z) = judged-small kd p q r (z .0) (z .1) (z .2) k xs ys rows
+small-refuse : {A : Type 0} (e : ℕ) (b : Bool) (o : Answer A) → e ≤ 9 → Small o → Small (refuse e b o)
+small-refuse e true o h k = h
+small-refuse e false o h k = k
 
-    kinded : (o : Option Kind) → Small (need 2 o λ kd. need 3 (sizes kd p q r) λ z. judged kd p q r (z .0) (z .1) (z .2) k xs ys rows)
-    kinded none = omega arith
-    kinded (some kd) = sized kd (sizes kd p q r)
+passed-small : (b c d : Bool) (f : Admitted) → Small (refuse 6 b (refuse 7 c (refuse 8 d (accepted f))))
+passed-small true c d f = omega arith
+passed-small false true d f = omega arith
+passed-small false false true f = omega arith
+passed-small false false false f = tt
 
-abbrev SmallRead : Outcome → Type 0
-SmallRead (file.refused e) = e ≤ 9
-SmallRead (file.formula kd p q r k xs ys zs) = Unit {0}
+admit-small : (named : Option Kind) (p q r k : ℕ) (lists : ℕ → Option Lists) → Small (admit named p q r k lists)
+unfolding admit passed
+admit-small named p q r k lists =
+    small-need 2 (knownMap named) _ (omega arith) λ kd.
+    small-need 3 (sizes kd p q r) _ (omega arith) λ z.
+    small-need 5 (lists (z .2)) _ (omega arith) λ l.
+    passed-small (wide (z .0) (l .0) || (wide (z .1) (l .1) || wide k (l .2))) (zeroIn (l .0) || zeroIn (l .1)) (ltb mostProducts k)
+    (formulaOf kd p q r (z .0) (z .1) (l .0) (l .1) (l .2))
 
-four : (a b c d : Bool) (kd : Kind) (p q r k : ℕ) (xs ys zs : List ℕ) → SmallRead (file.refuse 6 a (file.refuse 7 b (file.refuse 8 c (file.refuse 9 d (file.formula kd p q r k xs ys zs)))))
-four true b c d kd p q r k xs ys zs = omega arith
-four false true c d kd p q r k xs ys zs = omega arith
-four false false true d kd p q r k xs ys zs = omega arith
-four false false false true kd p q r k xs ys zs = omega arith
-four false false false false kd p q r k xs ys zs = tt
-
-rest-small : (h : Head) (s : List ℕ) (la lb lr : ℕ) → SmallRead (rest h s la lb lr)
-unfolding rest file.readJudged
-rest-small h s la lb lr = named (h .kind)
-  where
-    Judged : Kind → ℕ × ℕ × ℕ → List ℕ × List ℕ × List ℕ → Outcome
-    Judged kd z d = file.readJudged kd (h .p) (h .q) (h .r) (h .k) (z .0) (z .1) (z .2) la lb lr (d .0) (d .1) (d .2)
-
-    lined : (kd : Kind) (z : ℕ × ℕ × ℕ) (o : Option (List ℕ × List ℕ × List ℕ)) → SmallRead (file.need 5 o (Judged kd z))
-    lined kd z none = omega arith
-    lined kd z (some d) =
-        four ((wide (z .0) (d .0) || wide (z .1) (d .1)) || wide (h .k) (d .2)) (zeroIn (d .0) || zeroIn (d .1)) (ltb 64 (h .k)) (ltb la (h .k) || (ltb lb (h .k) || ltb lr (z .2)))
-        kd (h .p) (h .q) (h .r) (h .k) (d .0) (d .1) (d .2)
-
-    sized : (kd : Kind) (o : Option (ℕ × ℕ × ℕ)) → SmallRead (file.need 3 o λ z. file.need 5 (body (h .k) (z .2) s) (Judged kd z))
-    sized kd none = omega arith
-    sized kd (some z) = lined kd z (body (h .k) (z .2) s)
-
-    listed : (kd : Kind) (b : Bool) → SmallRead (file.refuse 2 b (file.need 3 (sizes kd (h .p) (h .q) (h .r)) λ z. file.need 5 (body (h .k) (z .2) s) (Judged kd z)))
-    listed kd true = omega arith
-    listed kd false = sized kd (sizes kd (h .p) (h .q) (h .r))
-
-    named : (o : Option Kind) → SmallRead (file.need 2 o λ kd. file.refuse 2 (isList kd) (file.need 3 (sizes kd (h .p) (h .q) (h .r)) λ z. file.need 5 (body (h .k) (z .2) s) (Judged kd z)))
-    named none = omega arith
-    named (some kd) = listed kd (isList kd)
-
-read-small : (s : List ℕ) (la lb lr : ℕ) → SmallRead (outcome s la lb lr)
-unfolding outcome
-read-small s la lb lr = headed (headLines s)
-  where
-    headed : (o : Option (Head × List ℕ)) → SmallRead (file.need 1 o λ h. rest (h .0) (h .1) la lb lr)
-    headed none = omega arith
-    headed (some h) = rest-small (h .0) (h .1) la lb lr
+read-small : (s : List ℕ) (la lb lr : ℕ) → Small (formulaFile s la lb lr)
+unfolding formulaFile rest
+read-small s la lb lr =
+    small-need 1 (headLines s) _ (omega arith) λ h.
+    small-follow (admit (h .0 .kind) (h .0 .p) (h .0 .q) (h .0 .r) (h .0 .k) (λ t. body (h .0 .k) t (h .1))) _
+    (admit-small (h .0 .kind) (h .0 .p) (h .0 .q) (h .0 .r) (h .0 .k) (λ t. body (h .0 .k) t (h .1))) λ f. small-refuse 9 (tooShort la lb lr f) (accepted f) (omega arith) tt
 
 -- ---- lengths of texts
 field-most : (n : ℕ) → length (fieldText n) ≤ 21
 field-most n = let h = number-short n in omega arith
 
 verdict-most : (v : Verdict) → length (verdictText v) ≤ 27
-verdict-most verdict.Right = omega arith
-verdict-most (verdict.Wrong t) = omega (arith, field-most t)
+verdict-most said.Right = omega arith
+verdict-most (said.Wrong t) = omega (arith, field-most t)
 
 sizes-most : (kd : Kind) (p q r k : ℕ) → length (sizesText kd p q r k) ≤ 89
 unfolding sizesText
@@ -163,21 +128,20 @@ unfolding refusedText
 refused-most n = let a = refusedName ++ numberText n in omega (arith, number-short n, length-append refusedName (numberText n), length-append a (LF ∷ []))
 
 -- ---- what the file's answer is
-abbrev Fine : Answer (List ℕ) → Type 0
+abbrev pub Fine : Answer (List ℕ) → Type 0
 Fine (refused e) = e ≤ 9
 Fine (accepted t) = (35 < length t) × (length t ≤ 173)
 
-fine-reply : (kd : Kind) (p q r k : ℕ) (o : Answer (Option ℕ × ℕ)) → Small o → Fine (replyText kd p q r k o)
-fine-reply kd p q r k (refused e) h = h
-fine-reply kd p q r k (accepted x) h = (check-text-long kd p q r k (verdictOf (x .0)) (x .1), text-most kd p q r k (verdictOf (x .0)) (x .1))
-
-fine-read : (o : Outcome) → SmallRead o → Fine (checkRead o)
-fine-read (file.refused e) h = h
-fine-read (file.formula kd p q r k xs ys zs) h = fine-reply kd p q r k (check (numberOf kd) p q r k xs ys zs) (check-small (numberOf kd) p q r k xs ys zs)
+fine-read : (o : Answer Admitted) → Small o → Fine (follow o λ f. accepted (admittedText f))
+fine-read (refused e) h = h
+fine-read (accepted f) h = (
+  check-text-long (f .kind) (f .p) (f .q) (f .r) (length (f .firsts)) (verdictOf (verdict f .0)) (verdict f .1),
+  text-most (f .kind) (f .p) (f .q) (f .r) (length (f .firsts)) (verdictOf (verdict f .0)) (verdict f .1),
+)
 
 pub file-fine : (s : List ℕ) → Fine (checkFile s)
 unfolding checkFile
-file-fine s = fine-read (outcome s 64 64 64) (read-small s 64 64 64)
+file-fine s = fine-read (formulaFile s mostProducts mostProducts mostTargets) (read-small s mostProducts mostProducts mostTargets)
 
 -- ---- the program
 written-take : (t d : List ℕ) → length t ≤ length d → take (bytesIn t d) (writtenIn t d) ≡ t

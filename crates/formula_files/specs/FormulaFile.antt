@@ -1,0 +1,35 @@
+-- What reading a formula's file gives: the first refusal of the list that applies, or the formula.
+--   formulaFile s la lb lr == of the text s, with lent buffers of la, lb and lr words for the first factors, the second factors and the rows
+-- Document 01, "Refused, in this order":
+--   1. "The first two lines are not as above"
+--   2 to 8, with 5. "The remaining lines are too few, too many, out of order or misshapen": `admit` (formula_check)
+--   9. "A lent buffer that must take the whole of an answer is too short"
+-- Assumes nothing.
+use Prim.Native.Nat.{ℕ}
+use mathlib.Core.List.{List}
+use mathlib.Core.Bool.{Bool, _||_}
+use lib.Dec.{ltb}
+use lib.ListN.{length}
+use Rattle.kinds.specs.Refusal.{Answer, accepted, need, refuse, follow}
+use Rattle.kinds.specs.declared.Kind.{Kind}
+use Rattle.text.specs.heads.Head.{Head, headLines}
+use Rattle.formula_check.specs.Formula.{Admitted, passed, admit}
+use Rattle.formula_files.specs.lines.Formula.{body}
+
+-- 9, of an admitted formula
+abbrev pub tooShort : (la lb lr : ℕ) → Admitted → Bool
+tooShort la lb lr f = ltb la (length (f .firsts)) || (ltb lb (length (f .seconds)) || ltb lr (length (f .rows)))
+
+abbrev pub heldIn : (la lb lr : ℕ) → Admitted → Answer Admitted
+heldIn la lb lr f = refuse 9 (tooShort la lb lr f) (accepted f)
+
+-- 5 to 9, of the lines under the first two: k products and t rows
+abbrev pub under : (kind : Kind) (p q r k n m t la lb lr : ℕ) → List ℕ → Answer Admitted
+under kind p q r k n m t la lb lr s = follow (need 5 (body k t s) λ l. passed kind p q r n m k (l .0) (l .1) (l .2)) (heldIn la lb lr)
+
+-- 2 to 9, of the first two lines and the text after them
+unfoldable pub rest : Head → List ℕ → (la lb lr : ℕ) → Answer Admitted
+rest h s la lb lr = follow (admit (h .kind) (h .p) (h .q) (h .r) (h .k) (λ t. body (h .k) t s)) (heldIn la lb lr)
+
+unfoldable pub formulaFile : List ℕ → (la lb lr : ℕ) → Answer Admitted
+formulaFile s la lb lr = need 1 (headLines s) λ h. rest (h .0) (h .1) la lb lr

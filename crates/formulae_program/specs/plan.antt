@@ -1,2 +1,0 @@
--- The plan by which the Formulae program prints.
-pub mod Plans

@@ -1,0 +1,3 @@
+-- A text handed over on a lent page.
+pub mod Printed
+pub mod laws

@@ -1,2 +1,0 @@
--- The start of a page.
-mod Pages
