@@ -1,6 +1,6 @@
 -- Catalogue on numbers.
 pub mod Catalogue
-pub mod Replies
+pub mod Theorems
 pub mod laws
 pub mod walk
 pub mod listing

@@ -1,2 +1,3 @@
 -- The laws behind Catalogue.
 pub mod Replies
+pub mod Numbers

@@ -5,8 +5,9 @@
 ghost use mathlib.Core.Path.{_≡_};
 ghost use Prim.Native.Nat.{_≤_};
 ghost use lib.ListN.{length};
-ghost use Rattle.catalogue.specs.Catalogue.{catalogue, seenCatalogue, lentCatalogue};
-ghost use Rattle.catalogue.specs.Replies.{CatalogueGiven};
+ghost use Rattle.kinds.specs.Numbers.{replyNumbers};
+ghost use Rattle.catalogue.specs.Catalogue.{catalogueOf, catalogue, seenCatalogue, lentCatalogue, catalogueNumbers, catalogueValues};
+ghost use Rattle.problems.specs.Problem.{problem};
 ghost use Rattle.kinds.specs.Limits.{mostGenerators};
 use problems::Posed;
 use words::first_words;
@@ -20,16 +21,18 @@ pub enum Catalogued {
     Entries(usize, u64, usize),
 }
 
-// The entries for `k` of a problem whose generators and targets are made; refusal 8.
-fn list_problem(gens: &[u64], targets: &[u64], k: u64, out: &mut [u64]) -> Catalogued
+// The entries for `k` of a posed problem; refusal 8. The records that fit go to `out`, from its start.
+pub fn catalogue_of(gens: &[u64], targets: &[u64], k: u64, out: &mut [u64]) -> Catalogued
     requires { ⌜ length (now gens) ≤ mostGenerators ⌝ }
-    ensures { λ r. ⌜ CatalogueGiven (now (gens .entry)) (now (targets .entry)) k (now (out .entry)) r (now (out .exit)) ⌝ }
+    ensures { λ r. ⌜ (catalogueOf (problem (now (gens .entry)) (now (targets .entry))) k (now (out .entry)) ≡ seenCatalogue r (now (out .exit)))
+        × (now (out .exit) ≡ lentCatalogue (catalogueOf (problem (now (gens .entry)) (now (targets .entry))) k (now (out .entry))) (now (out .entry))) ⌝ }
 {
-    let ell = bases::basis_of(targets).len;
+    let b = bases::basis_of(targets);
+    let ell = b.len;
     if k > ell as u64 + 6 {
         return Catalogued::Refused(8);
     }
-    let l = listing::list_entries(gens, targets, k as usize, words::LARGEST, out);
+    let l = listing::list_entries(gens, b, k as usize, words::LARGEST, out);
     Catalogued::Entries(l.ell, l.found, l.shown)
 }
 
@@ -46,12 +49,13 @@ pub fn catalogue(
     out: &mut [u64],
 ) -> Catalogued
     ensures { λ x. ⌜ (catalogue number p q r k (now (gs .entry)) (now (ts .entry)) (now (out .entry)) ≡ seenCatalogue x (now (out .exit)))
-        × (now (out .exit) ≡ lentCatalogue (catalogue number p q r k (now (gs .entry)) (now (ts .entry)) (now (out .entry))) (now (out .entry))) ⌝ }
+        × (now (out .exit) ≡ lentCatalogue (catalogue number p q r k (now (gs .entry)) (now (ts .entry)) (now (out .entry))) (now (out .entry)))
+        × (catalogueNumbers x ≡ replyNumbers 3 catalogueValues (catalogue number p q r k (now (gs .entry)) (now (ts .entry)) (now (out .entry)))) ⌝ }
 {
     let mut g = [0u64; kinds::GENERATORS];
     let mut t = [0u64; kinds::TARGETS];
     match problems::pose(number, p, q, r, gs, ts, &gs[..0], &mut g, &mut t) {
         Posed::Refused(e) => Catalogued::Refused(e),
-        Posed::Are(n, u) => list_problem(first_words(&g, n), first_words(&t, u), k, out),
+        Posed::Are(n, u) => catalogue_of(first_words(&g, n), first_words(&t, u), k, out),
     }
 }

@@ -2,7 +2,7 @@
 use bases::Basis;
 use records::Chain;
 use records::Tally;
-ghost use Rattle.catalogue.specs.listing.Listing.{SearchAsked, Listed};
+ghost use Rattle.catalogue.specs.listing.Listing.{SearchAsked, ListedFrom};
 ghost use Rattle.catalogue.specs.listing.Walked.{Rooted, Tallied};
 
 // The dimension that the targets span, and how many entries were found and how many of them shown.
@@ -34,12 +34,11 @@ fn tally(gens: &[u64], b: Basis, k: usize, limit: u64, out: &mut [u64]) -> Tally
     super::walk::walk(gens, &h[..n], 0, missing, k, b, c, t, limit, &mut rows, out)
 }
 
-// The first entries for `k`, at most `limit`: counted, and the records that fit written from the start of `out`.
-pub fn list_entries(gens: &[u64], targets: &[u64], k: usize, limit: u64, out: &mut [u64]) -> Listing
-    requires { ⌜ SearchAsked (now gens) (now targets) k ⌝ }
-    ensures { λ r. ⌜ Listed (now (gens .entry)) (now (targets .entry)) k limit (now (out .entry)) (now (out .exit)) r ⌝ }
+// The first entries for `k` of the targets with the basis `b`, at most `limit`: counted, and the records that fit written from the start of `out`.
+pub fn list_entries(gens: &[u64], b: Basis, k: usize, limit: u64, out: &mut [u64]) -> Listing
+    requires { ⌜ SearchAsked (now gens) b k ⌝ }
+    ensures { λ r. ⌜ ListedFrom (now (gens .entry)) b k limit (now (out .entry)) (now (out .exit)) r ⌝ }
 {
-    let b = bases::basis_of(targets);
     let ell = b.len;
     if k < ell {
         return Listing {

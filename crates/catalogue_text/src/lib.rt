@@ -4,36 +4,32 @@
 ghost use mathlib.Core.Path.{_≡_};
 ghost use Prim.Native.Nat.{_≤_};
 ghost use lib.ListN.{length, take};
+ghost use Rattle.problems.specs.Problem.{problem};
+ghost use Rattle.problems.specs.Theorems.{Few};
 ghost use Rattle.catalogue_text.specs.CatalogueAnswers.{catalogueReply};
 ghost use Rattle.printing.specs.refusals.Pages.{replyPage};
 use catalogue::Catalogued;
-use kinds::Kind;
+use kinds::Shape;
 
 pub mod report;
 
-// What the Catalogue program prints of a problem, from the start of a page; its length.
+// What the Catalogue program prints of a posed problem of that kind and sizes, from the start of a page; its length.
 pub fn catalogue_reply(
-    kind: Kind,
-    p: u64,
-    q: u64,
-    r: u64,
+    shape: Shape,
     k: u64,
-    gs: &[u64],
-    ts: &[u64],
+    gens: &[u64],
+    targets: &[u64],
     page: &mut [u8],
 ) -> usize
-    requires { ⌜ length (now page) ≡ replyPage ⌝ }
-    ensures { λ e. ⌜ (take e (now (page .exit)) ≡ catalogueReply kind p q r k (now (gs .entry)) (now (ts .entry))) × (e ≤ replyPage) ⌝ }
+    requires { ⌜ (length (now page) ≡ replyPage) × Few (problem (now gens) (now targets)) ⌝ }
+    ensures { λ e. ⌜ (take e (now (page .exit)) ≡ catalogueReply shape k (problem (now (gens .entry)) (now (targets .entry)))) × (e ≤ replyPage) ⌝ }
 {
     let mut listing = [0u64; text::PROGRAM_WORDS];
-    let said = catalogue::catalogue(kinds::number_of(kind), p, q, r, k, gs, ts, &mut listing);
+    let said = catalogue::catalogue_of(gens, targets, k, &mut listing);
     match said {
         Catalogued::Refused(e) => printing::refusals::refused_page(e, page),
         Catalogued::Entries(ell, found, shown) => report::catalogue_text(
-            kind,
-            p,
-            q,
-            r,
+            shape,
             k,
             ell as u64,
             found,

@@ -21,7 +21,7 @@ verdictOf none = said.Right
 verdictOf (some t) = said.Wrong t
 
 abbrev pub admittedText : Admitted → List ℕ
-admittedText f = checkText (f .kind) (f .p) (f .q) (f .r) (length (f .firsts)) (verdictOf (verdict f .0)) (verdict f .1)
+admittedText f = checkText (f .shape) (length (f .firsts)) (verdictOf (verdict f .0)) (verdict f .1)
 
 -- ---- with the second string d
 abbrev pub replyOf : Answer (List ℕ) → List ℕ → ℕ

@@ -5,7 +5,7 @@ ghost use mathlib.Core.Path.{_≡_};
 ghost use Rattle.kinds.specs.Refusal.{accepted};
 ghost use Rattle.check_text.specs.CheckAnswers.{admittedText, replyOf, bytesOf};
 ghost use Rattle.check_text.specs.Buffers.{formulaIn, FormulaBuffers};
-use kinds::Kind;
+use kinds::Shape;
 use kinds::Sized;
 use words::first_words;
 
@@ -14,31 +14,25 @@ pub mod replies;
 // The reply to a formula that was read: the first k words of a and b are its masks, and rows starts with a row for each output. The bytes of its text,
 // written to out, or refusal 9.
 pub fn check_reply(
-    kind: Kind,
-    p: u64,
-    q: u64,
-    r: u64,
+    shape: Shape,
     k: u64,
     a: &[u64],
     b: &[u64],
     rows: &[u64],
     out: &mut [u8],
 ) -> usize
-    requires { ⌜ FormulaBuffers kind p q r k (now a) (now b) (now rows) ⌝ }
-    ensures { λ x. ⌜ (x ≡ replyOf (accepted (admittedText (formulaIn kind p q r k (now (a .entry)) (now (b .entry)) (now (rows .entry))))) (now (out .entry)))
-        × (now (out .exit) ≡ bytesOf (accepted (admittedText (formulaIn kind p q r k (now (a .entry)) (now (b .entry)) (now (rows .entry)))))
+    requires { ⌜ FormulaBuffers shape k (now a) (now b) (now rows) ⌝ }
+    ensures { λ x. ⌜ (x ≡ replyOf (accepted (admittedText (formulaIn shape k (now (a .entry)) (now (b .entry)) (now (rows .entry))))) (now (out .entry)))
+        × (now (out .exit) ≡ bytesOf (accepted (admittedText (formulaIn shape k (now (a .entry)) (now (b .entry)) (now (rows .entry)))))
         (now (out .entry))) ⌝ }
 {
-    let Sized::Are(n, m, outputs) = kinds::sizes_of(kind, p, q, r) else {
+    let Sized::Are(n, m, outputs) = kinds::sizes_of(shape) else {
         return 3;
     };
     let firsts = first_words(a, k as usize);
     let seconds = first_words(b, k as usize);
     let said = formula_check::judge(
-        kind,
-        p,
-        q,
-        r,
+        shape,
         n,
         m,
         firsts,
@@ -46,6 +40,6 @@ pub fn check_reply(
         first_words(rows, outputs as usize),
     );
     let verdict = said.verdict;
-    let n = replies::check_text(kind, p, q, r, k, verdict, said.adders, out);
+    let n = replies::check_text(shape, k, verdict, said.adders, out);
     if n == 0 { 9 } else { n }
 }

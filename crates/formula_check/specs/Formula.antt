@@ -17,10 +17,11 @@ use lib.ListN.{length}
 use lib.Dec.{eqb, ltb}
 use Rattle.linear.specs.Bit.{bit, xorB}
 use Rattle.kinds.specs.Kinds.{kindNumbered, knownMap}
-use Rattle.kinds.specs.Sizes.{sizes}
+use Rattle.kinds.specs.Sizes.{shapeOf, sizes}
 use Rattle.kinds.specs.Refusal.{Answer, accepted, need, refuse, follow}
 use Rattle.words.specs.Masks.{wide, zeroIn}
 use Rattle.kinds.specs.declared.Kind.{Kind}
+use Rattle.kinds.specs.declared.Shape.{Shape}
 use Rattle.forms.specs.Row.{rowForm}
 use Rattle.formula_check.specs.sums.Sums.{productForms, addersOf}
 use Rattle.maps.specs.Textbook.{sumTo}
@@ -35,10 +36,10 @@ formulaOutput n m (x ∷ xs) (y ∷ ys) row k a b =
     xorB (bit row k && (sumTo n (λ i. bit x i && a i) && sumTo m (λ j. bit y j && b j))) (formulaOutput n m xs ys row (suc k) a b)
 
 -- ---- by forms
-unfoldable pub firstWrong : Kind → (p q r n m : ℕ) → List ℕ → List ℕ → ℕ → Option ℕ
-firstWrong kd p q r n m fs [] t = none
-firstWrong kd p q r n m fs (row ∷ rows) t =
-    cond (eqb (rowForm fs row 0) (targetForm kd p q r n m t)) (firstWrong kd p q r n m fs rows (suc t)) (some t)
+unfoldable pub firstWrong : Shape → (n m : ℕ) → List ℕ → List ℕ → ℕ → Option ℕ
+firstWrong shape n m fs [] t = none
+firstWrong shape n m fs (row ∷ rows) t =
+    cond (eqb (rowForm fs row 0) (targetForm shape n m t)) (firstWrong shape n m fs rows (suc t)) (some t)
 
 -- ---- adders
 abbrev pub adders : (xs ys rows : List ℕ) → ℕ
@@ -50,34 +51,31 @@ abbrev pub Lists : Type 0
 Lists = List ℕ × List ℕ × List ℕ
 
 pub record Admitted : Type 0 where
-  pub kind : Kind
-  pub p : ℕ
-  pub q : ℕ
-  pub r : ℕ
+  pub shape : Shape
   pub n : ℕ
   pub m : ℕ
   pub firsts : List ℕ
   pub seconds : List ℕ
   pub rows : List ℕ
 
-abbrev pub formulaOf : Kind → (p q r n m : ℕ) → (xs ys rows : List ℕ) → Admitted
-formulaOf kd p q r n m xs ys rows = record { kind = kd; p = p; q = q; r = r; n = n; m = m; firsts = xs; seconds = ys; rows = rows }
+abbrev pub formulaOf : Shape → (n m : ℕ) → (xs ys rows : List ℕ) → Admitted
+formulaOf shape n m xs ys rows = record { shape = shape; n = n; m = m; firsts = xs; seconds = ys; rows = rows }
 
 -- 6 to 8, of a formula with k products whose lists have the right lengths
-unfoldable pub passed : Kind → (p q r n m k : ℕ) → (xs ys rows : List ℕ) → Answer Admitted
-passed kd p q r n m k xs ys rows =
+unfoldable pub passed : Shape → (n m k : ℕ) → (xs ys rows : List ℕ) → Answer Admitted
+passed shape n m k xs ys rows =
     refuse 6 (wide n xs || (wide m ys || wide k rows))
     (refuse 7 (zeroIn xs || zeroIn ys)
     (refuse 8 (ltb mostProducts k)
-    (accepted (formulaOf kd p q r n m xs ys rows))))
+    (accepted (formulaOf shape n m xs ys rows))))
 
 -- 2 to 8, of a formula from numbers or from a file: `lists u`, its lists if they are those of k products and u rows
 unfoldable pub admit : Option Kind → (p q r k : ℕ) → (ℕ → Option Lists) → Answer Admitted
 admit named p q r k lists =
     need 2 (knownMap named) λ kd.
-    need 3 (sizes kd p q r) λ z.
+    need 3 (sizes (shapeOf kd p q r)) λ z.
     need 5 (lists (z .2)) λ l.
-    passed kd p q r (z .0) (z .1) k (l .0) (l .1) (l .2)
+    passed (shapeOf kd p q r) (z .0) (z .1) k (l .0) (l .1) (l .2)
 
 -- refusal 5, "in calls on numbers, a list handed in has the wrong length"
 unfoldable pub lengths : (k u : ℕ) (xs ys rows : List ℕ) → Bool
@@ -88,7 +86,7 @@ listsHanded k xs ys rows u = cond (lengths k u xs ys rows) none (some (xs, ys, r
 
 abbrev pub verdict : Admitted → Option ℕ × ℕ
 verdict f =
-    (firstWrong (f .kind) (f .p) (f .q) (f .r) (f .n) (f .m) (productForms (f .n) (f .m) (f .firsts) (f .seconds)) (f .rows) 0, adders (f .firsts) (f .seconds) (f .rows))
+    (firstWrong (f .shape) (f .n) (f .m) (productForms (f .n) (f .m) (f .firsts) (f .seconds)) (f .rows) 0, adders (f .firsts) (f .seconds) (f .rows))
 
 unfoldable pub check : (number p q r k : ℕ) (xs ys rows : List ℕ) → Answer (Option ℕ × ℕ)
 check number p q r k xs ys rows = follow (admit (kindNumbered number) p q r k (listsHanded k xs ys rows)) λ f. accepted (verdict f)

@@ -2,3 +2,4 @@
 pub mod Loops
 pub mod Admitted
 pub mod Judging
+pub mod Numbers

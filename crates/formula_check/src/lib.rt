@@ -10,10 +10,11 @@ ghost use Rattle.formula_check.specs.Formula.{firstWrong, formulaOf, ver
 ghost use Rattle.formula_check.specs.Refusals.{refusalOf};
 ghost use Rattle.words.specs.Masks.{wide, zeroIn};
 ghost use Rattle.formula_check.specs.sums.Sums.{productForms};
-ghost use Rattle.formula_check.specs.Replies.{seenReply, Judging, Fitting};
+ghost use Rattle.kinds.specs.Numbers.{replyNumbers};
+ghost use Rattle.formula_check.specs.Replies.{seenReply, checkNumbers, checkValues, Judging, Fitting};
 ghost use Rattle.formula_check.specs.verdicts.Verdicts.{seenVerdict};
-use kinds::Kind;
 use kinds::Known;
+use kinds::Shape;
 use kinds::Sized;
 use verdicts::Verdict;
 
@@ -21,22 +22,13 @@ pub mod sums;
 pub mod verdicts;
 
 // Looks at each row of a map with n and m variables, whose products have the forms handed in.
-fn first_wrong(
-    kind: Kind,
-    p: u64,
-    q: u64,
-    r: u64,
-    n: u64,
-    m: u64,
-    forms: &[u64],
-    rows: &[u64],
-) -> Verdict
-    requires { ⌜ Judging kind p q r n m (now forms) (now rows) ⌝ }
-    ensures { λ x. ⌜ firstWrong kind p q r n m (now (forms .entry)) (now (rows .entry)) 0 ≡ seenVerdict x ⌝ }
+fn first_wrong(shape: Shape, n: u64, m: u64, forms: &[u64], rows: &[u64]) -> Verdict
+    requires { ⌜ Judging shape n m (now forms) (now rows) ⌝ }
+    ensures { λ x. ⌜ firstWrong shape n m (now (forms .entry)) (now (rows .entry)) 0 ≡ seenVerdict x ⌝ }
 {
     let mut t = 0;
     while t < rows.len() {
-        if sums::row_form(forms, rows[t]) != maps::target(kind, p, q, r, n, m, t as u64) {
+        if sums::row_form(forms, rows[t]) != maps::target(shape, n, m, t as u64) {
             return Verdict::Wrong(t as u64);
         }
         t += 1;
@@ -45,24 +37,14 @@ fn first_wrong(
 }
 
 // The verdict on a formula whose masks and rows fit.
-fn verdict_on(
-    kind: Kind,
-    p: u64,
-    q: u64,
-    r: u64,
-    n: u64,
-    m: u64,
-    a: &[u64],
-    b: &[u64],
-    rows: &[u64],
-) -> Verdict
-    requires { ⌜ Fitting kind p q r n m (now a) (now b) (now rows) ⌝ }
-    ensures { λ x. ⌜ firstWrong kind p q r n m (productForms n m (now (a .entry)) (now (b .entry))) (now (rows .entry)) 0 ≡ seenVerdict x ⌝ }
+fn verdict_on(shape: Shape, n: u64, m: u64, a: &[u64], b: &[u64], rows: &[u64]) -> Verdict
+    requires { ⌜ Fitting shape n m (now a) (now b) (now rows) ⌝ }
+    ensures { λ x. ⌜ firstWrong shape n m (productForms n m (now (a .entry)) (now (b .entry))) (now (rows .entry)) 0 ≡ seenVerdict x ⌝ }
 {
     let mut products = [0u64; kinds::PRODUCTS];
     sums::product_forms(n as usize, m as usize, a, b, &mut products);
     let k = a.len();
-    first_wrong(kind, p, q, r, n, m, &products[..k], rows)
+    first_wrong(shape, n, m, &products[..k], rows)
 }
 
 // What is found of an admitted formula: the verdict and the adders.
@@ -72,23 +54,13 @@ pub struct Judgement {
 }
 
 // The verdict on an admitted formula, and its adders.
-pub fn judge(
-    kind: Kind,
-    p: u64,
-    q: u64,
-    r: u64,
-    n: u64,
-    m: u64,
-    a: &[u64],
-    b: &[u64],
-    rows: &[u64],
-) -> Judgement
-    requires { ⌜ Fitting kind p q r n m (now a) (now b) (now rows) ⌝ }
-    ensures { λ x. ⌜ verdict (formulaOf kind p q r n m (now (a .entry)) (now (b .entry)) (now (rows .entry))) ≡ (seenVerdict (x .verdict), x .adders) ⌝ }
+pub fn judge(shape: Shape, n: u64, m: u64, a: &[u64], b: &[u64], rows: &[u64]) -> Judgement
+    requires { ⌜ Fitting shape n m (now a) (now b) (now rows) ⌝ }
+    ensures { λ x. ⌜ verdict (formulaOf shape n m (now (a .entry)) (now (b .entry)) (now (rows .entry))) ≡ (seenVerdict (x .verdict), x .adders) ⌝ }
 {
     let adders = sums::adders_of(a) + sums::adders_of(b) + sums::adders_of(rows);
     Judgement {
-        verdict: verdict_on(kind, p, q, r, n, m, a, b, rows),
+        verdict: verdict_on(shape, n, m, a, b, rows),
         adders: adders,
     }
 }
@@ -146,12 +118,19 @@ pub fn check(
     b: &[u64],
     rows: &[u64],
 ) -> Reply
-    ensures { λ x. ⌜ check number p q r k (now (a .entry)) (now (b .entry)) (now (rows .entry)) ≡ seenReply x ⌝ }
+    ensures { λ x. ⌜ (check number p q r k (now (a .entry)) (now (b .entry)) (now (rows .entry)) ≡ seenReply x)
+        × (checkNumbers x ≡ replyNumbers 3 checkValues (check number p q r k (now (a .entry)) (now (b .entry)) (now (rows .entry)))) ⌝ }
 {
     let Known::Is(kind) = kinds::known_map(kinds::kind_numbered(number)) else {
         return Reply::Refused(2);
     };
-    let Sized::Are(n, m, u) = kinds::sizes_of(kind, p, q, r) else {
+    let shape = Shape {
+        kind: kind,
+        p: p,
+        q: q,
+        r: r,
+    };
+    let Sized::Are(n, m, u) = kinds::sizes_of(shape) else {
         return Reply::Refused(3);
     };
     if a.len() as u64 != k {
@@ -167,7 +146,7 @@ pub fn check(
     if e != 0 {
         return Reply::Refused(e);
     }
-    let said = judge(kind, p, q, r, n, m, a, b, rows);
+    let said = judge(shape, n, m, a, b, rows);
     let verdict = said.verdict;
     Reply::Judged(verdict, said.adders)
 }

@@ -18,6 +18,7 @@ use Rattle.formula_files.specs.lines.laws.Told.{body-lengths}
 use Rattle.formula_files.specs.FormulaFile.{formulaFile}
 use Rattle.formula_files.specs.Sound.{Sound, BufferRoom}
 use Rattle.formula_files.specs.laws.Accepted.{file-inv}
+use Rattle.kinds.specs.Sizes.{shapeOf}
 
 pub formula-accepted-sound : (s : List ℕ) (la lb lr : ℕ) (f : Admitted) → formulaFile s la lb lr ≡ accepted f → Sound f × BufferRoom f la lb lr
 formula-accepted-sound s la lb lr f e =
@@ -31,7 +32,7 @@ formula-accepted-sound s la lb lr f e =
     let a = neither (wide (A .n) xs) (wide (A .m) ys || wide k zs) (A .narrow) in
     let b = neither (wide (A .m) ys) (wide k zs) (a .1) in
     let c = neither (zeroIn xs) (zeroIn ys) (A .nonzero) in
-    let S : Sound (formulaOf (A .kd) (G .head .p) (G .head .q) (G .head .r) (A .n) (A .m) xs ys zs) =
+    let S : Sound (formulaOf (shapeOf (A .kd) (G .head .p) (G .head .q) (G .head .r)) (A .n) (A .m) xs ys zs) =
     record {
       not-list = A .is-map;
       fits = A .sized ∙ ap (λ (t : ℕ). some (A .n, A .m, t)) (sym (l .2));

@@ -11,7 +11,7 @@ use mathlib.Core.Bool.{Bool, _||_}
 use lib.Dec.{ltb}
 use lib.ListN.{length}
 use Rattle.kinds.specs.Refusal.{Answer, accepted, need, refuse, follow}
-use Rattle.kinds.specs.declared.Kind.{Kind}
+use Rattle.kinds.specs.declared.Shape.{Shape}
 use Rattle.text.specs.heads.Head.{Head, headLines}
 use Rattle.formula_check.specs.Formula.{Admitted, passed, admit}
 use Rattle.formula_files.specs.lines.Formula.{body}
@@ -24,8 +24,8 @@ abbrev pub heldIn : (la lb lr : ℕ) → Admitted → Answer Admitted
 heldIn la lb lr f = refuse 9 (tooShort la lb lr f) (accepted f)
 
 -- 5 to 9, of the lines under the first two: k products and t rows
-abbrev pub under : (kind : Kind) (p q r k n m t la lb lr : ℕ) → List ℕ → Answer Admitted
-under kind p q r k n m t la lb lr s = follow (need 5 (body k t s) λ l. passed kind p q r n m k (l .0) (l .1) (l .2)) (heldIn la lb lr)
+abbrev pub under : (shape : Shape) (k n m t la lb lr : ℕ) → List ℕ → Answer Admitted
+under shape k n m t la lb lr s = follow (need 5 (body k t s) λ l. passed shape n m k (l .0) (l .1) (l .2)) (heldIn la lb lr)
 
 -- 2 to 9, of the first two lines and the text after them
 unfoldable pub rest : Head → List ℕ → (la lb lr : ℕ) → Answer Admitted

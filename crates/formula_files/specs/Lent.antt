@@ -1,13 +1,16 @@
 -- The reply to a reading, and what the three lent buffers hold at exit.
 --   formulaReply o                  == the code's answer
+--   formulaReadNumbers x            == its numbers: the refusal's, the kind's, p, q, r and k; `formulaReadValues`, the same of what is accepted
 --   firstOf, secondOf, rowsLent o d == the buffer d after it: all 0 where the reading is refused, else filled from the start
 -- Assumes nothing.
 use Prim.Native.Nat.{ℕ}
 use mathlib.Core.Path.{_≡_}
-use mathlib.Core.List.{List}
+use mathlib.Core.List.{List, [], _∷_}
 use lib.ListN.{length}
-use Rattle.kinds.specs.declared.Kind.{Kind}
+use Rattle.kinds.specs.declared.Shape.{Shape}
+use Rattle.kinds.specs.Kinds.{numberOf}
 use Rattle.kinds.specs.Refusal.{Answer, refused, accepted}
+use Rattle.kinds.specs.Numbers.{refusalNumbers, answerNumbers}
 use Rattle.words.specs.Buffers.{filled, zeros}
 use Rattle.formula_check.specs.Formula.{Admitted}
 use Rattle.formula_files.specs.FormulaFile.{under}
@@ -16,7 +19,15 @@ use Rattle.formula_files.specs.declared.Read.the-variants as read
 
 abbrev pub formulaReply : Answer Admitted → Read
 formulaReply (refused e) = read.Refused e
-formulaReply (accepted f) = read.Formula (f .kind) (f .p) (f .q) (f .r) (length (f .firsts))
+formulaReply (accepted f) = read.Formula (f .shape) (length (f .firsts))
+
+-- "A refusal is its number, every other number of the reply 0."
+abbrev pub formulaReadNumbers : Read → List ℕ
+formulaReadNumbers (read.Refused e) = refusalNumbers 5 e
+formulaReadNumbers (read.Formula shape k) = answerNumbers (numberOf (shape .kind) ∷ shape .p ∷ shape .q ∷ shape .r ∷ k ∷ [])
+
+abbrev pub formulaReadValues : Admitted → List ℕ
+formulaReadValues f = numberOf (f .shape .kind) ∷ f .shape .p ∷ f .shape .q ∷ f .shape .r ∷ length (f .firsts) ∷ []
 
 abbrev pub firstOf : Answer Admitted → List ℕ → List ℕ
 firstOf (refused e) d = zeros d
@@ -37,6 +48,6 @@ Left (accepted f) a b d a₁ b₁ d₁ = (a₁ ≡ filled (f .firsts) a) × (b�
 
 -- what the number e of the refusal, or 0, and the buffers say of the lines under the first two
 pub record Under (k n m t : ℕ) (s a b d a₁ b₁ d₁ : List ℕ) (e : ℕ) : Type 0 where
-  pub stopped : (kind : Kind) (p q r : ℕ) → (e ≡ 0 → ⊥) → under kind p q r k n m t (length a) (length b) (length d) s ≡ refused e
-  pub all : (kind : Kind) (p q r : ℕ) → e ≡ 0
-      → (read.Formula kind p q r k ≡ formulaReply (under kind p q r k n m t (length a) (length b) (length d) s)) × Left (under kind p q r k n m t (length a) (length b) (length d) s) a b d a₁ b₁ d₁
+  pub stopped : (shape : Shape) → (e ≡ 0 → ⊥) → under shape k n m t (length a) (length b) (length d) s ≡ refused e
+  pub all : (shape : Shape) → e ≡ 0
+      → (read.Formula shape k ≡ formulaReply (under shape k n m t (length a) (length b) (length d) s)) × Left (under shape k n m t (length a) (length b) (length d) s) a b d a₁ b₁ d₁

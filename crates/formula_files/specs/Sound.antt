@@ -15,8 +15,8 @@ use Rattle.words.specs.Masks.{wide, zeroIn}
 use Rattle.formula_check.specs.Formula.{Admitted}
 
 pub record Sound (f : Admitted) : Type 0 where
-  pub not-list : isList (f .kind) ≡ false
-  pub fits : sizes (f .kind) (f .p) (f .q) (f .r) ≡ some (f .n, f .m, length (f .rows))
+  pub not-list : isList (f .shape .kind) ≡ false
+  pub fits : sizes (f .shape) ≡ some (f .n, f .m, length (f .rows))
   pub paired : length (f .firsts) ≡ length (f .seconds)
   pub few : length (f .firsts) ≤ mostProducts
   pub narrow-firsts : wide (f .n) (f .firsts) ≡ false

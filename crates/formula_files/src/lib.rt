@@ -5,9 +5,10 @@
 ghost use mathlib.Core.Path.{_≡_};
 ghost use lib.ListN.{length};
 ghost use Rattle.formula_files.specs.FormulaFile.{formulaFile};
-ghost use Rattle.formula_files.specs.Lent.{formulaReply, firstOf, secondOf, rowsLent, Left, Under};
-use kinds::Kind;
+ghost use Rattle.formula_files.specs.Lent.{formulaReply, formulaReadNumbers, formulaReadValues, firstOf, secondOf, rowsLent, Left, Under};
+ghost use Rattle.kinds.specs.Numbers.{replyNumbers};
 use kinds::Known;
+use kinds::Shape;
 use kinds::Sized;
 use lines::BodyRead;
 use text::heads::HeadRead;
@@ -34,10 +35,10 @@ fn read_under(
     refusals::refusal(wide, zero, k, t, a.len(), b.len(), d.len())
 }
 
-// The reply of reading a formula: a refusal's number, or the kind and the four counts.
+// The reply of reading a formula: a refusal's number, or the kind and sizes, and k.
 pub enum Read {
     Refused(u64),
-    Formula(Kind, u64, u64, u64, u64),
+    Formula(Shape, u64),
 }
 
 // The reply; where it is a formula, the buffers are filled.
@@ -52,7 +53,13 @@ fn read_whole(s: &[u8], a: &mut [u64], b: &mut [u64], d: &mut [u64]) -> Read
     let Known::Is(kind) = kinds::known_map(known) else {
         return Read::Refused(2);
     };
-    let Sized::Are(n, m, t) = kinds::sizes_of(kind, p, q, r) else {
+    let shape = Shape {
+        kind: kind,
+        p: p,
+        q: q,
+        r: r,
+    };
+    let Sized::Are(n, m, t) = kinds::sizes_of(shape) else {
         return Read::Refused(3);
     };
     let e = read_under(
@@ -68,7 +75,7 @@ fn read_whole(s: &[u8], a: &mut [u64], b: &mut [u64], d: &mut [u64]) -> Read
     if e != 0 {
         return Read::Refused(e);
     }
-    Read::Formula(kind, p, q, r, k)
+    Read::Formula(shape, k)
 }
 
 // Reads a formula's file: the first refusal that applies, and all three buffers 0; or the formula, with its factors and rows from the
@@ -80,7 +87,9 @@ pub fn read_formula(s: &[u8], a: &mut [u64], b: &mut [u64], rows: &mut [u64]) ->
         × (now (b .exit) ≡ secondOf (formulaFile (now (s .entry)) (length (now (a .entry))) (length (now (b .entry))) (length (now (rows .entry))))
         (now (b .entry)))
         × (now (rows .exit) ≡ rowsLent (formulaFile (now (s .entry)) (length (now (a .entry))) (length (now (b .entry))) (length (now (rows .entry))))
-        (now (rows .entry))) ⌝ }
+        (now (rows .entry)))
+        × (formulaReadNumbers x ≡ replyNumbers 5 formulaReadValues
+        (formulaFile (now (s .entry)) (length (now (a .entry))) (length (now (b .entry))) (length (now (rows .entry))))) ⌝ }
 {
     let got = read_whole(s, a, b, rows);
     match got {
@@ -90,6 +99,6 @@ pub fn read_formula(s: &[u8], a: &mut [u64], b: &mut [u64], rows: &mut [u64]) ->
             words::clear(rows);
             Read::Refused(e)
         }
-        Read::Formula(kind, p, q, r, k) => Read::Formula(kind, p, q, r, k),
+        Read::Formula(shape, k) => Read::Formula(shape, k),
     }
 }

@@ -7,7 +7,6 @@
 use Prim.Native.Nat.{ℕ, zero, suc, _-_}
 use mathlib.Core.List.{List, [], _++_}
 use lib.ListN.{drop}
-use Rattle.kinds.specs.Kinds.{numberOf}
 use Rattle.kinds.specs.Refusal.{accepted, follow}
 use Rattle.records.specs.lookup.Lookup.{lookup}
 use Rattle.printing.specs.refusals.Pages.{answerText}
@@ -23,8 +22,7 @@ rowsAt L i =
 
 abbrev pub entryPart : PlanListed → ℕ → List ℕ
 entryPart L i =
-    let P = L .problem in
-    entryFormulae i (numberOf (P .kind)) (P .p) (P .q) (P .r) (P .generators) (P .targets) (rowsAt L i)
+    entryFormulae i (L .problem .problem) (rowsAt L i)
 
 unfoldable pub entriesPart : PlanListed → (i n : ℕ) → List ℕ
 entriesPart L i zero = []

@@ -5,3 +5,4 @@ pub mod Worked
 pub mod laws
 pub mod first_part
 pub mod entry_parts
+pub mod parts

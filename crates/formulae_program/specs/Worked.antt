@@ -13,12 +13,12 @@ use Rattle.kinds.specs.Kinds.{kindNumbered}
 use Rattle.kinds.specs.Sizes.{within, listSizes}
 use Rattle.words.specs.Masks.{wide, zeroIn}
 use Rattle.words.specs.lists.Lists.{repeats}
-use Rattle.problems.specs.Problem.{listed, posed}
+use Rattle.problems.specs.Problem.{listed, shaped, posed}
 use Rattle.catalogue.specs.listing.Listing.{records, flat, fitting}
 use Rattle.bases.specs.rows.Rows.{rowOf}
 use Rattle.first_formula.specs.Choice.{formulaRecord}
 use Rattle.records.specs.lookup.Lookup.{lookup}
-use Rattle.catalogue.specs.Catalogue.{entryListing, catalogue}
+use Rattle.catalogue.specs.Catalogue.{entryListing, catalogueOf, catalogue}
 use Rattle.text.specs.Line.{cut, field, nameLine}
 use Rattle.text.specs.Numeral.{digits, numeral}
 use Rattle.text.specs.heads.Head.{countFields, headLine, headLines}
@@ -29,15 +29,15 @@ use Rattle.printing.specs.field_lists.Inner.{spacedText, innerText}
 use Rattle.printing.specs.record_lines.RecordLines.{listsText, entryText, recordLines}
 use Rattle.catalogue_text.specs.report.CatalogueReports.{countsText}
 use Rattle.problem_files.specs.handed_forms.ProblemLines.{listLines}
-use Rattle.problem_files.specs.judging.Judged.{settled, problemJudged}
-use Rattle.problem_files.specs.ProblemFile.{formsRead, problemFile}
+use Rattle.problem_files.specs.judging.Judged.{settled}
+use Rattle.problem_files.specs.posing.Posing.{posedLines, posedFile}
 use Rattle.space_formulae.specs.spaces.Spaces as spaces
-use Rattle.space_formulae.specs.spaces.Spaces.{isEntry, formulaeOf}
+use Rattle.space_formulae.specs.spaces.Spaces.{isEntry, formulaeFor, formulaeOf}
 use Rattle.problem_files.specs.list_lines.Roles.{roleLine, roleLines, listBody}
-use Rattle.problem_files.specs.inputs.Inputs.{inputFile}
+use Rattle.problem_files.specs.inputs.Inputs.{posedInput, inputFile}
 use Rattle.formulae_text.specs.lines.FormulaLines.{formulaText, formulaeText}
 use Rattle.formulae_text.specs.FormulaAnswers.{entryFormulae}
-use Rattle.formulae_program.specs.first_part.Listed.{listedFile, formulaeHead}
+use Rattle.formulae_program.specs.first_part.Listed.{listedIn, formulaeHead}
 use Rattle.formulae_program.specs.FormulaeProgram.{entriesPart, formulaeProgram}
 
 pub worked-formulae : formulaeProgram ((107 ∷ 105 ∷ 110 ∷ 100 ∷ 44 ∷ 112 ∷ 44 ∷ 113 ∷ 44 ∷ 114 ∷ 44 ∷ 107 ∷ 10 ∷ [])
@@ -50,8 +50,9 @@ pub worked-formulae : formulaeProgram ((107 ∷ 105 ∷ 110 ∷ 100 ∷ 44 ∷ 1
     ++ (48 ∷ 44 ∷ 49 ∷ 44 ∷ 48 ∷ 32 ∷ 50 ∷ 44 ∷ 50 ∷ 10 ∷ [])
     ++ (48 ∷ 44 ∷ 50 ∷ 44 ∷ 49 ∷ 32 ∷ 50 ∷ 44 ∷ 50 ∷ 10 ∷ [])
 unfolding bit digitsOf top clear reduce norm place insert inserts basisOf dim risingLists anyOf only firstOfEach sameVec sameBasis inside generator
-    chosen generatorsIn fits space entries formulae rowOf formulaRecord kindNumbered within listSizes wide zeroIn repeats listed posed records flat
-    fitting entryListing catalogue numeralText sizesText spacedText innerText listsText entryText recordLines countsText formulaText cut field nameLine digits
-    numeral countFields headLine headLines ended roleLine roleLines listBody listLines settled problemJudged formsRead problemFile isEntry spaces.formulaeListing
-    formulaeOf formulaeText entryFormulae inputFile listedFile lookup formulaeHead entriesPart formulaeProgram
+    chosen generatorsIn fits space entries formulae rowOf formulaRecord kindNumbered within listSizes wide zeroIn repeats listed shaped posed records flat
+    fitting entryListing catalogueOf catalogue numeralText sizesText spacedText innerText listsText entryText recordLines countsText formulaText cut
+    field nameLine digits numeral countFields headLine headLines ended roleLine roleLines listBody listLines settled posedLines posedFile
+    isEntry spaces.formulaeListing formulaeFor formulaeOf formulaeText entryFormulae posedInput inputFile listedIn lookup formulaeHead entriesPart
+    formulaeProgram
 worked-formulae = refl

@@ -1,8 +1,9 @@
 // What the Formulae program prints of an entry, on a page.
 ghost use mathlib.Core.Path.{_≡_};
-ghost use Prim.Native.Nat.{_-_, _≤_};
-ghost use lib.ListN.{length, drop};
-ghost use Rattle.formulae_program.specs.entry_parts.EntryPages.{planText};
+ghost use Prim.Native.Nat.{_≤_};
+ghost use lib.ListN.{length, take};
+ghost use Rattle.problems.specs.Problem.{problem};
+ghost use Rattle.formulae_program.specs.entry_parts.EntryPages.{entryTold, planText};
 ghost use Rattle.printing.specs.fields.Written.{writtenIn};
 ghost use Rattle.printing.specs.pages.Printed.{pageAnswer, seenPrinted};
 ghost use Rattle.printing.specs.refusals.Pages.{partPage};
@@ -10,24 +11,18 @@ use super::plan::Plan;
 use printing::pages::Printed;
 use words::first_words;
 
-// The words behind the first n; none where there are no more.
-fn words_behind(a: &[u64], n: usize) -> &[u64]
-    ensures { λ r. ⌜ now r ≡ drop n (now (a .entry)) ⌝ }
+// What is printed of an entry with these rows, from the start of a page; its length. Targets that no problem has, none or more than 64, are refused by 5.
+fn put_entry(entry: u64, gens: &[u64], targets: &[u64], rows: &[u64], page: &mut [u8]) -> usize
+    requires { ⌜ length (now page) ≡ partPage ⌝ }
+    ensures { λ e. ⌜ (take e (now (page .exit)) ≡ entryTold entry (problem (now (gens .entry)) (now (targets .entry))) (now (rows .entry))) × (e ≤ partPage) ⌝ }
 {
-    if n > a.len() {
-        return &a[..0];
+    if targets.len() == 0 {
+        return printing::refusals::refused_page(5, page);
     }
-    &a[n..]
-}
-
-// How many numbers an extension has.
-fn extension_length(k: u64, ell: u64) -> u64
-    ensures { λ d. ⌜ d ≡ k - ell ⌝ }
-{
-    if k < ell {
-        return 0;
+    if targets.len() > kinds::TARGETS {
+        return printing::refusals::refused_page(5, page);
     }
-    k - ell
+    formulae_text::entry_formulae(entry, gens, targets, rows, page)
 }
 
 // What is printed of entry i goes to a lent page, the rest of which stays as it was; a page that is too short is refused by 9. 278,528 bytes are
@@ -44,20 +39,13 @@ pub fn entry_page(
         × (now (page .exit) ≡ writtenIn (planText plan (now (gs .entry)) (now (ts .entry)) (now (listing .entry)) i) (now (page .entry)))
         × (length (planText plan (now (gs .entry)) (now (ts .entry)) (now (listing .entry)) i) ≤ partPage) ⌝ }
 {
-    let kind = plan.kind;
-    let number = kinds::number_of(kind);
-    let d = extension_length(plan.k, plan.ell) as usize;
-    let stretch = records::lookup::entry(listing, plan.ell, plan.k, plan.shown as u64, i as u64);
+    let rows = records::lookup::rows(listing, plan.ell, plan.k, plan.shown as u64, i as u64);
     let mut whole = printing::pages::part_page();
-    let n = formulae_text::entry_formulae(
+    let n = put_entry(
         i as u64,
-        number,
-        plan.p,
-        plan.q,
-        plan.r,
         first_words(gs, plan.generators),
         first_words(ts, plan.targets),
-        words_behind(stretch, d),
+        rows,
         &mut whole,
     );
     printing::pages::print_page(&whole[..n], page)

@@ -6,79 +6,103 @@ ghost use Rattle.printing.specs.fields.Piece.{Piece};
 ghost use Rattle.printing.specs.fields.Written.{writtenIn};
 ghost use Rattle.printing.specs.pages.Printed.{pageAnswer, seenPrinted};
 ghost use Rattle.printing.specs.refusals.Pages.{partPage};
-ghost use Rattle.problem_files.specs.judging.Judged.{problemOf};
-ghost use Rattle.formulae_program.specs.first_part.Listed.{formulaeHead, listedEntries};
-ghost use Rattle.formulae_program.specs.first_part.Starts.{startedOf, listingAfter, Starts, firstText};
+ghost use mathlib.Core.Bool.{_||_};
+ghost use lib.Dec.{ltb};
+ghost use Rattle.kinds.specs.Limits.{mostGenerators, mostTargets};
+ghost use Rattle.problems.specs.Problem.{problem};
+ghost use Rattle.problems.specs.Theorems.{Few};
+ghost use Rattle.formulae_program.specs.first_part.Listed.{formulaeHead};
+ghost use Rattle.formulae_program.specs.first_part.Starts.{Planned, Starts, firstText};
 use super::plan::Plan;
 use super::plan::Started;
 use catalogue::Catalogued;
-use kinds::Kind;
+use kinds::Shape;
 use printing::pages::Printed;
-use problem_files::judging::ProblemRead;
-use problem_files::judging::Purpose;
+use problem_files::posing::PosedRead;
+use words::first_words;
 
-// The plan of a problem; its Catalogue goes to the listing.
+// The plan of a posed problem: its Catalogue goes to the listing, its forms to the start of gs and ts, which are 0 where it is refused.
 fn plan_problem(
-    kind: Kind,
-    p: u64,
-    q: u64,
-    r: u64,
+    shape: Shape,
     k: u64,
-    gs: &[u64],
-    ts: &[u64],
+    gens: &[u64],
+    targets: &[u64],
+    gs: &mut [u64],
+    ts: &mut [u64],
     listing: &mut [u64],
 ) -> Started
-    ensures { λ x. ⌜ (x ≡ startedOf (listedEntries (now (listing .entry)) (problemOf kind p q r k (now (gs .entry)) (now (ts .entry)))))
-        × (now (listing .exit)
-        ≡ listingAfter (listedEntries (now (listing .entry)) (problemOf kind p q r k (now (gs .entry)) (now (ts .entry)))) (now (listing .entry))) ⌝ }
-{
-    match catalogue::catalogue(kinds::number_of(kind), p, q, r, k, gs, ts, listing) {
-        Catalogued::Refused(e) => Started::Refused(e),
-        Catalogued::Entries(ell, found, shown) => Started::Listed(Plan {
-            kind: kind,
-            p: p,
-            q: q,
-            r: r,
-            k: k,
-            ell: ell as u64,
-            found: found,
-            shown: shown,
-            generators: gs.len(),
-            targets: ts.len(),
-        }),
-    }
-}
-
-// Reads an input and lists its problem's entries: the plan, with the forms of a list in gs and ts and its Catalogue in the listing, or a refusal.
-pub fn start(file: &[u8], gs: &mut [u64], ts: &mut [u64], listing: &mut [u64]) -> Started
-    ensures { λ x. ⌜ Starts (now (file .entry)) (now (gs .entry)) (now (ts .entry)) (now (listing .entry))
+    requires { ⌜ Few (problem (now gens) (now targets)) × (mostGenerators ≤ length (now gs)) × (mostTargets ≤ length (now ts)) ⌝ }
+    ensures { λ x. ⌜ Planned shape k (problem (now (gens .entry)) (now (targets .entry))) (now (gs .entry)) (now (ts .entry)) (now (listing .entry))
         x (now (gs .exit)) (now (ts .exit)) (now (listing .exit)) ⌝ }
 {
-    match problem_files::inputs::read_input(file, Purpose::Catalogue, gs, ts) {
-        ProblemRead::Refused(e) => Started::Refused(e),
-        ProblemRead::Problem(kind, p, q, r, k) => {
-            let c = problem_files::handed_forms::handed(kind, q) as usize;
-            let d = problem_files::handed_forms::handed(kind, r) as usize;
-            plan_problem(kind, p, q, r, k, &gs[..c], &ts[..d], listing)
+    match catalogue::catalogue_of(gens, targets, k, listing) {
+        Catalogued::Refused(e) => {
+            words::clear(gs);
+            words::clear(ts);
+            Started::Refused(e)
+        }
+        Catalogued::Entries(ell, found, shown) => {
+            words::copy(gens, gs, 0);
+            words::copy(targets, ts, 0);
+            Started::Listed(Plan {
+                shape: shape,
+                k: k,
+                ell: ell as u64,
+                found: found,
+                shown: shown,
+                generators: gens.len(),
+                targets: targets.len(),
+            })
         }
     }
 }
 
-// Catalogue's first two lines and the names of a formula's line, from the start of a buffer, as far as there is room; their length.
-fn put_head(
-    kind: Kind,
-    p: u64,
-    q: u64,
-    r: u64,
-    k: u64,
-    ell: u64,
-    found: u64,
-    shown: u64,
-    out: &mut [u8],
-) -> usize
-    ensures { λ e. ⌜ Piece (now (out .entry)) 0 (formulaeHead kind p q r k ell found shown) 210 (now (out .exit)) e ⌝ }
+// Whether buffers of c and u words are too short for the generators and targets of some problem.
+fn too_short(c: usize, u: usize) -> bool
+    ensures { λ r. ⌜ r ≡ (ltb c mostGenerators || ltb u mostTargets) ⌝ }
 {
-    let a = catalogue_text::report::put_counts(kind, p, q, r, k, ell, found, shown, out);
+    if c < kinds::GENERATORS {
+        return true;
+    }
+    u < kinds::TARGETS
+}
+
+// Reads an input and lists its problem's entries: the plan, with the problem's generators and targets in gs and ts and its Catalogue in the listing, or a
+// refusal. Fewer than 4,095 words for the generators, or 64 for the targets, are refused by 9.
+pub fn start(file: &[u8], gs: &mut [u64], ts: &mut [u64], listing: &mut [u64]) -> Started
+    ensures { λ x. ⌜ Starts (now (file .entry)) (now (gs .entry)) (now (ts .entry)) (now (listing .entry))
+        x (now (gs .exit)) (now (ts .exit)) (now (listing .exit)) ⌝ }
+{
+    if too_short(gs.len(), ts.len()) {
+        words::clear(gs);
+        words::clear(ts);
+        return Started::Refused(9);
+    }
+    let mut g = [0u64; kinds::GENERATORS];
+    let mut t = [0u64; kinds::TARGETS];
+    match problem_files::inputs::pose_input(file, &mut g, &mut t) {
+        PosedRead::Refused(e) => {
+            words::clear(gs);
+            words::clear(ts);
+            Started::Refused(e)
+        }
+        PosedRead::Problem(shape, k, c, u) => plan_problem(
+            shape,
+            k,
+            first_words(&g, c),
+            first_words(&t, u),
+            gs,
+            ts,
+            listing,
+        ),
+    }
+}
+
+// Catalogue's first two lines and the names of a formula's line, from the start of a buffer, as far as there is room; their length.
+fn put_head(shape: Shape, k: u64, ell: u64, found: u64, shown: u64, out: &mut [u8]) -> usize
+    ensures { λ e. ⌜ Piece (now (out .entry)) 0 (formulaeHead shape k ell found shown) 210 (now (out .exit)) e ⌝ }
+{
+    let a = catalogue_text::report::put_counts(shape, k, ell, found, shown, out);
     printing::put_bytes(b"entry,formula,products,rows\n", out, a)
 }
 
@@ -90,18 +114,8 @@ fn put_first(said: Started, out: &mut [u8]) -> usize
     match said {
         Started::Refused(e) => printing::refusals::refused_page(e, out),
         Started::Listed(x) => {
-            let kind = x.kind;
-            put_head(
-                kind,
-                x.p,
-                x.q,
-                x.r,
-                x.k,
-                x.ell,
-                x.found,
-                x.shown as u64,
-                out,
-            )
+            let shape = x.shape;
+            put_head(shape, x.k, x.ell, x.found, x.shown as u64, out)
         }
     }
 }

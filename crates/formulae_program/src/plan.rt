@@ -1,12 +1,9 @@
 // The plan by which the Formulae program prints, entry by entry.
-use kinds::Kind;
+use kinds::Shape;
 
-// What is left to print: the problem of a kind with its sizes and k, what its Catalogue says, and how many forms of a list stand in the buffers.
+// What is left to print: the problem's kind and sizes and k, what its Catalogue says, and how many generators and targets stand in the buffers.
 pub struct Plan {
-    pub kind: Kind,
-    pub p: u64,
-    pub q: u64,
-    pub r: u64,
+    pub shape: Shape,
     pub k: u64,
     pub ell: u64,
     pub found: u64,

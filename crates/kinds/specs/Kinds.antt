@@ -3,7 +3,8 @@
 --   numberOf k     == the number by which a caller names the kind
 --   nameOf k       == the bytes that name it in a file
 --   kindNumbered x == the kind with the number x; each kind is the one with its number (kind-numbered)
---   kindNamed s    == the kind that the bytes s name
+--   longestName    == the most bytes of a name (name-short)
+--   kindNamed s    == the kind that the bytes s name; each kind is the one with its name (kind-named)
 --   isList k       == whether it is the list
 --   knownMap o     == the kind, if it is known and not the list
 -- Document 01: poly, short, circ, mat, list. Assumes nothing.
@@ -11,7 +12,9 @@ use mathlib.Core.Path.{_≡_, refl}
 use mathlib.Core.Bool.{Bool, true, false, _&&_, cond}
 use mathlib.Core.List.{List, [], _∷_}
 use mathlib.Core.Option.{Option, none, some}
-use Prim.Native.Nat.{ℕ}
+use Prim.Native.Nat.{ℕ, _≤_}
+use native.Mathlib.Omega.{arith}
+use lib.ListN.{length}
 use lib.Dec.{eqb}
 use Rattle.kinds.specs.declared.Kind.{Kind}
 use Rattle.kinds.specs.declared.Kind.the-variants as kind
@@ -36,6 +39,16 @@ numberOf k = kindEntry k .number
 
 abbrev pub nameOf : Kind → List ℕ
 nameOf k = kindEntry k .name
+
+abbrev pub longestName : ℕ
+longestName = 5
+
+pub name-short : (k : Kind) → length (nameOf k) ≤ longestName
+name-short kind.Poly = omega arith
+name-short kind.Short = omega arith
+name-short kind.Circ = omega arith
+name-short kind.Mat = omega arith
+name-short kind.List = omega arith
 
 abbrev pub isList : Kind → Bool
 isList k = kindEntry k .list
@@ -68,6 +81,13 @@ same (x ∷ s) (y ∷ t) = eqb x y && same s t
 
 abbrev pub kindNamed : List ℕ → Option Kind
 kindNamed s = firstKind (λ k. same (nameOf k) s) kinds
+
+pub kind-named : (k : Kind) → kindNamed (nameOf k) ≡ some k
+kind-named kind.Poly = refl
+kind-named kind.Short = refl
+kind-named kind.Circ = refl
+kind-named kind.Mat = refl
+kind-named kind.List = refl
 
 -- a kind that has formulae. Refusal 2: "The kind .. is unknown, or is list where a formula is sent."
 abbrev pub knownMap : Option Kind → Option Kind

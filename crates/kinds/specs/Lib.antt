@@ -1,6 +1,8 @@
--- The kinds of bilinear map, their sizes, and the list of refusals.
+-- The kinds of bilinear map, their sizes, the list of refusals, and the numbers of a reply.
 pub mod Kinds
 pub mod Limits
 pub mod Sizes
 pub mod Refusal
+pub mod names
+pub mod Numbers
 pub mod laws

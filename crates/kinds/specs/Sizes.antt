@@ -1,6 +1,7 @@
 -- The sizes of a map: n variables a, m variables b, and the number of outputs; none where a size misfits document 01's table (refusal 3):
 -- "one that must be at least 1 is 0, n × m exceeds 64, short or circ has p unlike q, an r that must be 0 is not, or list has p or r above 64".
---   sizes kind p q r == n, m and the number of outputs. For list, whose forms have p bits and no factors, n is p and m is 1.
+--   shapeOf kind p q r == the kind with its sizes
+--   sizes shape        == n, m and the number of outputs. For list, whose forms have p bits and no factors, n is p and m is 1.
 -- Assumes nothing.
 use mathlib.Core.Bool.{Bool, true, false, _&&_}
 use mathlib.Core.Option.{Option, none, some}
@@ -9,6 +10,7 @@ use lib.Dec.{leb, eqb}
 use Rattle.kinds.specs.Limits.{mostCoordinates}
 use Rattle.kinds.specs.declared.Kind.{Kind}
 use Rattle.kinds.specs.declared.Kind.the-variants as kind
+use Rattle.kinds.specs.declared.Shape.{Shape}
 use Rattle.kinds.specs.declared.Sized.{Sized}
 use Rattle.kinds.specs.declared.Sized.the-variants as sized
 
@@ -37,12 +39,18 @@ matSizes p q r = given (within (p * q) (q * r)) (p * q, q * r, p * r)
 unfoldable pub listSizes : ℕ → ℕ → ℕ → Option (ℕ × ℕ × ℕ)
 listSizes p q r = given (leb 1 q && (within p 1 && within r 1)) (p, 1, r)
 
-abbrev pub sizes : Kind → ℕ → ℕ → ℕ → Option (ℕ × ℕ × ℕ)
-sizes kind.Poly p q r = polySizes p q r
-sizes kind.Short p q r = squareSizes p q r
-sizes kind.Circ p q r = squareSizes p q r
-sizes kind.Mat p q r = matSizes p q r
-sizes kind.List p q r = listSizes p q r
+abbrev pub sizesFor : Kind → ℕ → ℕ → ℕ → Option (ℕ × ℕ × ℕ)
+sizesFor kind.Poly p q r = polySizes p q r
+sizesFor kind.Short p q r = squareSizes p q r
+sizesFor kind.Circ p q r = squareSizes p q r
+sizesFor kind.Mat p q r = matSizes p q r
+sizesFor kind.List p q r = listSizes p q r
+
+abbrev pub shapeOf : Kind → (p q r : ℕ) → Shape
+shapeOf k p q r = record { kind = k; p = p; q = q; r = r }
+
+abbrev pub sizes : Shape → Option (ℕ × ℕ × ℕ)
+sizes shape = sizesFor (shape .kind) (shape .p) (shape .q) (shape .r)
 
 -- the answer of the code
 abbrev pub seenSizes : Sized → Option (ℕ × ℕ × ℕ)

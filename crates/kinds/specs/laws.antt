@@ -1,3 +1,4 @@
--- The laws of sizes and refusals.
+-- The laws of sizes, refusals and the numbers of a reply.
 pub mod Sizes
 pub mod Refusal
+pub mod Numbers

@@ -1,9 +1,11 @@
 // What a kind of map is: its number, the kind of a number (refusal 2), its sizes (refusal 3), and the limits on what is handed in.
-// specs/ also has the list of refusals.
-// Names of kinds in files: `text::heads` reads them, `printing` prints them. The map itself: `maps`.
+// names      its name in files: the table, and the kind that bytes name
+// specs/ also has the list of refusals. The map itself: `maps`.
 ghost use mathlib.Core.Path.{_≡_};
 ghost use Rattle.kinds.specs.Kinds.{numberOf, kindNumbered, isList, knownMap, seenKind};
 ghost use Rattle.kinds.specs.Sizes.{within, polySizes, squareSizes, matSizes, listSizes, sizes, seenSizes};
+
+pub mod names;
 
 // The most coordinates of a form, targets of a map or list, products of a formula, and generators of a menu (specs/Limits.antt).
 pub const COORDINATES: u64 = 64;
@@ -80,6 +82,14 @@ pub fn known_map(known: Known) -> Known
     } else {
         Known::Is(kind)
     }
+}
+
+// A kind with its sizes p, q and r: what a caller names.
+pub struct Shape {
+    pub kind: Kind,
+    pub p: u64,
+    pub q: u64,
+    pub r: u64,
 }
 
 // n, m and the number of outputs; `No` is refusal 3.
@@ -165,15 +175,16 @@ fn list_sizes(p: u64, q: u64, r: u64) -> Sized
     }
 }
 
-// The sizes of a map of the kind.
-pub fn sizes_of(kind: Kind, p: u64, q: u64, r: u64) -> Sized
-    ensures { λ x. ⌜ sizes kind p q r ≡ seenSizes x ⌝ }
+// The sizes of a map of that shape.
+pub fn sizes_of(shape: Shape) -> Sized
+    ensures { λ x. ⌜ sizes shape ≡ seenSizes x ⌝ }
 {
+    let kind = shape.kind;
     match kind {
-        Kind::Poly => poly_sizes(p, q, r),
-        Kind::Short => square_sizes(p, q, r),
-        Kind::Circ => square_sizes(p, q, r),
-        Kind::Mat => mat_sizes(p, q, r),
-        Kind::List => list_sizes(p, q, r),
+        Kind::Poly => poly_sizes(shape.p, shape.q, shape.r),
+        Kind::Short => square_sizes(shape.p, shape.q, shape.r),
+        Kind::Circ => square_sizes(shape.p, shape.q, shape.r),
+        Kind::Mat => mat_sizes(shape.p, shape.q, shape.r),
+        Kind::List => list_sizes(shape.p, shape.q, shape.r),
     }
 }

@@ -15,8 +15,8 @@ use Prim.Native.Nat.{ℕ, _*_, _^_, _<_, _≤_}
 use lib.Bits.{bitXor}
 use lib.ListN.{getD}
 use Rattle.linear.specs.Bit.{bit, xorB}
-use Rattle.kinds.specs.declared.Kind.{Kind}
-use Rattle.kinds.specs.declared.Kind.the-variants as kind
+use Rattle.kinds.specs.Kinds.{isList}
+use Rattle.kinds.specs.declared.Shape.{Shape}
 use Rattle.kinds.specs.Sizes.{sizes}
 use Rattle.forms.specs.products.Product.{productForm}
 use Rattle.maps.specs.Textbook.{sumTo, output}
@@ -27,11 +27,11 @@ use Rattle.maps.specs.laws.Target as targets
 use Rattle.maps.specs.laws.Generators as generators
 
 -- Document 01's table of targets: of a map with n and m variables and u outputs, the form of output t computes output t.
-pub target-value : (k : Kind) (p q r n m u : ℕ) → sizes k p q r ≡ some (n, m, u) → (t : ℕ) → t < u → k ≢ kind.List → (a b : ℕ → Bool)
-    → value n m (targetForm k p q r n m t) a b ≡ output k p q r a b t
+pub target-value : (shape : Shape) (n m u : ℕ) → sizes shape ≡ some (n, m, u) → (t : ℕ) → t < u → isList (shape .kind) ≡ false → (a b : ℕ → Bool)
+    → value n m (targetForm shape n m t) a b ≡ output shape a b t
 target-value = targets.target-value
 
-pub target-below : (k : Kind) (p q r n m t : ℕ) → targetForm k p q r n m t < 2 ^ (n * m)
+pub target-below : (shape : Shape) (n m t : ℕ) → targetForm shape n m t < 2 ^ (n * m)
 target-below = targets.target-below
 
 module _ (n m : ℕ) (a b : ℕ → Bool) where

@@ -17,7 +17,8 @@ use lib.ListN.{getD}
 use borrow.Author.Tests.{eqb-true}
 use Rattle.kinds.specs.declared.Kind.the-variants as kind
 use Rattle.forms.specs.products.Product.{formOf}
-use Rattle.maps.specs.Target.{pair, targetForm}
+use Rattle.kinds.specs.Sizes.{shapeOf}
+use Rattle.maps.specs.Target.{pairFor, targetForm}
 
 abbrev pub squares : List ℕ
 squares =
@@ -63,19 +64,19 @@ allBelow-yes (suc n) f e i l = go (decLt i n) (allBelow-yes n f (and-eq-true-iff
 
 -- the rule at the entry of size d + 1 and coefficient t
 abbrev right : ℕ → ℕ → Bool
-right d t = eqb (getD squares (d * d + t) 0) (targetForm kind.Poly (suc d) (suc d) 0 (suc d) (suc d) t)
+right d t = eqb (getD squares (d * d + t) 0) (targetForm (shapeOf kind.Poly (suc d) (suc d) 0) (suc d) (suc d) t)
 
 -- the test, over the whole table
 whole : allBelow 8 (λ d. allBelow (d + suc d) (right d)) ≡ true
-unfolding targetForm pair formOf
+unfolding targetForm pairFor formOf
 whole = refl
 
 rule : (d t : ℕ) → d < 8 → t < d + suc d → right d t ≡ true
 rule d t h l = allBelow-yes (d + suc d) (right d) (allBelow-yes 8 (λ d. allBelow (d + suc d) (right d)) whole d h) t l
 
-pub squares-rule : (s t : ℕ) → 1 ≤ s → s ≤ 8 → t < s + s - 1 → getD squares ((s - 1) * (s - 1) + t) 0 ≡ targetForm kind.Poly s s 0 s s t
+pub squares-rule : (s t : ℕ) → 1 ≤ s → s ≤ 8 → t < s + s - 1 → getD squares ((s - 1) * (s - 1) + t) 0 ≡ targetForm (shapeOf kind.Poly s s 0) s s t
 squares-rule zero t a b c = absurd (omega arith)
 squares-rule (suc d) t a b c =
     let e : suc d - 1 ≡ d = omega arith in
     ap (λ (x : ℕ). getD squares (x * x + t) 0) e
-    ∙ eqb-true (getD squares (d * d + t) 0) (targetForm kind.Poly (suc d) (suc d) 0 (suc d) (suc d) t) (rule d t (omega arith) (omega arith))
+    ∙ eqb-true (getD squares (d * d + t) 0) (targetForm (shapeOf kind.Poly (suc d) (suc d) 0) (suc d) (suc d) t) (rule d t (omega arith) (omega arith))

@@ -5,7 +5,7 @@ ghost use lib.ListN.{length, take};
 ghost use Rattle.maps.specs.Target.{targetForm};
 ghost use Rattle.maps.specs.Generators.{listOf, generatorForms};
 ghost use Rattle.maps.specs.form_lists.Fills.{Made, Mapping};
-use kinds::Kind;
+use kinds::Shape;
 
 // The forms handed in, from the buffer's start.
 pub fn copy_forms(xs: &[u64], out: &mut [u64])
@@ -32,13 +32,13 @@ pub fn fill_generators(n: u64, m: u64, c: u64, g: &mut [u64])
 }
 
 // The u targets of a map, from the buffer's start.
-pub fn fill_targets(kind: Kind, p: u64, q: u64, r: u64, n: u64, m: u64, u: u64, t: &mut [u64])
-    requires { ⌜ Mapping kind p q r n m u (now t) ⌝ }
-    ensures { λ _. ⌜ take u (now (t .exit)) ≡ listOf (targetForm kind p q r n m) 0 u ⌝ }
+pub fn fill_targets(shape: Shape, n: u64, m: u64, u: u64, t: &mut [u64])
+    requires { ⌜ Mapping shape n m u (now t) ⌝ }
+    ensures { λ _. ⌜ take u (now (t .exit)) ≡ listOf (targetForm shape n m) 0 u ⌝ }
 {
     let mut i = 0u64;
     while i < u {
-        t[i as usize] = super::target(kind, p, q, r, n, m, i);
+        t[i as usize] = super::target(shape, n, m, i);
         i += 1;
     }
 }

@@ -7,42 +7,44 @@ ghost use Rattle.maps.specs.Target.{pair, targetForm};
 ghost use Rattle.maps.specs.Accepted.{Accepted, Terms};
 ghost use Rattle.maps.specs.Generators.{generatorForm, numbered, countOf, seenCount, Numbered, SmallMasks};
 use kinds::Kind;
+use kinds::Shape;
 
 pub mod form_lists;
 pub mod squares;
 
 // Whether a_i b_j is a term of output t.
-fn is_pair(kind: Kind, p: u64, q: u64, r: u64, t: u64, i: u64, j: u64) -> bool
-    requires { ⌜ Terms kind p q r i j ⌝ }
-    ensures { λ x. ⌜ x ≡ pair kind p q r t i j ⌝ }
+fn is_pair(shape: Shape, t: u64, i: u64, j: u64) -> bool
+    requires { ⌜ Terms shape i j ⌝ }
+    ensures { λ x. ⌜ x ≡ pair shape t i j ⌝ }
 {
+    let kind = shape.kind;
     match kind {
         Kind::Poly => i + j == t,
         Kind::Short => i + j == t,
-        Kind::Circ => (i + j) % p == t,
+        Kind::Circ => (i + j) % shape.p == t,
         Kind::Mat => {
-            if i / q != t / r {
+            if i / shape.q != t / shape.r {
                 return false;
             }
-            if i % q != j / r {
+            if i % shape.q != j / shape.r {
                 return false;
             }
-            j % r == t % r
+            j % shape.r == t % shape.r
         }
         Kind::List => false,
     }
 }
 
 // The form of output t, coordinate by coordinate.
-fn sum_of_pairs(kind: Kind, p: u64, q: u64, r: u64, n: u64, m: u64, t: u64) -> u64
-    requires { ⌜ Accepted kind p q r n m t ⌝ }
-    ensures { λ x. ⌜ x ≡ targetForm kind p q r n m t ⌝ }
+fn sum_of_pairs(shape: Shape, n: u64, m: u64, t: u64) -> u64
+    requires { ⌜ Accepted shape n m t ⌝ }
+    ensures { λ x. ⌜ x ≡ targetForm shape n m t ⌝ }
 {
     let end = n * m;
     let mut form = 0u64;
     let mut s = 0u64;
     while s < end {
-        if is_pair(kind, p, q, r, t, s / m, s % m) {
+        if is_pair(shape, t, s / m, s % m) {
             form = (1u64 << s) ^ form;
         }
         s += 1;
@@ -51,16 +53,17 @@ fn sum_of_pairs(kind: Kind, p: u64, q: u64, r: u64, n: u64, m: u64, t: u64) -> u
 }
 
 // The form of output t of a map with n and m variables. Those of square poly sizes stand in a table.
-pub fn target(kind: Kind, p: u64, q: u64, r: u64, n: u64, m: u64, t: u64) -> u64
-    requires { ⌜ Accepted kind p q r n m t ⌝ }
-    ensures { λ x. ⌜ x ≡ targetForm kind p q r n m t ⌝ }
+pub fn target(shape: Shape, n: u64, m: u64, t: u64) -> u64
+    requires { ⌜ Accepted shape n m t ⌝ }
+    ensures { λ x. ⌜ x ≡ targetForm shape n m t ⌝ }
 {
+    let kind = shape.kind;
     if let Kind::Poly = kind {
-        if p == q {
-            return squares::square(p, t);
+        if shape.p == shape.q {
+            return squares::square(shape.p, t);
         }
     }
-    sum_of_pairs(kind, p, q, r, n, m, t)
+    sum_of_pairs(shape, n, m, t)
 }
 
 // The number of generators; `Many`, above 4095, is refusal 4.

@@ -1,6 +1,7 @@
 // The coefficient forms of square poly sizes.
 ghost use mathlib.Core.Path.{_≡_};
 ghost use Rattle.kinds.specs.declared.Kind.the-variants as kind;
+ghost use Rattle.kinds.specs.Sizes.{shapeOf};
 ghost use Rattle.maps.specs.Target.{targetForm};
 ghost use Rattle.maps.specs.Squares.{InTable};
 
@@ -75,7 +76,7 @@ const SQUARES: [u64; 64] = [
 // The form of coefficient t of the product of two polynomials with s coefficients each.
 pub fn square(s: u64, t: u64) -> u64
     requires { ⌜ InTable s t ⌝ }
-    ensures { λ x. ⌜ x ≡ targetForm kind.Poly s s 0 s s t ⌝ }
+    ensures { λ x. ⌜ x ≡ targetForm (shapeOf kind.Poly s s 0) s s t ⌝ }
 {
     let d = s - 1;
     let at = (d * d + t) as usize;

@@ -5,7 +5,7 @@ ghost use Rattle.printing.specs.fields.Fields.{fieldText, sizesText};
 ghost use Rattle.printing.specs.fields.RefusedText.{refusedText};
 ghost use Rattle.printing.specs.fields.Piece.{Piece};
 ghost use Rattle.printing.specs.fields.Written.{bytesIn, writtenIn};
-use kinds::Kind;
+use kinds::Shape;
 
 // A comma and a number from place `at` on, as far as there is room; the place after them.
 pub fn put_field(n: u64, out: &mut [u8], at: usize) -> usize
@@ -17,14 +17,15 @@ pub fn put_field(n: u64, out: &mut [u8], at: usize) -> usize
 }
 
 // The kind and the four counts, likewise.
-pub fn put_sizes(kind: Kind, p: u64, q: u64, r: u64, k: u64, out: &mut [u8], at: usize) -> usize
+pub fn put_sizes(shape: Shape, k: u64, out: &mut [u8], at: usize) -> usize
     requires { ⌜ at ≤ 4294967296 ⌝ }
-    ensures { λ e. ⌜ Piece (now (out .entry)) at (sizesText kind p q r k) 89 (now (out .exit)) e ⌝ }
+    ensures { λ e. ⌜ Piece (now (out .entry)) at (sizesText shape k) 89 (now (out .exit)) e ⌝ }
 {
+    let kind = shape.kind;
     let a = super::put_kind(kind, out, at);
-    let b = put_field(p, out, a);
-    let c = put_field(q, out, b);
-    let d = put_field(r, out, c);
+    let b = put_field(shape.p, out, a);
+    let c = put_field(shape.q, out, b);
+    let d = put_field(shape.r, out, c);
     put_field(k, out, d)
 }
 

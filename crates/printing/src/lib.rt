@@ -9,7 +9,7 @@ ghost use mathlib.Core.Path.{_≡_};
 ghost use Prim.Native.Nat.{_+_, _^_, _≤_, _<_};
 ghost use lib.ListN.{length, set};
 ghost use lib.Seq.{sets};
-ghost use Rattle.kinds.specs.Kinds.{nameOf};
+ghost use Rattle.kinds.specs.Kinds.{nameOf, longestName};
 ghost use Rattle.printing.specs.Print.{digitByte, numeralText};
 use kinds::Kind;
 
@@ -78,14 +78,11 @@ pub fn put_number(n: u64, base: u64, f: usize, out: &mut [u8], at: usize) -> usi
 
 // The name of the kind from place `at` on, as far as there is room; the place after it.
 pub fn put_kind(kind: Kind, out: &mut [u8], at: usize) -> usize
-    requires { ⌜ at + 5 < 2 ^ 64 ⌝ }
+    requires { ⌜ at + longestName < 2 ^ 64 ⌝ }
     ensures { λ r. ⌜ (r ≡ at + length (nameOf kind)) × (now (out .exit) ≡ sets (now (out .entry)) at (nameOf kind)) ⌝ }
 {
-    match kind {
-        Kind::Poly => put_bytes(b"poly", out, at),
-        Kind::Short => put_bytes(b"short", out, at),
-        Kind::Circ => put_bytes(b"circ", out, at),
-        Kind::Mat => put_bytes(b"mat", out, at),
-        Kind::List => put_bytes(b"list", out, at),
-    }
+    let name = kinds::names::name_of(kind);
+    let bytes = name.bytes;
+    let n = name.len;
+    put_bytes(&bytes[..n], out, at)
 }

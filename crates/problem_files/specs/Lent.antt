@@ -1,26 +1,36 @@
 -- The reply to a problem's file, and what the two lent buffers hold at exit.
---   seenRead g t x              == what the code's answer x says of a file, the forms handed in standing at the start of g and t
 --   problemReply a              == the code's answer
+--   problemReadNumbers x        == its numbers: the refusal's, the kind's, p, q, r and k; `problemReadValues`, the same of what is accepted
 --   generatorsOf, targetsOf a d == the buffer d after it: all 0 where the reading is refused, else the forms handed in from the start and the
 --     rest as it was; a kind other than list hands in none, and d is as it was
+--   Settled a u v x t y         == the reply y to refusals 8 and 9, where x was said of the file and its targets stand at the start of t
 -- Assumes nothing.
 use Prim.Native.Nat.{ℕ}
-use mathlib.Core.List.{List}
-use lib.ListN.{take}
-use Rattle.kinds.specs.Refusal.{Answer, refused, accepted}
+use mathlib.Core.Path.{_≡_}
+use mathlib.Core.List.{List, [], _∷_}
+use Rattle.kinds.specs.Kinds.{numberOf}
+use Rattle.kinds.specs.Refusal.{Answer, refused, accepted, follow}
+use Rattle.kinds.specs.Numbers.{refusalNumbers, answerNumbers}
 use Rattle.words.specs.Buffers.{filled, zeros}
-use Rattle.problem_files.specs.handed_forms.ProblemLines.{handed}
-use Rattle.problem_files.specs.judging.Judged.{ProblemFile, problemOf}
+use Rattle.problem_files.specs.posing.Posing.{ProblemFile}
+use Rattle.problem_files.specs.posing.Views.{seenPosing}
+use Rattle.problem_files.specs.judging.Judged.{settled}
+use Rattle.problem_files.specs.declared.judging.Purpose.{Purpose}
 use Rattle.problem_files.specs.declared.judging.ProblemRead.{ProblemRead}
 use Rattle.problem_files.specs.declared.judging.ProblemRead.the-variants as read
-
-abbrev pub seenRead : List ℕ → List ℕ → ProblemRead → Answer ProblemFile
-seenRead g t (read.Refused e) = refused e
-seenRead g t (read.Problem kd p q r k) = accepted (problemOf kd p q r k (take (handed kd q) g) (take (handed kd r) t))
+use Rattle.problem_files.specs.declared.posing.PosedRead.{PosedRead}
 
 abbrev pub problemReply : Answer ProblemFile → ProblemRead
 problemReply (refused e) = read.Refused e
-problemReply (accepted P) = read.Problem (P .kind) (P .p) (P .q) (P .r) (P .k)
+problemReply (accepted P) = read.Problem (P .shape) (P .k)
+
+-- "A refusal is its number, every other number of the reply 0."
+abbrev pub problemReadNumbers : ProblemRead → List ℕ
+problemReadNumbers (read.Refused e) = refusalNumbers 5 e
+problemReadNumbers (read.Problem shape k) = answerNumbers (numberOf (shape .kind) ∷ shape .p ∷ shape .q ∷ shape .r ∷ k ∷ [])
+
+abbrev pub problemReadValues : ProblemFile → List ℕ
+problemReadValues P = numberOf (P .shape .kind) ∷ P .shape .p ∷ P .shape .q ∷ P .shape .r ∷ P .k ∷ []
 
 abbrev pub generatorsOf : Answer ProblemFile → List ℕ → List ℕ
 generatorsOf (refused e) d = zeros d
@@ -29,3 +39,6 @@ generatorsOf (accepted P) d = filled (P .generators) d
 abbrev pub targetsOf : Answer ProblemFile → List ℕ → List ℕ
 targetsOf (refused e) d = zeros d
 targetsOf (accepted P) d = filled (P .targets) d
+
+pub record Settled (a : Purpose) (u v : ℕ) (x : PosedRead) (t : List ℕ) (y : ProblemRead) : Type 0 where
+  pub by : (gs ts g : List ℕ) → y ≡ problemReply (follow (seenPosing gs ts g t x) (settled a u v))

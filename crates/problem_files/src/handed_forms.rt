@@ -7,6 +7,7 @@ ghost use Rattle.problems.specs.Replies.{refusedBy};
 ghost use Rattle.problem_files.specs.handed_forms.ProblemLines.{handed, listLines, mapLines, bodyOf, FormRoom};
 ghost use Rattle.kinds.specs.Limits.{mostGenerators};
 use kinds::Kind;
+use kinds::Shape;
 use maps::Count;
 
 // How many forms are handed in, where a list hands in c.
@@ -44,21 +45,14 @@ fn map_lines(n: u64, m: u64, s: &[u8]) -> u64
 }
 
 // The lines under the first two: refusal 4 or 5, or 0 and the forms handed in from the start of g and t.
-pub fn read_lines(
-    kind: Kind,
-    q: u64,
-    r: u64,
-    n: u64,
-    m: u64,
-    s: &[u8],
-    g: &mut [u64],
-    t: &mut [u64],
-) -> u64
-    requires { ⌜ FormRoom kind r (now g) (now t) ⌝ }
-    ensures { λ e. ⌜ bodyOf kind q r n m (now (s .entry)) ≡ refusedBy e (take (handed kind q) (now (g .exit)), take (handed kind r) (now (t .exit))) ⌝ }
+pub fn read_lines(shape: Shape, n: u64, m: u64, s: &[u8], g: &mut [u64], t: &mut [u64]) -> u64
+    requires { ⌜ FormRoom shape (now g) (now t) ⌝ }
+    ensures { λ e. ⌜ bodyOf shape n m (now (s .entry))
+        ≡ refusedBy e (take (handed (shape .kind) (shape .q)) (now (g .exit)), take (handed (shape .kind) (shape .r)) (now (t .exit))) ⌝ }
 {
+    let kind = shape.kind;
     if kinds::is_list(kind) {
-        return list_lines(q, r, s, g, t);
+        return list_lines(shape.q, shape.r, s, g, t);
     }
     map_lines(n, m, s)
 }

@@ -1,8 +1,10 @@
-// The forms that a problem's file hands in, judged: refusals 6 to 9.
+// A file's problem, judged for what is asked of it: refusals 8 and 9.
 ghost use mathlib.Core.Path.{_≡_};
-ghost use Rattle.problem_files.specs.judging.Judged.{beyond, problemJudged, seenProblem, Settled};
-use kinds::Kind;
-use problems::Posed;
+ghost use Rattle.problem_files.specs.judging.Judged.{beyond, short};
+ghost use Rattle.problem_files.specs.Lent.{Settled};
+use super::posing::PosedRead;
+use kinds::Shape;
+use words::first_words;
 
 // What is asked of the problem: its Catalogue, or its Rank.
 pub enum Purpose {
@@ -20,77 +22,43 @@ fn beyond(purpose: Purpose, k: u64, targets: &[u64]) -> bool
     }
 }
 
-// The reply of reading a problem: a refusal's number, or the kind and the four counts.
+// Whether buffers of `first` and `second` words are too short for the forms handed in, refusal 9.
+fn too_short(shape: Shape, first: usize, second: usize) -> bool
+    ensures { λ r. ⌜ r ≡ short shape first second ⌝ }
+{
+    let kind = shape.kind;
+    if (first as u64) < super::handed_forms::handed(kind, shape.q) {
+        return true;
+    }
+    (second as u64) < super::handed_forms::handed(kind, shape.r)
+}
+
+// The reply of reading a problem: a refusal's number, or the kind and sizes, and k.
 pub enum ProblemRead {
     Refused(u64),
-    Problem(Kind, u64, u64, u64, u64),
+    Problem(Shape, u64),
 }
 
-// A problem with those targets: refusal 8, or 9 where buffers of `first` and `second` words are too short, or the problem.
-fn settle(
+// The reply on a file's problem, whose targets stand at the start of t: refused before, by 8, or by 9, or the problem.
+pub fn settle(
     purpose: Purpose,
-    kind: Kind,
-    p: u64,
-    q: u64,
-    r: u64,
-    k: u64,
     first: usize,
     second: usize,
-    targets: &[u64],
+    said: PosedRead,
+    t: &[u64],
 ) -> ProblemRead
-    ensures { λ x. ⌜ Settled purpose kind p q r k first second (now (targets .entry)) x ⌝ }
+    ensures { λ x. ⌜ Settled purpose first second said (now (t .entry)) x ⌝ }
 {
-    if beyond(purpose, k, targets) {
-        return ProblemRead::Refused(8);
-    }
-    if (first as u64) < super::handed_forms::handed(kind, q) {
-        return ProblemRead::Refused(9);
-    }
-    if (second as u64) < super::handed_forms::handed(kind, r) {
-        return ProblemRead::Refused(9);
-    }
-    ProblemRead::Problem(kind, p, q, r, k)
-}
-
-// A problem whose forms gs and ts were handed in: refusals 6 to 9, or the problem.
-pub fn judge(
-    purpose: Purpose,
-    kind: Kind,
-    p: u64,
-    q: u64,
-    r: u64,
-    k: u64,
-    first: usize,
-    second: usize,
-    gs: &[u64],
-    ts: &[u64],
-) -> ProblemRead
-    ensures { λ x. ⌜ problemJudged purpose kind p q r k first second (now (gs .entry)) (now (ts .entry)) ≡ seenProblem (now (gs .entry)) (now (ts .entry)) x ⌝ }
-{
-    let mut g = [0u64; kinds::GENERATORS];
-    let mut t = [0u64; kinds::TARGETS];
-    match problems::pose(
-        kinds::number_of(kind),
-        p,
-        q,
-        r,
-        gs,
-        ts,
-        &gs[..0],
-        &mut g,
-        &mut t,
-    ) {
-        Posed::Refused(e) => ProblemRead::Refused(e),
-        Posed::Are(n, o) => settle(
-            purpose,
-            kind,
-            p,
-            q,
-            r,
-            k,
-            first,
-            second,
-            words::first_words(&t, o),
-        ),
+    match said {
+        PosedRead::Refused(e) => ProblemRead::Refused(e),
+        PosedRead::Problem(shape, k, c, u) => {
+            if beyond(purpose, k, first_words(t, u)) {
+                return ProblemRead::Refused(8);
+            }
+            if too_short(shape, first, second) {
+                return ProblemRead::Refused(9);
+            }
+            ProblemRead::Problem(shape, k)
+        }
     }
 }

@@ -4,4 +4,3 @@ pub mod Replies
 pub mod Taken
 pub mod Theorems
 pub mod laws
-pub mod targets

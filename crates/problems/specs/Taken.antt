@@ -7,7 +7,7 @@ use mathlib.Core.Bool.{false}
 use mathlib.Core.List.{List}
 use Prim.Native.Nat.{ℕ, _*_, _≤_}
 use lib.ListN.{length}
-use Rattle.kinds.specs.declared.Kind.{Kind}
+use Rattle.kinds.specs.declared.Shape.{Shape}
 use Rattle.words.specs.Masks.{wide, zeroIn}
 use Rattle.words.specs.lists.Lists.{repeats}
 use Rattle.maps.specs.Generators.{generatorForms, generatorCount}
@@ -25,8 +25,8 @@ pub record ListTaken (p q r : ℕ) (gs ts others : List ℕ) (P : Problem) : Typ
   pub no-zero : zeroIn gs ≡ false
   pub no-repeat : repeats gs ≡ false
 
-pub record MapTaken (kd : Kind) (p q r n m u : ℕ) (gs ts others : List ℕ) (P : Problem) : Type 0 where
-  pub is : P ≡ problem (generatorForms n m) (targetForms kd p q r n m u)
+pub record MapTaken (shape : Shape) (n m u : ℕ) (gs ts others : List ℕ) (P : Problem) : Type 0 where
+  pub is : P ≡ problem (generatorForms n m) (targetForms shape n m u)
   pub few : generatorCount n m ≤ mostGenerators
   pub no-generators : length gs ≡ 0
   pub no-targets : length ts ≡ 0

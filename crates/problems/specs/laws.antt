@@ -3,3 +3,4 @@ pub mod Refusals
 pub mod Taken
 pub mod Laying
 pub mod Handed
+pub mod Numbered

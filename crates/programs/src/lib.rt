@@ -4,34 +4,33 @@
 ghost use mathlib.Core.Path.{_≡_};
 ghost use Prim.Native.Nat.{_≤_};
 ghost use lib.ListN.{length, take};
-ghost use Rattle.problem_files.specs.judging.Judged.{problemOf};
-ghost use Rattle.programs.specs.Programs.{replyTo, problemProgram, catalogueProgram, rankProgram};
+ghost use Rattle.problems.specs.Problem.{problem};
+ghost use Rattle.problems.specs.Theorems.{Few};
+ghost use Rattle.programs.specs.Programs.{replyOn, problemProgram, catalogueProgram, rankProgram};
 ghost use Rattle.printing.specs.refusals.Pages.{replyPage};
 ghost use Rattle.printing.specs.fields.Written.{writtenIn};
 ghost use Rattle.printing.specs.pages.Printed.{pageAnswer, seenPrinted};
-use kinds::Kind;
+use kinds::Shape;
 use printing::pages::Printed;
-use problem_files::judging::ProblemRead;
 use problem_files::judging::Purpose;
+use problem_files::posing::PosedRead;
+use words::first_words;
 
-// What is printed of a problem, from the start of a page; its length.
+// What is printed of a posed problem of that kind and sizes, from the start of a page; its length.
 fn reply(
     purpose: Purpose,
-    kind: Kind,
-    p: u64,
-    q: u64,
-    r: u64,
+    shape: Shape,
     k: u64,
-    gs: &[u64],
-    ts: &[u64],
+    gens: &[u64],
+    targets: &[u64],
     page: &mut [u8],
 ) -> usize
-    requires { ⌜ length (now page) ≡ replyPage ⌝ }
-    ensures { λ e. ⌜ (take e (now (page .exit)) ≡ replyTo purpose (problemOf kind p q r k (now (gs .entry)) (now (ts .entry)))) × (e ≤ replyPage) ⌝ }
+    requires { ⌜ (length (now page) ≡ replyPage) × Few (problem (now gens) (now targets)) ⌝ }
+    ensures { λ e. ⌜ (take e (now (page .exit)) ≡ replyOn purpose shape k (problem (now (gens .entry)) (now (targets .entry)))) × (e ≤ replyPage) ⌝ }
 {
     match purpose {
-        Purpose::Catalogue => catalogue_text::catalogue_reply(kind, p, q, r, k, gs, ts, page),
-        Purpose::Rank => rank_text::rank_reply(kind, p, q, r, k, gs, ts, page),
+        Purpose::Catalogue => catalogue_text::catalogue_reply(shape, k, gens, targets, page),
+        Purpose::Rank => rank_text::rank_reply(shape, k, gens, targets, page),
     }
 }
 
@@ -40,15 +39,18 @@ fn problem_program(purpose: Purpose, file: &[u8], page: &mut [u8]) -> usize
     requires { ⌜ length (now page) ≡ replyPage ⌝ }
     ensures { λ e. ⌜ (take e (now (page .exit)) ≡ problemProgram purpose (now (file .entry))) × (e ≤ replyPage) ⌝ }
 {
-    let mut gs = [0u64; text::PROGRAM_WORDS];
-    let mut ts = [0u64; text::PROGRAM_WORDS];
-    match problem_files::inputs::read_input(file, purpose, &mut gs, &mut ts) {
-        ProblemRead::Refused(e) => printing::refusals::refused_page(e, page),
-        ProblemRead::Problem(kind, p, q, r, k) => {
-            let c = problem_files::handed_forms::handed(kind, q) as usize;
-            let d = problem_files::handed_forms::handed(kind, r) as usize;
-            reply(purpose, kind, p, q, r, k, &gs[..c], &ts[..d], page)
-        }
+    let mut g = [0u64; kinds::GENERATORS];
+    let mut t = [0u64; kinds::TARGETS];
+    match problem_files::inputs::pose_input(file, &mut g, &mut t) {
+        PosedRead::Refused(e) => printing::refusals::refused_page(e, page),
+        PosedRead::Problem(shape, k, c, u) => reply(
+            purpose,
+            shape,
+            k,
+            first_words(&g, c),
+            first_words(&t, u),
+            page,
+        ),
     }
 }
 

@@ -1,4 +1,5 @@
 -- Rank on numbers.
 pub mod Rank
+pub mod Theorems
 pub mod laws
 pub mod fewest

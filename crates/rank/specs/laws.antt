@@ -1,2 +1,3 @@
 -- The laws behind Rank.
 pub mod Replies
+pub mod Numbers

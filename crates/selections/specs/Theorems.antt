@@ -2,6 +2,7 @@
 --   SelectionFits            == each selected number is one of a generator, and none stands twice
 --   sum-means       yes exactly if the form is a sum of selected generators
 --   redundant-means yes exactly if each target is a sum of the selected generators other than j; and all of them span the targets, and j is one of them
+--   sum-numbers-told, redundant-numbers-told   two replies of the call, to whatever it is handed, are the same if their numbers are
 -- Assumes nothing.
 use mathlib.Core.Path.{_≡_, refl, sym, ap, _∙_, subst}
 use mathlib.Core.Logic.{_≢_, _↔_}
@@ -10,10 +11,14 @@ use mathlib.Core.List.{List, [], _∷_, List·Memᴰ}
 use Prim.Native.Nat.{ℕ, _<_}
 use lib.ListN.{length}
 use lib.Dec.{eqb, ltb}
+use native.Mathlib.Omega.{arith}
 use borrow.Author.Tests.{eqb-true, not-true, not-false}
 use Rattle.kinds.specs.Refusal.{accepted, refuse}
 use Rattle.kinds.specs.laws.Refusal.{accepted-inj, follow-inv, refuse-inv, neither}
+use Rattle.kinds.specs.Numbers.{NotByZero}
+use Rattle.kinds.specs.laws.Numbers.{refuse-numbered, follow-numbered, seen-numbered}
 use Rattle.problems.specs.Problem.{Problem, posed}
+use Rattle.problems.specs.laws.Numbered.{posed-numbered}
 use Rattle.words.specs.lists.Lists.{repeats}
 use Rattle.linear.specs.Span.{Span}
 use Rattle.linear.specs.Basis.{basisOf}
@@ -24,9 +29,11 @@ use Rattle.linear.specs.Word.{word}
 use Rattle.linear.specs.laws.Insert.{basisOf-reduced, basisOf-span}
 use Rattle.linear.specs.laws.Entry.{inside-yes, yes-inside}
 use Rattle.linear.specs.laws.Select.{anyOf-no, no-anyOf, anyOf-yes}
-use Rattle.selections.specs.on_forms.Selected.{misfit, without, missedBy, sumAnswer, redundantAnswer}
+use Rattle.selections.specs.on_forms.Selected.{misfit, without, missedBy, sumAnswer, redundantAnswer, seenSaid, saidNumbers}
+use Rattle.selections.specs.on_forms.laws.Numbers.{said-differ}
 use Rattle.selections.specs.on_forms.laws.Spanning.{misfit-below}
 use Rattle.selections.specs.Selections.{isSum, isRedundant}
+use Rattle.selections.specs.declared.on_forms.Said.{Said}
 
 pub record SelectionFits (n : ℕ) (sel : List ℕ) : Type 0 where
   pub numbers : (e : ℕ) → List·Memᴰ e sel → e < n
@@ -108,3 +115,30 @@ redundant-means number p q r gs ts sel j b e =
         exactly = (λ t. not-missed G T (without j sel) .0 (not-true (missedBy G T (without j sel)) (q ∙ t)), λ h. sym q ∙ ap not (not-missed G T (without j sel) .1 h));
       },
     )
+
+-- ---- the numbers of a reply
+sum-numbered : (number p q r : ℕ) (gs ts sel : List ℕ) (form : ℕ) → NotByZero (isSum number p q r gs ts sel form)
+unfolding isSum sumAnswer
+sum-numbered number p q r gs ts sel form =
+    follow-numbered (posed number p q r gs ts (form ∷ [])) _ (posed-numbered number p q r gs ts (form ∷ [])) λ x.
+    refuse-numbered 11 (misfit (length (x .generators)) sel) _ (omega arith) tt
+
+redundant-numbered : (number p q r : ℕ) (gs ts sel : List ℕ) (j : ℕ) → NotByZero (isRedundant number p q r gs ts sel j)
+unfolding isRedundant redundantAnswer
+redundant-numbered number p q r gs ts sel j =
+    follow-numbered (posed number p q r gs ts []) _ (posed-numbered number p q r gs ts []) λ x.
+    refuse-numbered 11 (misfit (length (x .generators)) sel) _ (omega arith)
+    (refuse-numbered 11 (missedBy (x .generators) (x .targets) sel) _ (omega arith)
+    (refuse-numbered 11 (not (anyOf (eqb j) sel)) _ (omega arith) tt))
+
+pub sum-numbers-told : (number p q r form number′ p′ q′ r′ form′ : ℕ) (gs ts sel gs′ ts′ sel′ : List ℕ) (x y : Said)
+    → isSum number p q r gs ts sel form ≡ seenSaid x → isSum number′ p′ q′ r′ gs′ ts′ sel′ form′ ≡ seenSaid y
+    → saidNumbers x ≡ saidNumbers y → x ≡ y
+sum-numbers-told number p q r form number′ p′ q′ r′ form′ gs ts sel gs′ ts′ sel′ x y e f =
+    said-differ x y (seen-numbered e (sum-numbered number p q r gs ts sel form)) (seen-numbered f (sum-numbered number′ p′ q′ r′ gs′ ts′ sel′ form′))
+
+pub redundant-numbers-told : (number p q r j number′ p′ q′ r′ j′ : ℕ) (gs ts sel gs′ ts′ sel′ : List ℕ) (x y : Said)
+    → isRedundant number p q r gs ts sel j ≡ seenSaid x → isRedundant number′ p′ q′ r′ gs′ ts′ sel′ j′ ≡ seenSaid y
+    → saidNumbers x ≡ saidNumbers y → x ≡ y
+redundant-numbers-told number p q r j number′ p′ q′ r′ j′ gs ts sel gs′ ts′ sel′ x y e f =
+    said-differ x y (seen-numbered e (redundant-numbered number p q r gs ts sel j)) (seen-numbered f (redundant-numbered number′ p′ q′ r′ gs′ ts′ sel′ j′))

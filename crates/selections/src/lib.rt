@@ -1,7 +1,8 @@
 // Two questions on a selection of a problem's generators, on numbers: is a form a sum of them, is one of them redundant. Refusals 2 to 7 and 11.
 // on_forms   the same where the problem is made
 ghost use mathlib.Core.Path.{_≡_};
-ghost use Rattle.selections.specs.on_forms.Selected.{seenSaid};
+ghost use Rattle.kinds.specs.Numbers.{replyNumbers};
+ghost use Rattle.selections.specs.on_forms.Selected.{seenSaid, saidNumbers, saidValues};
 ghost use Rattle.selections.specs.Selections.{isSum, isRedundant};
 use on_forms::Said;
 use problems::Posed;
@@ -20,7 +21,8 @@ pub fn is_sum(
     sel: &[u64],
     form: u64,
 ) -> Said
-    ensures { λ x. ⌜ isSum number p q r (now (gs .entry)) (now (ts .entry)) (now (sel .entry)) form ≡ seenSaid x ⌝ }
+    ensures { λ x. ⌜ (isSum number p q r (now (gs .entry)) (now (ts .entry)) (now (sel .entry)) form ≡ seenSaid x)
+        × (saidNumbers x ≡ replyNumbers 1 saidValues (isSum number p q r (now (gs .entry)) (now (ts .entry)) (now (sel .entry)) form)) ⌝ }
 {
     let mut g = [0u64; kinds::GENERATORS];
     let mut t = [0u64; kinds::TARGETS];
@@ -42,7 +44,8 @@ pub fn is_redundant(
     sel: &[u64],
     j: u64,
 ) -> Said
-    ensures { λ x. ⌜ isRedundant number p q r (now (gs .entry)) (now (ts .entry)) (now (sel .entry)) j ≡ seenSaid x ⌝ }
+    ensures { λ x. ⌜ (isRedundant number p q r (now (gs .entry)) (now (ts .entry)) (now (sel .entry)) j ≡ seenSaid x)
+        × (saidNumbers x ≡ replyNumbers 1 saidValues (isRedundant number p q r (now (gs .entry)) (now (ts .entry)) (now (sel .entry)) j)) ⌝ }
 {
     let mut g = [0u64; kinds::GENERATORS];
     let mut t = [0u64; kinds::TARGETS];

@@ -5,13 +5,14 @@
 -- Document 01: "one byte string holds a file as below, a second takes what the Check program would print, and the reply is the count of bytes
 -- written (always above 35) or a refusal's number. Too short a second string is refused by 9." Assumes nothing.
 use mathlib.Core.Bool.{cond}
-use mathlib.Core.List.{List, [], _∷_}
-use mathlib.Core.Option.{Option, none, some}
+use mathlib.Core.List.{List}
+use mathlib.Core.Option.{Option}
 use Prim.Native.Nat.{ℕ}
 use lib.ListN.{length}
 use lib.Dec.{ltb}
 use Rattle.kinds.specs.Refusal.{Answer, refused, accepted, follow}
 use Rattle.words.specs.Buffers.{filled}
+use Rattle.formula_check.specs.Replies.{checkValues}
 use Rattle.formula_files.specs.FormulaFile.{formulaFile}
 use Rattle.check_text.specs.CheckAnswers.{admittedText}
 use Rattle.kinds.specs.Limits.{mostProducts, mostTargets}
@@ -21,14 +22,10 @@ unfoldable pub checkFile : List ℕ → Answer (List ℕ)
 checkFile s = follow (formulaFile s mostProducts mostProducts mostTargets) λ f. accepted (admittedText f)
 
 -- ---- gijpsando_check_numbers, with the lent words d: verdict (0 right, 1 wrong), output, adders
-abbrev pub verdictWords : Option ℕ → ℕ → List ℕ
-verdictWords none w = 0 ∷ 0 ∷ w ∷ []
-verdictWords (some t) w = 1 ∷ t ∷ w ∷ []
-
 abbrev pub numbersReply : Answer (Option ℕ × ℕ) → List ℕ → ℕ
 numbersReply (refused e) d = e
 numbersReply (accepted x) d = cond (ltb (length d) 3) 9 0
 
 abbrev pub numbersLent : Answer (Option ℕ × ℕ) → List ℕ → List ℕ
 numbersLent (refused e) d = d
-numbersLent (accepted x) d = cond (ltb (length d) 3) d (filled (verdictWords (x .0) (x .1)) d)
+numbersLent (accepted x) d = cond (ltb (length d) 3) d (filled (checkValues x) d)

@@ -1,8 +1,8 @@
 -- What the answer on a file means, and what the exported call replies. To be read from top to bottom.
 --   CheckAnswered, check-answered   a file that is read as a formula is answered, with the verdict that is true of it
 --   CheckReplied, check-replied     the reply of `gijpsando_check` and the second string after it, told apart by the reply alone
--- The definitions: formulaFile (formula_files), verdict (formula_check), RightFormula and FormulaDiffers (formula_check, meaning), checkFile (Service), admittedText,
--- replyOf and bytesOf (check_text). Assumes nothing.
+-- The definitions: formulaFile (formula_files), verdict (formula_check), RightFormula and FormulaDiffers (formula_check, meaning), checkFile (Service),
+-- admittedText, replyOf and bytesOf (check_text). Assumes nothing.
 use mathlib.Core.Path.{_≡_, refl, sym, ap, _∙_, subst}
 use mathlib.Core.Bool.{Bool, true, false, cond}
 use mathlib.Core.List.{List, _++_}
@@ -33,7 +33,7 @@ use Rattle.service.specs.check_program.laws.Program.{Fine, file-fine}
 -- ---- from the file to the verdict
 -- the text of a formula with its own adders and any verdict
 abbrev pub textSaying : Admitted → Verdict → List ℕ
-textSaying f v = checkText (f .kind) (f .p) (f .q) (f .r) (length (f .firsts)) v (verdict f .1)
+textSaying f v = checkText (f .shape) (length (f .firsts)) v (verdict f .1)
 
 pub record CheckAnswered (s : List ℕ) (f : Admitted) : Type 0 where
   -- the formula passes the tests of the refusals
@@ -50,7 +50,7 @@ pub record CheckAnswered (s : List ℕ) (f : Admitted) : Type 0 where
 -- the text of a verdict, by what is true of the formula
 module _ (f : Admitted) (S : Sound f) where
   outputs-few : length (f .rows) ≤ mostTargets
-  outputs-few = sizes-bounds (f .kind) (f .p) (f .q) (f .r) (f .n, f .m, length (f .rows)) (S .fits) .most-outputs
+  outputs-few = sizes-bounds (f .shape) (f .n, f .m, length (f .rows)) (S .fits) .most-outputs
 
   named : (o : Option ℕ) → verdict f .0 ≡ o → Named (verdictOf o)
   named none e = tt
@@ -59,7 +59,8 @@ module _ (f : Admitted) (S : Sound f) where
   -- the text says a verdict exactly if that is the verdict
   text-says : (v : Option ℕ) → Named (verdictOf v) → (admittedText f ≡ textSaying f (verdictOf v)) ↔ (verdict f .0 ≡ v)
   text-says v h = (
-    λ e. back (verdict f .0) v (says (f .kind) (f .p) (f .q) (f .r) (length (f .firsts)) (verdictOf (verdict f .0)) (verdictOf v) (verdict f .1) (named (verdict f .0) refl) h e),
+    λ e. back (verdict f .0) v
+        (says (f .shape) (length (f .firsts)) (verdictOf (verdict f .0)) (verdictOf v) (verdict f .1) (named (verdict f .0) refl) h e),
     λ e. ap (λ (o : Option ℕ). textSaying f (verdictOf o)) e,
   )
     where
@@ -88,7 +89,8 @@ check-answered s f e =
 abbrev pub CheckReplied : (s d : List ℕ) → Type 0
 CheckReplied s d =
     ((replyOf (checkFile s) d ≤ 9) × (bytesOf (checkFile s) d ≡ d))
-    ⊎ ((t : List ℕ) × (checkFile s ≡ accepted t) × (35 < length t) × (length t ≤ 173) × (replyOf (checkFile s) d ≡ length t) × (bytesOf (checkFile s) d ≡ t ++ drop (length t) d))
+    ⊎ ((t : List ℕ) × (checkFile s ≡ accepted t) × (35 < length t) × (length t ≤ 173) × (replyOf (checkFile s) d ≡ length t)
+    × (bytesOf (checkFile s) d ≡ t ++ drop (length t) d))
 
 pub check-replied : (s d : List ℕ) → CheckReplied s d
 unfolding writtenIn

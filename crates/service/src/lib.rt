@@ -27,17 +27,7 @@ pub extern "C" fn gijpsando_check(file: &[u8], out: &mut [u8]) -> usize
     let got = formula_files::read_formula(file, &mut a, &mut b, &mut rows);
     match got {
         Read::Refused(e) => e as usize,
-        Read::Formula(kind, p, q, r, k) => check_text::check_reply(
-            kind,
-            p,
-            q,
-            r,
-            k,
-            &a,
-            &b,
-            &rows,
-            out,
-        ),
+        Read::Formula(shape, k) => check_text::check_reply(shape, k, &a, &b, &rows, out),
     }
 }
 

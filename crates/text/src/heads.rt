@@ -2,14 +2,12 @@
 ghost use mathlib.Core.Path.{_≡_};
 ghost use Prim.Native.Nat.{_≤_};
 ghost use lib.ListN.{length};
-ghost use Rattle.kinds.specs.Kinds.{kindNamed, seenKind};
 ghost use Rattle.text.specs.heads.Head.{countFields, headLine, headLines};
 ghost use Rattle.text.specs.heads.Views.{seenCounts, seenHead, bytesHead};
 use super::Cut;
 use super::FieldRead;
 use super::Number;
 use super::Used;
-use kinds::Kind;
 use kinds::Known;
 
 pub enum Counts {
@@ -38,28 +36,6 @@ fn counts_of(s: &[u8]) -> Counts
     Counts::Are(p, q, r, k)
 }
 
-// The kind that the bytes name.
-pub fn kind_named(s: &[u8]) -> Known
-    ensures { λ r. ⌜ kindNamed (now (s .entry)) ≡ seenKind r ⌝ }
-{
-    if super::equal(b"poly", s) {
-        return Known::Is(Kind::Poly);
-    }
-    if super::equal(b"short", s) {
-        return Known::Is(Kind::Short);
-    }
-    if super::equal(b"circ", s) {
-        return Known::Is(Kind::Circ);
-    }
-    if super::equal(b"mat", s) {
-        return Known::Is(Kind::Mat);
-    }
-    if super::equal(b"list", s) {
-        return Known::Is(Kind::List);
-    }
-    Known::No
-}
-
 // The kind, the four counts, and the bytes used.
 pub enum HeadRead {
     Is(Known, u64, u64, u64, u64, usize),
@@ -80,7 +56,7 @@ fn head_line(s: &[u8]) -> HeadRead
     let Counts::Are(p, q, r, k) = counts_of(&line[n + 1..]) else {
         return HeadRead::No;
     };
-    let kind = kind_named(&line[..n]);
+    let kind = kinds::names::kind_named(&line[..n]);
     HeadRead::Is(kind, p, q, r, k, e + 1)
 }
 

@@ -4,7 +4,6 @@
 ghost use mathlib.Core.Path.{_≡_};
 ghost use Prim.Native.Nat.{_+_, _^_, _≤_};
 ghost use lib.ListN.{length};
-ghost use Rattle.kinds.specs.Kinds.{same};
 ghost use Rattle.text.specs.Numeral.{digit, numeral};
 ghost use Rattle.text.specs.Line.{till, cut, nameLine, field};
 ghost use Rattle.text.specs.Views.{seenNumber, seenCut, bytesCut, seenUsed, bytesUsed, seenField, bytesField};
@@ -94,24 +93,6 @@ fn find(s: &[u8], c: u8) -> usize
     i
 }
 
-// Whether two byte strings are the same.
-pub fn equal(s: &[u8], t: &[u8]) -> bool
-    ensures { λ r. ⌜ r ≡ same (now (s .entry)) (now (t .entry)) ⌝ }
-{
-    let n = s.len();
-    if n != t.len() {
-        return false;
-    }
-    let mut i = 0;
-    while i < n {
-        if s[i] != t[i] {
-            return false;
-        }
-        i += 1;
-    }
-    true
-}
-
 // Where a byte string is cut.
 pub enum Cut {
     At(usize),
@@ -139,7 +120,7 @@ pub fn name_line(s: &[u8], name: &[u8]) -> Used
     let Cut::At(e) = cut_at(s, 10) else {
         return Used::No;
     };
-    if equal(&s[..e], name) {
+    if kinds::names::equal(&s[..e], name) {
         Used::Is(e + 1)
     } else {
         Used::No

@@ -1,5 +1,6 @@
--- What the steps of Catalogue say, and that together they say what is defined.
---   CatalogueGiven gens targets k old r after == refusal 8, or the listing of the problem
+-- Catalogue of a posed problem: what the code's steps say is what is defined.
+--   given-far    k exceeds ℓ + 6
+--   given-near   it does not, and the entries are listed
 -- Assumes nothing.
 use mathlib.Core.Path.{_≡_, sym, ap, _∙_}
 use mathlib.Core.Bool.{Bool}
@@ -15,27 +16,34 @@ use Rattle.linear.specs.Word.{word}
 use Rattle.catalogue.specs.declared.listing.Listing.{Listing}
 use Rattle.catalogue.specs.listing.Listing.{records, flat, fitting, Listed}
 use Rattle.catalogue.specs.listing.laws.Listing.{found-all}
+use Rattle.catalogue.specs.declared.Catalogued.{Catalogued as Reply}
 use Rattle.catalogue.specs.declared.Catalogued.the-variants as reply
-use Rattle.catalogue.specs.Catalogue.{Catalogued, entryListing, lentCatalogue}
+use Rattle.catalogue.specs.Catalogue.{Catalogued, entryListing, catalogueOf, seenCatalogue, lentCatalogue}
 use Rattle.kinds.specs.Limits.{mostGenerators}
 use Rattle.words.specs.Buffers.{largestWord}
-use Rattle.catalogue.specs.Replies.{catalogueJudged, CatalogueGiven}
 use Rattle.records.specs.Length.{recordLength}
 
--- ---- Catalogue of a problem that is made
 module _ (gens targets : List ℕ) (k : ℕ) (old : List ℕ) where
-  pub given-far : dim word targets + 6 < k → CatalogueGiven gens targets k old (reply.Refused 8) old
+  -- the two equations of a call
+  abbrev Given : Reply → List ℕ → Type 0
+  Given r after =
+      (catalogueOf (problem gens targets) k old ≡ seenCatalogue r after) × (after ≡ lentCatalogue (catalogueOf (problem gens targets) k old) old)
+
+  pub given-far : dim word targets + 6 < k → Given (reply.Refused 8) old
+  unfolding catalogueOf
   given-far h =
-      let e : catalogueJudged (problem gens targets) k old ≡ refused 8 = ap (λ (b : Bool). refuse 8 b (accepted (entryListing (problem gens targets) k old))) (lt-ltb (dim word targets + 6) k h) in
-      record { answer = e; lent = sym (ap (λ (a : Answer Catalogued). lentCatalogue a old) e) }
+      let e : catalogueOf (problem gens targets) k old ≡ refused 8 =
+      ap (λ (b : Bool). refuse 8 b (accepted (entryListing (problem gens targets) k old))) (lt-ltb (dim word targets + 6) k h) in
+      (e, sym (ap (λ (a : Answer Catalogued). lentCatalogue a old) e))
 
   pub given-near : length gens ≤ mostGenerators → k ≤ dim word targets + 6 → (l : Listing) (after : List ℕ) → Listed gens targets k largestWord old after l
-      → CatalogueGiven gens targets k old (reply.Entries (l .ell) (l .found) (l .shown)) after
+      → Given (reply.Entries (l .ell) (l .found) (l .shown)) after
+  unfolding catalogueOf
   given-near s h l after D =
-      record { answer = e; lent = sym (ap (λ (a : Answer Catalogued). lentCatalogue a old) e) }
+      (e, sym (ap (λ (a : Answer Catalogued). lentCatalogue a old) e))
     where
       all : l .found ≡ length (entries word gens targets k)
-      all = found-all gens targets k old after l (record { small = s; near = h }) D
+      all = found-all gens targets k old after l s h D
 
       size : ℕ
       size = recordLength (dim word targets) k
@@ -50,5 +58,5 @@ module _ (gens targets : List ℕ) (k : ℕ) (old : List ℕ) where
               → _≡_ {A = Catalogued} (record { ell = a; found = b; shown = c; buffer = d }) (record { ell = a′; found = b′; shown = c′; buffer = d′ })
           equal p q r t = cc
 
-      e : catalogueJudged (problem gens targets) k old ≡ accepted (record { ell = l .ell; found = l .found; shown = l .shown; buffer = after })
+      e : catalogueOf (problem gens targets) k old ≡ accepted (record { ell = l .ell; found = l .found; shown = l .shown; buffer = after })
       e = ap (λ (b : Bool). refuse 8 b (accepted (entryListing (problem gens targets) k old))) (le-ltb (dim word targets + 6) k h) ∙ ap accepted same

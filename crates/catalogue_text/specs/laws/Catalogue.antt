@@ -5,29 +5,30 @@
 --   Said                 == what the code knows of Catalogue's answer x
 --   reply-refused, reply-records, reply-entries   the reply, by its cases
 -- Assumes nothing.
-use Prim.Native.Nat.{ℕ, zero, suc, _+_, _-_, _*_, _≤_}
+use Prim.Native.Nat.{ℕ, zero, suc, _+_, _-_, _*_, _<_, _≤_}
 use mathlib.Core.Path.{_≡_, refl, sym, ap, _∙_, subst}
 use mathlib.Core.List.{List, []}
 use native.Mathlib.Omega.{arith}
+use native.Mathlib.Decide.{decLe}
 use native.Mathlib.Nat.{mul-le-mul, le-refl}
 use lib.ListN.{length, take}
 use lib.Dec.{ltb}
 use borrow.Author.Tests.{ltb-false}
-use Rattle.kinds.specs.declared.Kind.{Kind}
-use Rattle.kinds.specs.Kinds.{numberOf}
+use Rattle.kinds.specs.declared.Shape.{Shape}
 use Rattle.kinds.specs.Refusal.{accepted, refuse}
-use Rattle.kinds.specs.laws.Refusal.{accepted-inj, follow-inv, refuse-inv}
-use Rattle.problems.specs.Problem.{Problem, posed}
-use Rattle.problems.specs.Theorems.{posed-few}
+use Rattle.kinds.specs.laws.Refusal.{accepted-inj, refuse-inv}
+use Rattle.problems.specs.Problem.{Problem}
+use Rattle.problems.specs.Theorems.{Few}
 use Rattle.linear.specs.Basis.{dim}
 use Rattle.linear.specs.Order.{risingLists}
 use Rattle.linear.specs.Entry.{entries, space, fits, sameBasis}
 use Rattle.linear.specs.Word.{word}
 use Rattle.linear.specs.laws.Dimension.{dim-length}
+use Rattle.linear.specs.laws.Rank.{entries-below}
 use Rattle.linear.specs.laws.Select.{first-length}
 use Rattle.catalogue.specs.listing.Listing.{fitting}
 use Rattle.catalogue.specs.listing.laws.Run.{fitting-in, fitting-le}
-use Rattle.catalogue.specs.Catalogue.{Catalogued, entryListing, catalogue, seenCatalogue}
+use Rattle.catalogue.specs.Catalogue.{Catalogued, entryListing, catalogueOf, seenCatalogue}
 use Rattle.catalogue.specs.declared.Catalogued.{Catalogued as Reply}
 use Rattle.catalogue.specs.declared.Catalogued.the-variants as reply
 use Rattle.printing.specs.fields.Piece.{Piece}
@@ -55,6 +56,7 @@ one-space gens targets =
     one n = unfold risingLists in refl
 
 pub record ListingFitted (k : ℕ) (c : Catalogued) : Type 0 where
+  pub near : 0 < c .shown → c .ell ≤ k
   pub held : c .shown * ((k - c .ell) + k) ≤ programWords
   pub few : c .shown ≤ programWords
   pub rows : k ≤ 70
@@ -62,13 +64,21 @@ pub record ListingFitted (k : ℕ) (c : Catalogued) : Type 0 where
 listing-fitted : (x : Problem) (k : ℕ) (old : List ℕ) → length old ≡ programWords → k ≤ 70 → ListingFitted k (entryListing x k old)
 unfolding entryListing
 listing-fitted x k old w h =
-    record { held = (let a = fitting-in size found (length old) in omega arith); few = go size refl; rows = h }
+    record { near = λ p. beyond p (decLe (dim word (x .targets)) k); held = (let a = fitting-in size found (length old) in omega arith); few = go size refl; rows = h }
   where
     size : ℕ
     size = recordLength (dim word (x .targets)) k
 
     found : ℕ
     found = length (entries word (x .generators) (x .targets) k)
+
+    -- below ℓ there is no entry, so none is shown
+    beyond : 0 < fitting size found (length old) → Dec (dim word (x .targets) ≤ k) → dim word (x .targets) ≤ k
+    beyond p (yes l) = l
+    beyond p (no l) = absurd (
+        let a = fitting-le size found (length old) in
+        let b : found ≡ 0 = ap length (entries-below word (x .generators) (x .targets) k (omega arith)) in
+        omega arith)
 
     go : (n : ℕ) → size ≡ n → fitting size found (length old) ≤ programWords
     go zero e =
@@ -82,47 +92,43 @@ listing-fitted x k old w h =
         let b : fitting size found (length old) * 1 ≤ fitting size found (length old) * size = mul-le-mul (le-refl (fitting size found (length old))) (let z : 1 ≤ size = omega (arith, e) in z) in
         omega (arith, a, b, w)
 
-pub fitted : (number p q r k : ℕ) (gs ts : List ℕ) (old : List ℕ) (c : Catalogued) → length old ≡ programWords → catalogue number p q r k gs ts old ≡ accepted c → ListingFitted k c
-unfolding catalogue
-fitted number p q r k gs ts old c w e =
-    let i = follow-inv (posed number p q r gs ts []) (λ x. refuse 8 (ltb (dim word (x .targets) + 6) k) (accepted (entryListing x k old))) c e in
-    let j = refuse-inv 8 (ltb (dim word (i .0 .targets) + 6) k) (accepted (entryListing (i .0) k old)) c (i .2) in
-    let F = posed-few p q r gs ts [] (i .0) number (i .1) in
-    let a = ltb-false (dim word (i .0 .targets) + 6) k (j .0) in
+pub fitted : (x : Problem) (k : ℕ) (old : List ℕ) (c : Catalogued) → Few x → length old ≡ programWords → catalogueOf x k old ≡ accepted c → ListingFitted k c
+unfolding catalogueOf
+fitted x k old c F w e =
+    let j = refuse-inv 8 (ltb (dim word (x .targets) + 6) k) (accepted (entryListing x k old)) c e in
+    let a = ltb-false (dim word (x .targets) + 6) k (j .0) in
     let b = F .targets in
-    let d = dim-length word (i .0 .targets) in
-    subst (ListingFitted k) (accepted-inj (entryListing (i .0) k old) c (j .1)) (listing-fitted (i .0) k old w (omega arith))
+    let d = dim-length word (x .targets) in
+    subst (ListingFitted k) (accepted-inj (entryListing x k old) c (j .1)) (listing-fitted x k old w (omega arith))
 
 -- ---- the text
 pub records-fit : (k : ℕ) (c : Catalogued) → ListingFitted k c → length (c .buffer) ≡ programWords → Records (c .buffer) (k - c .ell) k (c .shown) 204
 records-fit k c F l = records-held (c .buffer) (k - c .ell) k (c .shown) 204 l (F .held) (F .few) (let a = F .rows in omega arith) (F .rows) (omega arith)
 
-pub text-fits : (kind : Kind) (p q r k : ℕ) (c : Catalogued) (d d₁ : List ℕ) (e : ℕ) → ListingFitted k c → length d ≡ replyPage
-    → Piece d 0 (catalogueText kind p q r k (c .ell) (c .found) (c .shown) (c .buffer)) (204 + (21 * (c .shown * ((k - c .ell) + k)) + 25 * c .shown)) d₁ e
-    → (take e d₁ ≡ catalogueAnswer kind p q r k (accepted c)) × (e ≤ replyPage)
-text-fits kind p q r k c d d₁ e F l P =
+pub text-fits : (shape : Shape) (k : ℕ) (c : Catalogued) (d d₁ : List ℕ) (e : ℕ) → ListingFitted k c → length d ≡ replyPage
+    → Piece d 0 (catalogueText shape k (c .ell) (c .found) (c .shown) (c .buffer)) (204 + (21 * (c .shown * ((k - c .ell) + k)) + 25 * c .shown)) d₁ e
+    → (take e d₁ ≡ catalogueAnswer shape k (accepted c)) × (e ≤ replyPage)
+text-fits shape k c d d₁ e F l P =
     let a = F .held in
     let b = F .few in
     let m : 204 + (21 * (c .shown * ((k - c .ell) + k)) + 25 * c .shown) ≤ length d = omega arith in (
-      whole (catalogueText kind p q r k (c .ell) (c .found) (c .shown) (c .buffer)) d d₁ (204 + (21 * (c .shown * ((k - c .ell) + k)) + 25 * c .shown)) e P m,
+      whole (catalogueText shape k (c .ell) (c .found) (c .shown) (c .buffer)) d d₁ (204 + (21 * (c .shown * ((k - c .ell) + k)) + 25 * c .shown)) e P m,
       omega (arith, P .after, P .most, a, b),
     )
 
 -- ---- the reply, from the code's answer x
-module _ (kind : Kind) (p q r k : ℕ) (gs ts : List ℕ) (number : ℕ) (x : Reply) (after : List ℕ) where
+module _ (shape : Shape) (k : ℕ) (P : Problem) (x : Reply) (after : List ℕ) where
   pub record Said : Type 0 where
-    pub named : number ≡ numberOf kind
-    pub answer : catalogue number p q r k gs ts listingRoom ≡ seenCatalogue x after
+    pub few : Few P
+    pub answer : catalogueOf P k listingRoom ≡ seenCatalogue x after
     pub size : length after ≡ programWords
 
   module _ (S : Said) where
-    reply-is : (y : Reply) → x ≡ y → catalogueReply kind p q r k gs ts ≡ catalogueAnswer kind p q r k (seenCatalogue y after)
+    reply-is : (y : Reply) → x ≡ y → catalogueReply shape k P ≡ catalogueAnswer shape k (seenCatalogue y after)
     unfolding catalogueReply
-    reply-is y h =
-        ap (λ (i : ℕ). catalogueAnswer kind p q r k (catalogue i p q r k gs ts listingRoom)) (sym (S .named)) ∙ ap (catalogueAnswer kind p q r k)
-        (S .answer ∙ ap (λ (z : Reply). seenCatalogue z after) h)
+    reply-is y h = ap (catalogueAnswer shape k) (S .answer ∙ ap (λ (z : Reply). seenCatalogue z after) h)
 
-    pub reply-refused : (e n : ℕ) (d : List ℕ) → x ≡ reply.Refused e → (take n d ≡ refusedText e) × (n ≤ 32) → (take n d ≡ catalogueReply kind p q r k gs ts) × (n ≤ replyPage)
+    pub reply-refused : (e n : ℕ) (d : List ℕ) → x ≡ reply.Refused e → (take n d ≡ refusedText e) × (n ≤ 32) → (take n d ≡ catalogueReply shape k P) × (n ≤ replyPage)
     reply-refused e n d h P = (P .0 ∙ sym (reply-is (reply.Refused e) h), (let a = P .1 in omega arith))
 
     module _ (l f s : ℕ) (h : x ≡ reply.Entries l f s) where
@@ -130,13 +136,13 @@ module _ (kind : Kind) (p q r k : ℕ) (gs ts : List ℕ) (number : ℕ) (x : Re
       c = record { ell = l; found = f; shown = s; buffer = after }
 
       fit : ListingFitted k c
-      fit = fitted number p q r k gs ts listingRoom c refl (S .answer ∙ ap (λ (z : Reply). seenCatalogue z after) h)
+      fit = fitted P k listingRoom c (S .few) refl (S .answer ∙ ap (λ (z : Reply). seenCatalogue z after) h)
 
-      pub reply-records : Records after (k - l) k s 204
-      reply-records = records-fit k c fit (S .size)
+      pub reply-records : Records after (k - l) k s 204 × (0 < s → l ≤ k)
+      reply-records = (records-fit k c fit (S .size), fit .near)
 
-      pub reply-entries : (d d₁ : List ℕ) (e : ℕ) → length d ≡ replyPage → Piece d 0 (catalogueText kind p q r k l f s after) (204 + (21 * (s * ((k - l) + k)) + 25 * s)) d₁ e
-          → (take e d₁ ≡ catalogueReply kind p q r k gs ts) × (e ≤ replyPage)
-      reply-entries d d₁ e w P =
-          let T = text-fits kind p q r k c d d₁ e fit w P in
+      pub reply-entries : (d d₁ : List ℕ) (e : ℕ) → length d ≡ replyPage → Piece d 0 (catalogueText shape k l f s after) (204 + (21 * (s * ((k - l) + k)) + 25 * s)) d₁ e
+          → (take e d₁ ≡ catalogueReply shape k P) × (e ≤ replyPage)
+      reply-entries d d₁ e w Q =
+          let T = text-fits shape k c d d₁ e fit w Q in
           (T .0 ∙ sym (reply-is (reply.Entries l f s) h), T .1)

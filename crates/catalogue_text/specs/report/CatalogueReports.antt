@@ -5,7 +5,7 @@
 -- Document 01: "For `poly,2,3,0,5` under its name line it prints in whole: .."; "`ell` is ℓ; `entry` counts from 0". Assumes nothing.
 use Prim.Native.Nat.{ℕ, _-_}
 use mathlib.Core.List.{List, [], _∷_, _++_}
-use Rattle.kinds.specs.declared.Kind.{Kind}
+use Rattle.kinds.specs.declared.Shape.{Shape}
 use Rattle.text.specs.Line.{LF}
 use Rattle.printing.specs.fields.Fields.{fieldText, sizesText}
 use Rattle.printing.specs.record_lines.RecordLines.{entryText, recordLines}
@@ -23,8 +23,8 @@ entryNames =
     101 ∷ 110 ∷ 116 ∷ 114 ∷ 121 ∷ 44 ∷ 101 ∷ 120 ∷ 116 ∷ 101 ∷ 110 ∷ 115 ∷ 105 ∷ 111 ∷ 110 ∷ 44 ∷ 98 ∷ 97 ∷ 115 ∷ 105 ∷ 115 ∷ LF ∷ []
 
 -- the first two lines of a Catalogue, which Formulae prints too
-unfoldable pub countsText : Kind → (p q r k ell found shown : ℕ) → List ℕ
-countsText kind p q r k ell found shown = catalogueNames ++ sizesText kind p q r k ++ fieldText ell ++ fieldText found ++ fieldText shown ++ (LF ∷ [])
+unfoldable pub countsText : Shape → (k ell found shown : ℕ) → List ℕ
+countsText shape k ell found shown = catalogueNames ++ sizesText shape k ++ fieldText ell ++ fieldText found ++ fieldText shown ++ (LF ∷ [])
 
-unfoldable pub catalogueText : Kind → (p q r k ell found shown : ℕ) → List ℕ → List ℕ
-catalogueText kind p q r k ell found shown listing = countsText kind p q r k ell found shown ++ entryNames ++ entriesText (k - ell) k 0 shown listing
+unfoldable pub catalogueText : Shape → (k ell found shown : ℕ) → List ℕ → List ℕ
+catalogueText shape k ell found shown listing = countsText shape k ell found shown ++ entryNames ++ entriesText (k - ell) k 0 shown listing

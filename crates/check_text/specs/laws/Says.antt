@@ -7,7 +7,7 @@ use Prim.Native.Nat.{ℕ, _^_, _<_}
 use native.Mathlib.Omega.{arith}
 use lib.ListN.{length, take, drop, getD, length-append}
 use lib.Seq.{take-at, drop-at}
-use Rattle.kinds.specs.declared.Kind.{Kind}
+use Rattle.kinds.specs.declared.Shape.{Shape}
 use Rattle.text.specs.Line.{LF}
 use Rattle.printing.specs.fields.Fields.{fieldText, sizesText}
 use Rattle.printing.specs.laws.Digits.{number-same}
@@ -34,10 +34,11 @@ verdict-says said.Right (said.Wrong t) h k e = absurd (let z : _≡_ {A = ℕ} 1
 verdict-says (said.Wrong t) said.Right h k e = absurd (let z : _≡_ {A = ℕ} 119 114 = ap (λ (l : List ℕ). getD l 1 0) e in omega arith)
 verdict-says (said.Wrong t) (said.Wrong s) h k e = ap said.Wrong (number-same t s h k (ap (drop 1) (cancel-left wrong (fieldText t) (fieldText s) e)))
 
-pub says : (kd : Kind) (p q r k : ℕ) (v u : Verdict) (w : ℕ) → Named v → Named u → checkText kd p q r k v w ≡ checkText kd p q r k u w → v ≡ u
+pub says : (shape : Shape) (k : ℕ) (v u : Verdict) (w : ℕ) → Named v → Named u → checkText shape k v w ≡ checkText shape k u w → v ≡ u
 unfolding checkText
-says kd p q r k v u w h g e =
+says shape k v u w h g e =
+    let head = checkNames ++ sizesText shape k in
     verdict-says v u h g
-    (cancel-left (checkNames ++ sizesText kd p q r k) (verdictText v) (verdictText u)
-    (cancel-right ((checkNames ++ sizesText kd p q r k) ++ verdictText v) ((checkNames ++ sizesText kd p q r k) ++ verdictText u) (fieldText w)
-    (cancel-right (((checkNames ++ sizesText kd p q r k) ++ verdictText v) ++ fieldText w) (((checkNames ++ sizesText kd p q r k) ++ verdictText u) ++ fieldText w) (LF ∷ []) e)))
+    (cancel-left head (verdictText v) (verdictText u)
+    (cancel-right (head ++ verdictText v) (head ++ verdictText u) (fieldText w)
+    (cancel-right ((head ++ verdictText v) ++ fieldText w) ((head ++ verdictText u) ++ fieldText w) (LF ∷ []) e)))

@@ -1,12 +1,12 @@
 -- The text of a Check's reply: a line of names and one line under it.
---   checkText kind p q r k verdict adders
+--   checkText shape k verdict adders
 --     kind,p,q,r,k,verdict,output,adders
 --     poly,2,2,0,3,right,-,4
 -- Document 01: "The Check program prints `kind,p,q,r,k,verdict,output,adders` and one line under it, as `poly,2,2,0,3,right,-,4` or
 -- `poly,2,2,0,3,wrong,1,3`". Assumes nothing.
 use Prim.Native.Nat.{ℕ}
 use mathlib.Core.List.{List, [], _∷_, _++_}
-use Rattle.kinds.specs.declared.Kind.{Kind}
+use Rattle.kinds.specs.declared.Shape.{Shape}
 use Rattle.text.specs.Line.{LF}
 use Rattle.printing.specs.fields.Fields.{fieldText, sizesText}
 use Rattle.formula_check.specs.declared.verdicts.Verdict.{Verdict}
@@ -29,5 +29,5 @@ abbrev pub verdictText : Verdict → List ℕ
 verdictText verdict.Right = 44 ∷ 114 ∷ 105 ∷ 103 ∷ 104 ∷ 116 ∷ 44 ∷ 45 ∷ []
 verdictText (verdict.Wrong t) = wrong ++ fieldText t
 
-unfoldable pub checkText : Kind → ℕ → ℕ → ℕ → ℕ → Verdict → ℕ → List ℕ
-checkText kind p q r k v adders = checkNames ++ sizesText kind p q r k ++ verdictText v ++ fieldText adders ++ (LF ∷ [])
+unfoldable pub checkText : Shape → ℕ → Verdict → ℕ → List ℕ
+checkText shape k v adders = checkNames ++ sizesText shape k ++ verdictText v ++ fieldText adders ++ (LF ∷ [])

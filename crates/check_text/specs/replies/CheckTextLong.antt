@@ -5,16 +5,22 @@ use Prim.Native.Nat.{ℕ, _<_}
 use mathlib.Core.List.{[], _∷_, _++_}
 use native.Mathlib.Omega.{arith}
 use lib.ListN.{length, length-append}
-use Rattle.kinds.specs.declared.Kind.{Kind}
+use Rattle.kinds.specs.declared.Shape.{Shape}
 use Rattle.text.specs.Line.{LF}
 use Rattle.formula_check.specs.declared.verdicts.Verdict.{Verdict}
 use Rattle.check_text.specs.replies.CheckText.{checkNames, verdictText, checkText}
 use Rattle.printing.specs.fields.Fields.{sizesText, fieldText}
 
-pub check-text-long : (kind : Kind) (p q r k : ℕ) (v : Verdict) (adders : ℕ) → 35 < length (checkText kind p q r k v adders)
+pub check-text-long : (shape : Shape) (k : ℕ) (v : Verdict) (adders : ℕ) → 35 < length (checkText shape k v adders)
 unfolding checkText
-check-text-long kind p q r k v adders =
-    let a = checkNames ++ sizesText kind p q r k in
+check-text-long shape k v adders =
+    let a = checkNames ++ sizesText shape k in
     let b = a ++ verdictText v in
     let c = b ++ fieldText adders in
-    omega (arith, length-append c (LF ∷ []), length-append b (fieldText adders), length-append a (verdictText v), length-append checkNames (sizesText kind p q r k))
+    omega (
+      arith,
+      length-append c (LF ∷ []),
+      length-append b (fieldText adders),
+      length-append a (verdictText v),
+      length-append checkNames (sizesText shape k),
+    )

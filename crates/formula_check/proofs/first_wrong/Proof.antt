@@ -13,10 +13,10 @@ use Rattle.formula_check.proofs.sums.row_form.Reads as row-form-reads
 use Rattle.maps.proofs.target.Reads as target-reads
 
 abbrev Inv-loop : tie.InvT-loop
-Inv-loop kind p q r n m forms rows t₀ t = (t ≤ length rows) × (firstWrong kind p q r n m forms (drop t rows) t ≡ firstWrong kind p q r n m forms rows 0)
+Inv-loop shape n m forms rows t₀ t = (t ≤ length rows) × (firstWrong shape n m forms (drop t rows) t ≡ firstWrong shape n m forms rows 0)
 
 abbrev μ-loop : tie.MeasureT-loop
-μ-loop kind p q r n m forms rows t₀ t = length rows - t
+μ-loop shape n m forms rows t₀ t = length rows - t
 
 loop-holds : tie.Need-loop-holds Inv-loop μ-loop
 loop-holds c = (omega arith, refl)
@@ -34,8 +34,8 @@ returns : tie.Need-returns Inv-loop μ-loop
 returns c =
     let args = c .before .before .before .before .before .before .before .before .args in
     let loop = c .before .before .before .before .before .loop in
-    wrong-here (args .kind) (args .p) (args .q) (args .r) (args .n) (args .m) (args .forms .now) (args .rows .now) (loop .t)
-    (firstWrong (args .kind) (args .p) (args .q) (args .r) (args .n) (args .m) (args .forms .now) (args .rows .now) 0) (omega arith)
+    wrong-here (args .shape) (args .n) (args .m) (args .forms .now) (args .rows .now) (loop .t)
+    (firstWrong (args .shape) (args .n) (args .m) (args .forms .now) (args .rows .now) 0) (omega arith)
     (loop .inv .1) (λ e. c .if1 .taken (c .before .before .row-form .ensures ∙ e ∙ sym (c .before .target .ensures)))
 
 loop-again : tie.Need-loop-again Inv-loop μ-loop
@@ -43,16 +43,16 @@ loop-again c =
     let args = c .before .before .before .before .before .before .before .before .args in
     let loop = c .before .before .before .before .before .loop in (
       omega arith,
-      wrong-later (args .kind) (args .p) (args .q) (args .r) (args .n) (args .m) (args .forms .now) (args .rows .now) (loop .t)
-          (firstWrong (args .kind) (args .p) (args .q) (args .r) (args .n) (args .m) (args .forms .now) (args .rows .now) 0) (omega arith)
+      wrong-later (args .shape) (args .n) (args .m) (args .forms .now) (args .rows .now) (loop .t)
+          (firstWrong (args .shape) (args .n) (args .m) (args .forms .now) (args .rows .now) 0) (omega arith)
           (loop .inv .1) (sym (c .before .before .row-form .ensures) ∙ c .if1 .left ∙ c .before .target .ensures),
     )
 
 returns-2 : tie.Need-returns-2 Inv-loop μ-loop
 returns-2 c =
     let args = c .before .before .before .before .args in
-    wrong-end (args .kind) (args .p) (args .q) (args .r) (args .n) (args .m) (args .forms .now) (args .rows .now) (c .before .loop .t)
-    (firstWrong (args .kind) (args .p) (args .q) (args .r) (args .n) (args .m) (args .forms .now) (args .rows .now) 0) (omega arith)
+    wrong-end (args .shape) (args .n) (args .m) (args .forms .now) (args .rows .now) (c .before .loop .t)
+    (firstWrong (args .shape) (args .n) (args .m) (args .forms .now) (args .rows .now) 0) (omega arith)
     (c .before .loop .inv .1)
 
 pub first-wrong-spec : {M : Type 1} → statement M

@@ -13,12 +13,12 @@ adders-of-requires-3 : tie.Need-adders-of-requires-3
 adders-of-requires-3 c κs =
     let args = c .before .before .before .before .before .args in
     let pre = c .before .before .before .before .before .pre in
-    sizes-bounds (args .kind) (args .p) (args .q) (args .r) (args .n, args .m, length (args .rows .now)) (pre .sized) .most-outputs
+    sizes-bounds (args .shape) (args .n, args .m, length (args .rows .now)) (pre .sized) .most-outputs
 
 returns : tie.Need-returns
 returns c =
     ap₂ (λ (v : Option ℕ) (w : ℕ). (v, w)) (c .verdict-on .ensures)
-    (let x = c .before .before .before .adders-of .ensures .0 in let y = c .before .before .adders-of2 .ensures .0 in let z = c .before .adders-of3 .ensures .0 in omega arith)
+    (omega (arith, c .before .before .before .adders-of .ensures .0, c .before .before .adders-of2 .ensures .0, c .before .adders-of3 .ensures .0))
 
 pub judge-spec : {M : Type 1} → statement M
 judge-spec =

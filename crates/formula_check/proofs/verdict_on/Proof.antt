@@ -26,16 +26,16 @@ first-wrong-requires : tie.Need-first-wrong-requires
 first-wrong-requires c κs =
     let args = c .before .before .before .before .before .before .args in
     let pre = c .before .before .before .before .before .before .pre in
-    record {
-      sized = pre .sized;
-      few =
-          (let w = c .before .product-forms .ensures .whole in let f = pre .few in let e = length-take-le (length (args .a .now)) (c .before .product-forms .last .1 .1 .1 .1 .0) (omega arith) in omega arith);
-    }
+    let products = c .before .product-forms in
+    let w = products .ensures .whole in
+    let f = pre .few in
+    let e = length-take-le (length (args .a .now)) (products .last .1 .1 .1 .1 .0) (omega arith) in
+    record { sized = pre .sized; few = omega arith }
 
 returns : tie.Need-returns
 returns c =
     let args = c .before .before .before .before .before .before .before .args in
-    ap (λ (fs : List ℕ). firstWrong (args .kind) (args .p) (args .q) (args .r) (args .n) (args .m) fs (args .rows .now) 0)
+    ap (λ (fs : List ℕ). firstWrong (args .shape) (args .n) (args .m) fs (args .rows .now) 0)
     (sym (c .before .before .product-forms .ensures .start)) ∙ c .first-wrong .ensures
 
 pub verdict-on-spec : {M : Type 1} → statement M

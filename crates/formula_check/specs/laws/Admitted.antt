@@ -9,7 +9,7 @@ use native.Mathlib.Omega.{arith}
 use lib.Dec.{ltb}
 use Rattle.kinds.specs.Kinds.{isList, knownMap}
 use Rattle.kinds.specs.Limits.{mostProducts}
-use Rattle.kinds.specs.Sizes.{sizes}
+use Rattle.kinds.specs.Sizes.{shapeOf, sizes}
 use Rattle.kinds.specs.Refusal.{accepted}
 use Rattle.kinds.specs.laws.Refusal.{accepted-inj, need-inv, refuse-inv}
 use Rattle.words.specs.Masks.{wide, zeroIn}
@@ -34,19 +34,19 @@ pub record AdmittedSo (named : Option Kind) (p q r k : ℕ) (lists : ℕ → Opt
   pub l : Lists
   pub is-named : named ≡ some kd
   pub is-map : isList kd ≡ false
-  pub sized : sizes kd p q r ≡ some (n, m, u)
+  pub sized : sizes (shapeOf kd p q r) ≡ some (n, m, u)
   pub listed : lists u ≡ some l
   pub narrow : (wide n (l .0) || (wide m (l .1) || wide k (l .2))) ≡ false
   pub nonzero : (zeroIn (l .0) || zeroIn (l .1)) ≡ false
   pub few : ltb mostProducts k ≡ false
-  pub is : formulaOf kd p q r n m (l .0) (l .1) (l .2) ≡ f
+  pub is : formulaOf (shapeOf kd p q r) n m (l .0) (l .1) (l .2) ≡ f
 
 pub admit-inv : (named : Option Kind) (p q r k : ℕ) (lists : ℕ → Option Lists) (f : Admitted) → admit named p q r k lists ≡ accepted f → AdmittedSo named p q r k lists f
 unfolding admit passed
 admit-inv named p q r k lists f e =
     let a = need-inv 2 (knownMap named) _ f e in
     let N = known-inv named (a .0) (a .1) in
-    let b = need-inv 3 (sizes (a .0) p q r) _ f (a .2) in
+    let b = need-inv 3 (sizes (shapeOf (a .0) p q r)) _ f (a .2) in
     let z = b .0 in
     let c = need-inv 5 (lists (z .2)) _ f (b .2) in
     let l = c .0 in
@@ -66,5 +66,5 @@ admit-inv named p q r k lists f e =
       narrow = x .0;
       nonzero = y .0;
       few = d .0;
-      is = accepted-inj (formulaOf (a .0) p q r (z .0) (z .1) (l .0) (l .1) (l .2)) f (d .1);
+      is = accepted-inj (formulaOf (shapeOf (a .0) p q r) (z .0) (z .1) (l .0) (l .1) (l .2)) f (d .1);
     }

@@ -14,10 +14,11 @@ use lib.Dec.{eqb, ltb}
 use borrow.Author.Tests.{eq-eqb, ne-eqb, ltb-false}
 use Rattle.kinds.specs.Kinds.{kindNumbered, knownMap}
 use Rattle.kinds.specs.Limits.{mostProducts}
-use Rattle.kinds.specs.Sizes.{sizes}
+use Rattle.kinds.specs.Sizes.{shapeOf, sizes}
 use Rattle.kinds.specs.Refusal.{Answer, refused, accepted, need, refuse, follow}
 use Rattle.words.specs.Masks.{wide, zeroIn}
 use Rattle.kinds.specs.declared.Kind.{Kind}
+use Rattle.kinds.specs.declared.Shape.{Shape}
 use Rattle.formula_check.specs.Formula.{Lists, Admitted, formulaOf, passed, admit, lengths, listsHanded, verdict, check}
 use Rattle.formula_check.specs.Refusals.{refusalOf}
 
@@ -67,15 +68,15 @@ module _ {A : Type 0} (a : Answer A) where
   by-is false false true h = absurd (let q : _≡_ {A = ℕ} 8 0 = h in omega arith)
   by-is false false false h = (refl, refl)
 
-module _ (kd : Kind) (p q r n m k : ℕ) (xs ys rows : List ℕ) (w z : Bool) (e : ℕ) (W : w ≡ (wide n xs || (wide m ys || wide k rows))) (Z : z ≡ (zeroIn xs || zeroIn ys)) (E : e ≡ refusalOf w z k) where
-  pub passed-not : (e ≡ 0 → ⊥) → passed kd p q r n m k xs ys rows ≡ refused e
+module _ (shape : Shape) (n m k : ℕ) (xs ys rows : List ℕ) (w z : Bool) (e : ℕ) (W : w ≡ (wide n xs || (wide m ys || wide k rows))) (Z : z ≡ (zeroIn xs || zeroIn ys)) (E : e ≡ refusalOf w z k) where
+  pub passed-not : (e ≡ 0 → ⊥) → passed shape n m k xs ys rows ≡ refused e
   unfolding passed
-  passed-not h = rw (← W, ← Z) (by-not (accepted (formulaOf kd p q r n m xs ys rows)) w z (ltb mostProducts k) e E h)
+  passed-not h = rw (← W, ← Z) (by-not (accepted (formulaOf shape n m xs ys rows)) w z (ltb mostProducts k) e E h)
 
-  pub passed-is : e ≡ 0 → (passed kd p q r n m k xs ys rows ≡ accepted (formulaOf kd p q r n m xs ys rows)) × (k ≤ mostProducts)
+  pub passed-is : e ≡ 0 → (passed shape n m k xs ys rows ≡ accepted (formulaOf shape n m xs ys rows)) × (k ≤ mostProducts)
   unfolding passed
   passed-is h =
-      let b = by-is (accepted (formulaOf kd p q r n m xs ys rows)) w z (ltb mostProducts k) (sym E ∙ h) in
+      let b = by-is (accepted (formulaOf shape n m xs ys rows)) w z (ltb mostProducts k) (sym E ∙ h) in
       ((rw (← W, ← Z) (b .0)), ltb-false mostProducts k (b .1))
 
 -- ---- the reply
@@ -84,30 +85,30 @@ judgedBy f = accepted (verdict f)
 
 module _ (number p q r k : ℕ) (xs ys rows : List ℕ) where
   abbrev after : Kind → ℕ × ℕ × ℕ → Option Lists → Answer Admitted
-  after kd z o = need 5 o λ l. passed kd p q r (z .0) (z .1) k (l .0) (l .1) (l .2)
+  after kd z o = need 5 o λ l. passed (shapeOf kd p q r) (z .0) (z .1) k (l .0) (l .1) (l .2)
 
   abbrev sized : Kind → Option (ℕ × ℕ × ℕ) → Answer Admitted
   sized kd o = need 3 o λ z. after kd z (listsHanded k xs ys rows (z .2))
 
   pub check-2 : knownMap (kindNumbered number) ≡ none → check number p q r k xs ys rows ≡ refused 2
   unfolding check admit
-  check-2 e = ap (λ (o : Option Kind). follow (need 2 o λ kd. sized kd (sizes kd p q r)) judgedBy) e
+  check-2 e = ap (λ (o : Option Kind). follow (need 2 o λ kd. sized kd (sizes (shapeOf kd p q r))) judgedBy) e
 
   module _ (kd : Kind) (K : knownMap (kindNumbered number) ≡ some kd) where
-    check-sized : (o : Option (ℕ × ℕ × ℕ)) → sizes kd p q r ≡ o → check number p q r k xs ys rows ≡ follow (sized kd o) judgedBy
+    check-sized : (o : Option (ℕ × ℕ × ℕ)) → sizes (shapeOf kd p q r) ≡ o → check number p q r k xs ys rows ≡ follow (sized kd o) judgedBy
     unfolding check admit
     check-sized o e =
-        ap (λ (o : Option Kind). follow (need 2 o λ kd. sized kd (sizes kd p q r)) judgedBy) K ∙ ap (λ (o : Option (ℕ × ℕ × ℕ)). follow (sized kd o) judgedBy) e
+        ap (λ (o : Option Kind). follow (need 2 o λ kd. sized kd (sizes (shapeOf kd p q r))) judgedBy) K ∙ ap (λ (o : Option (ℕ × ℕ × ℕ)). follow (sized kd o) judgedBy) e
 
-    pub check-3 : sizes kd p q r ≡ none → check number p q r k xs ys rows ≡ refused 3
+    pub check-3 : sizes (shapeOf kd p q r) ≡ none → check number p q r k xs ys rows ≡ refused 3
     check-3 = check-sized none
 
-    module _ (n m u : ℕ) (S : sizes kd p q r ≡ some (n, m, u)) where
+    module _ (n m u : ℕ) (S : sizes (shapeOf kd p q r) ≡ some (n, m, u)) where
       check-lists : (b : Bool) → lengths k u xs ys rows ≡ b → check number p q r k xs ys rows ≡ follow (after kd (n, m, u) (cond b none (some (xs, ys, rows)))) judgedBy
       check-lists b e = check-sized (some (n, m, u)) S ∙ ap (λ (b : Bool). follow (after kd (n, m, u) (cond b none (some (xs, ys, rows)))) judgedBy) e
 
       pub check-5 : lengths k u xs ys rows ≡ true → check number p q r k xs ys rows ≡ refused 5
       check-5 = check-lists true
 
-      pub check-passed : lengths k u xs ys rows ≡ false → check number p q r k xs ys rows ≡ follow (passed kd p q r n m k xs ys rows) judgedBy
+      pub check-passed : lengths k u xs ys rows ≡ false → check number p q r k xs ys rows ≡ follow (passed (shapeOf kd p q r) n m k xs ys rows) judgedBy
       check-passed = check-lists false

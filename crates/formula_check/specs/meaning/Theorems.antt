@@ -17,7 +17,7 @@ use Rattle.formula_check.specs.Formula.{Admitted, verdict, check}
 use Rattle.formula_check.specs.meaning.Meaning.{RightFormula, FormulaDiffers, Means}
 use Rattle.formula_check.specs.meaning.laws.Meaning as meaning
 
-pub verdict-means : (f : Admitted) → sizes (f .kind) (f .p) (f .q) (f .r) ≡ some (f .n, f .m, length (f .rows)) → isList (f .kind) ≡ false
+pub verdict-means : (f : Admitted) → sizes (f .shape) ≡ some (f .n, f .m, length (f .rows)) → isList (f .shape .kind) ≡ false
     → ((verdict f .0 ≡ none) ↔ RightFormula f) × ((t : ℕ) → (verdict f .0 ≡ some t) ↔ FormulaDiffers f t)
 verdict-means = meaning.verdict-means
 

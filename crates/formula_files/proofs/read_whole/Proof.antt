@@ -5,7 +5,7 @@ use native.Mathlib.Nat.{le-refl}
 use lib.ListN.{length, drop}
 use Rattle.kinds.specs.Kinds.{seenKind}
 use Rattle.kinds.specs.Refusal.{Answer}
-use Rattle.kinds.specs.Sizes.{seenSizes}
+use Rattle.kinds.specs.Sizes.{shapeOf, seenSizes}
 use Rattle.text.specs.heads.Views.{seenHead}
 use Rattle.formula_check.specs.Formula.{Admitted}
 use Rattle.formula_files.specs.FormulaFile.{under, rest, formulaFile}
@@ -33,12 +33,14 @@ sized : (c : tie.After-known-told3) →
     let g = h .before .known .given .0 in
     let o = c .before .n .given .0 in
     let args = start h .args in
-    whole (start h) ≡ under (c .before .before .before .before .before .kind .given .0 .0) (g .1 .0) (g .1 .1 .0) (g .1 .1 .1 .0) (g .1 .1 .1 .1 .0) (o .0) (o .1 .0) (o .1 .1 .0)
+    let kind = c .before .before .before .before .before .kind in
+    whole (start h) ≡ under (shapeOf (kind .given .0 .0) (g .1 .0) (g .1 .1 .0) (g .1 .1 .1 .0)) (g .1 .1 .1 .1 .0) (o .0) (o .1 .0) (o .1 .1 .0)
     (length (args .a .now)) (length (args .b .now)) (length (args .d .now)) (drop (g .1 .1 .1 .1 .1 .0) (args .s .now))
 sized c =
     let kind = c .before .before .before .before .before .kind in
     head (c .before .before .before .before .before .before .before .before) ∙ rest-under _ _ _ _ _ _ _ _ _ (kind .given .0 .0)
-    (c .before .before .before .before .before .before .before .known-map .ensures ∙ ap seenKind (kind .given .1)) _ _ _ (c .before .before .before .sizes-of .ensures ∙ ap seenSizes (c .before .n .given .1))
+    (c .before .before .before .before .before .before .before .known-map .ensures ∙ ap seenKind (kind .given .1)) _ _ _
+    (c .before .before .before .sizes-of .ensures ∙ ap seenSizes (c .before .n .given .1))
 
 returns : tie.Need-returns
 returns c =
@@ -47,13 +49,15 @@ returns c =
 
 returns-2 : tie.Need-returns-2
 returns-2 c =
-    left-refused _ _ _ _ _ _ _ _ (head (c .before .before .before) ∙ rest-2 _ _ _ _ _ _ _ _ _ (c .before .before .known-map .ensures ∙ ap seenKind (c .enum-told2 .given .1)))
+    left-refused _ _ _ _ _ _ _ _
+    (head (c .before .before .before) ∙ rest-2 _ _ _ _ _ _ _ _ _ (c .before .before .known-map .ensures ∙ ap seenKind (c .enum-told2 .given .1)))
 
 returns-3 : tie.Need-returns-3
 returns-3 c =
     let kind = c .before .before .before .before .kind in
     left-refused _ _ _ _ _ _ _ _ (head (c .before .before .before .before .before .before .before) ∙ rest-3 _ _ _ _ _ _ _ _ _ (kind .given .0 .0)
-    (c .before .before .before .before .before .before .known-map .ensures ∙ ap seenKind (kind .given .1)) (c .before .before .sizes-of .ensures ∙ ap seenSizes (c .enum-told3 .given .1)))
+    (c .before .before .before .before .before .before .known-map .ensures ∙ ap seenKind (kind .given .1))
+    (c .before .before .sizes-of .ensures ∙ ap seenSizes (c .enum-told3 .given .1)))
 
 sub-read-under : tie.Need-sub-read-under
 sub-read-under c =
@@ -64,15 +68,17 @@ returns-4 : tie.Need-returns-4
 returns-4 c =
     let z = c .before .before .before .before .before .before .before .before .before .before .before .before in
     let h = z .before .before .before .before .before .before .before .before in
-    let lines = under-at _ _ _ _ (start h .args .s .now) (h .before .known .given .0 .1 .1 .1 .1 .1 .0) _ _ _ _ _ _ _ (c .before .before .before .before .before .before .before .read-under .ensures) in
-    left-refused _ _ _ _ _ _ _ _ (sized z ∙ lines .stopped _ _ _ _ (c .if1 .taken))
+    let read-under = c .before .before .before .before .before .before .before .read-under in
+    let lines = under-at _ _ _ _ (start h .args .s .now) (h .before .known .given .0 .1 .1 .1 .1 .1 .0) _ _ _ _ _ _ _ (read-under .ensures) in
+    left-refused _ _ _ _ _ _ _ _ (sized z ∙ lines .stopped _ (c .if1 .taken))
 
 returns-5 : tie.Need-returns-5
 returns-5 c =
     let z = c .before .before .before .before .before .before .before .before .before .before .before .before in
     let h = z .before .before .before .before .before .before .before .before in
-    let lines = under-at _ _ _ _ (start h .args .s .now) (h .before .known .given .0 .1 .1 .1 .1 .1 .0) _ _ _ _ _ _ _ (c .before .before .before .before .before .before .before .read-under .ensures) in
-    left-under _ _ _ _ _ _ _ _ _ (sized z) (lines .all _ _ _ _ (c .if1 .left))
+    let read-under = c .before .before .before .before .before .before .before .read-under in
+    let lines = under-at _ _ _ _ (start h .args .s .now) (h .before .known .given .0 .1 .1 .1 .1 .1 .0) _ _ _ _ _ _ _ (read-under .ensures) in
+    left-under _ _ _ _ _ _ _ _ _ (sized z) (lines .all _ (c .if1 .left))
 
 pub read-whole-spec : {M : Type 1} → statement M
 read-whole-spec =

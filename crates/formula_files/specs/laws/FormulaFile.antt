@@ -14,11 +14,12 @@ use lib.ListN.{length, take, drop}
 use borrow.Rule.Slice.PartAt.{part-to-end}
 use borrow.Author.Tests.{ltb-false}
 use Rattle.kinds.specs.declared.Kind.{Kind}
+use Rattle.kinds.specs.declared.Shape.{Shape}
 use Rattle.kinds.specs.declared.Known.{Known}
 use Rattle.kinds.specs.Kinds.{knownMap}
 use Rattle.kinds.specs.Limits.{mostProducts}
 use Rattle.kinds.specs.Refusal.{Answer, refused, accepted, refuse, follow}
-use Rattle.kinds.specs.Sizes.{sizes}
+use Rattle.kinds.specs.Sizes.{shapeOf, sizes}
 use Rattle.words.specs.Masks.{wide, zeroIn}
 use Rattle.words.specs.Buffers.{filled, zeros}
 use Rattle.words.specs.laws.Buffers.{filled-sets}
@@ -55,16 +56,16 @@ module _ (kd : Option Kind) (p q r k : ℕ) (t : List ℕ) (la lb lr : ℕ) wher
   rest-2 e = rw e
 
   module _ (kind : Kind) (K : knownMap kd ≡ some kind) where
-    pub rest-3 : sizes kind p q r ≡ none → restOf ≡ refused 3
+    pub rest-3 : sizes (shapeOf kind p q r) ≡ none → restOf ≡ refused 3
     unfolding rest admit
     rest-3 g = rw (K, g)
 
-    pub rest-under : (n m o : ℕ) → sizes kind p q r ≡ some (n, m, o) → restOf ≡ under kind p q r k n m o la lb lr t
+    pub rest-under : (n m o : ℕ) → sizes (shapeOf kind p q r) ≡ some (n, m, o) → restOf ≡ under (shapeOf kind p q r) k n m o la lb lr t
     unfolding rest admit
     rest-under n m o g = rw (K, g)
 
-    pub rest-judged : (n m o : ℕ) (xs ys zs : List ℕ) → sizes kind p q r ≡ some (n, m, o) → body k o t ≡ some (xs, ys, zs)
-        → restOf ≡ follow (passed kind p q r n m k xs ys zs) (heldIn la lb lr)
+    pub rest-judged : (n m o : ℕ) (xs ys zs : List ℕ) → sizes (shapeOf kind p q r) ≡ some (n, m, o) → body k o t ≡ some (xs, ys, zs)
+        → restOf ≡ follow (passed (shapeOf kind p q r) n m k xs ys zs) (heldIn la lb lr)
     unfolding rest admit
     rest-judged n m o xs ys zs g i = rw (K, g, i)
 
@@ -90,24 +91,24 @@ or-assoc : (a b c : Bool) → (a || b) || c ≡ a || (b || c)
 or-assoc true b c = refl
 or-assoc false b c = refl
 
-module _ (kind : Kind) (p q r k n m t la lb lr : ℕ) (xs ys zs : List ℕ) (w z : Bool) (W : w ≡ ((wide n xs || wide m ys) || wide k zs)) (Z : z ≡ (zeroIn xs || zeroIn ys))
+module _ (shape : Shape) (k n m t la lb lr : ℕ) (xs ys zs : List ℕ) (w z : Bool) (W : w ≡ ((wide n xs || wide m ys) || wide k zs)) (Z : z ≡ (zeroIn xs || zeroIn ys))
     (lx : length xs ≡ k) (ly : length ys ≡ k) (lz : length zs ≡ t) (e : ℕ) (E : e ≡ number w z (ltb mostProducts k) (ltb la k || (ltb lb k || ltb lr t))) where
   -- the buffers, by the formula's lists
-  short : tooShort la lb lr (formulaOf kind p q r n m xs ys zs) ≡ (ltb la k || (ltb lb k || ltb lr t))
+  short : tooShort la lb lr (formulaOf shape n m xs ys zs) ≡ (ltb la k || (ltb lb k || ltb lr t))
   short = rw (lx, ly, lz)
 
-  passes : follow (passed kind p q r n m k xs ys zs) (heldIn la lb lr) ≡ judged w z (ltb mostProducts k) (tooShort la lb lr) (formulaOf kind p q r n m xs ys zs)
+  passes : follow (passed shape n m k xs ys zs) (heldIn la lb lr) ≡ judged w z (ltb mostProducts k) (tooShort la lb lr) (formulaOf shape n m xs ys zs)
   unfolding passed
   passes =
-      ap₂ (λ (x y : Bool). judged x y (ltb mostProducts k) (tooShort la lb lr) (formulaOf kind p q r n m xs ys zs))
+      ap₂ (λ (x y : Bool). judged x y (ltb mostProducts k) (tooShort la lb lr) (formulaOf shape n m xs ys zs))
       (sym (or-assoc (wide n xs) (wide m ys) (wide k zs)) ∙ sym W) (sym Z)
 
-  pub judged-not : (e ≡ 0 → ⊥) → follow (passed kind p q r n m k xs ys zs) (heldIn la lb lr) ≡ refused e
-  judged-not h = passes ∙ number-some w z (ltb mostProducts k) (ltb la k || (ltb lb k || ltb lr t)) (tooShort la lb lr) (formulaOf kind p q r n m xs ys zs) e short E h
+  pub judged-not : (e ≡ 0 → ⊥) → follow (passed shape n m k xs ys zs) (heldIn la lb lr) ≡ refused e
+  judged-not h = passes ∙ number-some w z (ltb mostProducts k) (ltb la k || (ltb lb k || ltb lr t)) (tooShort la lb lr) (formulaOf shape n m xs ys zs) e short E h
 
-  pub judged-is : e ≡ 0 → (follow (passed kind p q r n m k xs ys zs) (heldIn la lb lr) ≡ accepted (formulaOf kind p q r n m xs ys zs)) × ((ltb la k || (ltb lb k || ltb lr t)) ≡ false)
+  pub judged-is : e ≡ 0 → (follow (passed shape n m k xs ys zs) (heldIn la lb lr) ≡ accepted (formulaOf shape n m xs ys zs)) × ((ltb la k || (ltb lb k || ltb lr t)) ≡ false)
   judged-is h =
-      let g = number-none w z (ltb mostProducts k) (ltb la k || (ltb lb k || ltb lr t)) (tooShort la lb lr) (formulaOf kind p q r n m xs ys zs) short (sym E ∙ h) in
+      let g = number-none w z (ltb mostProducts k) (ltb la k || (ltb lb k || ltb lr t)) (tooShort la lb lr) (formulaOf shape n m xs ys zs) short (sym E ∙ h) in
       (passes ∙ g .0, g .1)
 
 pub room : (k t la lb lr : ℕ) → (ltb la k || (ltb lb k || ltb lr t)) ≡ false → (k ≤ la) × (k ≤ lb) × (t ≤ lr)
@@ -129,27 +130,27 @@ left-formula o f a b d a₁ b₁ d₁ h ha hb hd = rw h (refl, (ha, hb, hd))
 
 module _ (k n m t : ℕ) (s a b d a₁ b₁ d₁ : List ℕ) where
   pub under-none : body k t s ≡ none → Under k n m t s a b d a₁ b₁ d₁ 5
-  under-none e = record { stopped = λ kind p q r h. rw e; all = λ kind p q r h. absurd (let q : _≡_ {A = ℕ} 5 0 = h in omega arith) }
+  under-none e = record { stopped = λ shape h. rw e; all = λ shape h. absurd (let q : _≡_ {A = ℕ} 5 0 = h in omega arith) }
 
   module _ (w z : Bool) (la lb lr e : ℕ) (l : Told n m k t s a b d a₁ b₁ d₁ w z) (ha : la ≡ length a) (hb : lb ≡ length b) (hd : lr ≡ length d)
       (h : e ≡ number w z (ltb mostProducts k) (ltb la k || (ltb lb k || ltb lr t))) where
     by : e ≡ number w z (ltb mostProducts k) (ltb (length a) k || (ltb (length b) k || ltb (length d) t))
     by = rw (← ha, ← hb, ← hd) h
 
-    judges : (kind : Kind) (p q r : ℕ) → under kind p q r k n m t (length a) (length b) (length d) s ≡ follow (passed kind p q r n m k (l .xs) (l .ys) (l .zs)) (heldIn (length a) (length b) (length d))
-    judges kind p q r = rw (l .is)
+    judges : (shape : Shape) → under shape k n m t (length a) (length b) (length d) s ≡ follow (passed shape n m k (l .xs) (l .ys) (l .zs)) (heldIn (length a) (length b) (length d))
+    judges shape = rw (l .is)
 
     pub under-told : Under k n m t s a b d a₁ b₁ d₁ e
     under-told = record {
-      stopped = λ kind p q r x. judges kind p q r
-          ∙ judged-not kind p q r k n m t (length a) (length b) (length d) (l .xs) (l .ys) (l .zs) w z (l .toowide) (l .haszero) (l .xlong) (l .ylong) (l .zlong) e by x;
-      all = λ kind p q r x.
-          let g = judged-is kind p q r k n m t (length a) (length b) (length d) (l .xs) (l .ys) (l .zs) w z (l .toowide) (l .haszero) (l .xlong) (l .ylong) (l .zlong) e by x in
+      stopped = λ shape x. judges shape
+          ∙ judged-not shape k n m t (length a) (length b) (length d) (l .xs) (l .ys) (l .zs) w z (l .toowide) (l .haszero) (l .xlong) (l .ylong) (l .zlong) e by x;
+      all = λ shape x.
+          let g = judged-is shape k n m t (length a) (length b) (length d) (l .xs) (l .ys) (l .zs) w z (l .toowide) (l .haszero) (l .xlong) (l .ylong) (l .zlong) e by x in
           let f = room k t (length a) (length b) (length d) (g .1) in
-          let L = left-formula (under kind p q r k n m t (length a) (length b) (length d) s) (formulaOf kind p q r n m (l .xs) (l .ys) (l .zs)) a b d a₁ b₁ d₁
-          (judges kind p q r ∙ g .0)
+          let L = left-formula (under shape k n m t (length a) (length b) (length d) s) (formulaOf shape n m (l .xs) (l .ys) (l .zs)) a b d a₁ b₁ d₁
+          (judges shape ∙ g .0)
           (l .first ∙ filled-sets (l .xs) a k (l .xlong) (f .0)) (l .second ∙ filled-sets (l .ys) b k (l .ylong) (f .1)) (l .third ∙ filled-sets (l .zs) d t (l .zlong) (f .2)) in
-          (ap (read.Formula kind p q r) (sym (l .xlong)) ∙ L .0, L .1);
+          (ap (read.Formula shape) (sym (l .xlong)) ∙ L .0, L .1);
     }
 
 -- the same of the part of s from u on
@@ -165,10 +166,10 @@ pub final-refused : (o : Answer Admitted) (e : ℕ) (r : Read) (a b d a₁ b₁ 
 final-refused (refused x) e r a b d a₁ b₁ d₁ h g ha hb hd = (sym g ∙ h, ha, hb, hd)
 final-refused (accepted f) e r a b d a₁ b₁ d₁ h g ha hb hd = absurd (let q : _≡_ {A = ℕ} 0 1 = cc in omega arith)
 
-pub final-formula : (o : Answer Admitted) (kind : Kind) (p q r′ k : ℕ) (r : Read) (a b d a₁ b₁ d₁ : List ℕ) → r ≡ formulaReply o → r ≡ read.Formula kind p q r′ k → Left o a b d a₁ b₁ d₁
-    → (read.Formula kind p q r′ k ≡ formulaReply o) × (a₁ ≡ firstOf o a) × (b₁ ≡ secondOf o b) × (d₁ ≡ rowsLent o d)
-final-formula (refused x) kind p q r′ k r a b d a₁ b₁ d₁ h g l = absurd (let q : _≡_ {A = ℕ} 0 1 = cc in omega arith)
-final-formula (accepted f) kind p q r′ k r a b d a₁ b₁ d₁ h g l = (sym g ∙ h, l .0, l .1, l .2)
+pub final-formula : (o : Answer Admitted) (shape : Shape) (k : ℕ) (r : Read) (a b d a₁ b₁ d₁ : List ℕ) → r ≡ formulaReply o → r ≡ read.Formula shape k → Left o a b d a₁ b₁ d₁
+    → (read.Formula shape k ≡ formulaReply o) × (a₁ ≡ firstOf o a) × (b₁ ≡ secondOf o b) × (d₁ ≡ rowsLent o d)
+final-formula (refused x) shape k r a b d a₁ b₁ d₁ h g l = absurd (let q : _≡_ {A = ℕ} 0 1 = cc in omega arith)
+final-formula (accepted f) shape k r a b d a₁ b₁ d₁ h g l = (sym g ∙ h, l .0, l .1, l .2)
 
 pub head-fit : (x : HeadRead) (kind : Known) (p q r k u n : ℕ) → bytesHead x ≤ n → x ≡ hd.Is kind p q r k u → u ≤ n
 head-fit x kind p q r k u n e h = rw h at e

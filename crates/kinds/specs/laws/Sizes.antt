@@ -1,5 +1,8 @@
 -- What sizes that fit are like.
 --   sizes-bounds   n, m and the outputs are at least 1; n × m and the outputs are at most 64
+--   list-bits      a list's n is its p
+--   list-outputs   a list has as many outputs as targets
+--   map-few        p, q and r are at most 64, but for list
 -- Assumes nothing.
 use mathlib.Core.Path.{_≡_, refl, sym, ap, ap₂, _∙_, subst}
 use mathlib.Core.Bool.{Bool, true, false, not, _&&_, true≢false, false≢true, and-eq-true-iff}
@@ -10,9 +13,11 @@ use native.Mathlib.Omega.{arith}
 use native.Mathlib.Decide.{decLe}
 use lib.Dec.{leb, eqb}
 use borrow.Author.Tests.{leb-true, le-leb, lt-leb, eqb-true, eq-eqb}
-use Rattle.kinds.specs.Sizes.{given, within, polySizes, squareSizes, matSizes, listSizes, sizes}
+use Rattle.kinds.specs.Kinds.{isList}
+use Rattle.kinds.specs.Sizes.{given, within, polySizes, squareSizes, matSizes, listSizes, sizesFor, sizes}
 use Rattle.kinds.specs.declared.Kind.{Kind}
 use Rattle.kinds.specs.declared.Kind.the-variants as kind
+use Rattle.kinds.specs.declared.Shape.{Shape}
 
 -- ---- tests
 pub both : (a b : Bool) → a && b ≡ true → (a ≡ true) × (b ≡ true)
@@ -184,9 +189,57 @@ list-bounds p q r z e =
     let R : Within r 1 = within-yes r 1 (t .1) in
     subst Bounded (g .1) (record { fits = within-yes p 1 (t .0); some-output = R .first; most-outputs = R .first-most })
 
-pub sizes-bounds : (k : Kind) (p q r : ℕ) (z : ℕ × ℕ × ℕ) → sizes k p q r ≡ some z → Bounds (z .0) (z .1) (z .2)
-sizes-bounds kind.Poly p q r z e = poly-bounds p q r z e
-sizes-bounds kind.Short p q r z e = square-bounds p q r z e
-sizes-bounds kind.Circ p q r z e = square-bounds p q r z e
-sizes-bounds kind.Mat p q r z e = mat-bounds p q r z e
-sizes-bounds kind.List p q r z e = list-bounds p q r z e
+each-bounds : (k : Kind) (p q r : ℕ) (z : ℕ × ℕ × ℕ) → sizesFor k p q r ≡ some z → Bounded z
+each-bounds kind.Poly p q r z e = poly-bounds p q r z e
+each-bounds kind.Short p q r z e = square-bounds p q r z e
+each-bounds kind.Circ p q r z e = square-bounds p q r z e
+each-bounds kind.Mat p q r z e = mat-bounds p q r z e
+each-bounds kind.List p q r z e = list-bounds p q r z e
+
+pub sizes-bounds : (shape : Shape) (z : ℕ × ℕ × ℕ) → sizes shape ≡ some z → Bounds (z .0) (z .1) (z .2)
+sizes-bounds shape z e = each-bounds (shape .kind) (shape .p) (shape .q) (shape .r) z e
+
+-- of a list n is p, and the outputs are its r targets
+each-list : (k : Kind) (p q r : ℕ) (z : ℕ × ℕ × ℕ) → isList k ≡ true → sizesFor k p q r ≡ some z → (p, 1, r) ≡ z
+unfolding listSizes
+each-list kind.Poly p q r z k e = absurd (false≢true k)
+each-list kind.Short p q r z k e = absurd (false≢true k)
+each-list kind.Circ p q r z k e = absurd (false≢true k)
+each-list kind.Mat p q r z k e = absurd (false≢true k)
+each-list kind.List p q r z k e = given-some (leb 1 q && (within p 1 && within r 1)) (p, 1, r) z e .1
+
+pub list-bits : (shape : Shape) (z : ℕ × ℕ × ℕ) → isList (shape .kind) ≡ true → sizes shape ≡ some z → shape .p ≡ z .0
+list-bits shape z k e = ap (λ (x : ℕ × ℕ × ℕ). x .0) (each-list (shape .kind) (shape .p) (shape .q) (shape .r) z k e)
+
+pub list-outputs : (shape : Shape) (z : ℕ × ℕ × ℕ) → isList (shape .kind) ≡ true → sizes shape ≡ some z → shape .r ≡ z .2
+list-outputs shape z k e = ap (λ (x : ℕ × ℕ × ℕ). x .2) (each-list (shape .kind) (shape .p) (shape .q) (shape .r) z k e)
+
+-- ---- p, q and r of a map
+pub record FewSizes (p q r : ℕ) : Type 0 where
+  pub first : p ≤ 64
+  pub second : q ≤ 64
+  pub third : r ≤ 64
+
+few-within : (p q r : ℕ) → within p q ≡ true → r ≡ 0 → FewSizes p q r
+few-within p q r e z = let W = within-yes p q e in record { first = W .first-most; second = W .second-most; third = omega arith }
+
+square-few : (p q r : ℕ) (z : ℕ × ℕ × ℕ) → squareSizes p q r ≡ some z → FewSizes p q r
+unfolding squareSizes
+square-few p q r z e =
+    let g = both (eqb r 0) (eqb p q && within p q) (given-some (eqb r 0 && (eqb p q && within p q)) (p, q, p) z e .0) in
+    few-within p q r (both (eqb p q) (within p q) (g .1) .1) (eqb-true r 0 (g .0))
+
+each-few : (k : Kind) (p q r : ℕ) (z : ℕ × ℕ × ℕ) → isList k ≡ false → sizesFor k p q r ≡ some z → FewSizes p q r
+unfolding polySizes matSizes
+each-few kind.Poly p q r z k e =
+    let g = both (eqb r 0) (within p q) (given-some (eqb r 0 && within p q) (p, q, p + q - 1) z e .0) in
+    few-within p q r (g .1) (eqb-true r 0 (g .0))
+each-few kind.Short p q r z k e = square-few p q r z e
+each-few kind.Circ p q r z k e = square-few p q r z e
+each-few kind.Mat p q r z k e =
+    let M : MatWithin p q r = mat-within p q r (given-some (within (p * q) (q * r)) (p * q, q * r, p * r) z e .0) in
+    record { first = M .left .first-most; second = M .left .second-most; third = M .right .second-most }
+each-few kind.List p q r z k e = absurd (true≢false k)
+
+pub map-few : (shape : Shape) (z : ℕ × ℕ × ℕ) → isList (shape .kind) ≡ false → sizes shape ≡ some z → FewSizes (shape .p) (shape .q) (shape .r)
+map-few shape z k e = each-few (shape .kind) (shape .p) (shape .q) (shape .r) z k e

@@ -2,7 +2,7 @@
 use mathlib.Core.Path.{sym, ap, _∙_}
 use borrow.Author.Needs.{needs}
 use Rattle.kinds.specs.declared.Kind.{Kind}
-use Rattle.maps.specs.Target.{pair}
+use Rattle.maps.specs.Target.{pairFor}
 use Rattle.maps.proofs.Pairing.{row-off, inner-off, rest-left}
 use Rattle.maps.proofs.is_pair.Statement.{statement}
 use Rattle.maps.proofs.is_pair.Tie as tie
@@ -11,62 +11,77 @@ enum-told : tie.Need-enum-told
 enum-told c = search needs
 
 rem-result : tie.Need-rem-result
-rem-result c = c .before .before .pre .circle (c .enum-told3 .given .1)
+rem-result c = c .before .before .before .pre .circle (c .before .enum-told3 .given .1)
 
 div-if1 : tie.Need-div-if1
-div-if1 c = c .before .before .pre .inner (c .enum-told4 .given .1)
+div-if1 c = c .before .before .before .pre .inner (c .before .enum-told4 .given .1)
 
 div-if1-2 : tie.Need-div-if1-2
-div-if1-2 c = c .before .before .pre .columns (c .enum-told4 .given .1)
+div-if1-2 c = c .before .before .before .before .pre .columns (c .before .before .enum-told4 .given .1)
 
 returns : tie.Need-returns
 returns c =
-    let a = c .before .before .before .args in
+    let a = c .before .before .before .before .before .args in
     sym
-    (ap (λ (k : Kind). pair k (a .p) (a .q) (a .r) (a .t) (a .i) (a .j)) (c .before .enum-told4 .given .1)
-    ∙ row-off (a .p) (a .q) (a .r) (a .t) (a .i) (a .j) (c .if1 .taken))
+    (ap (λ (k : Kind). pairFor k (a .shape .p) (a .shape .q) (a .shape .r) (a .t) (a .i) (a .j)) (c .before .before .before .enum-told4 .given .1)
+    ∙ row-off (a .shape .p) (a .shape .q) (a .shape .r) (a .t) (a .i) (a .j) (c .if1 .taken))
 
 rem-if2 : tie.Need-rem-if2
-rem-if2 c = c .before .before .before .pre .inner (c .before .enum-told4 .given .1)
+rem-if2 c = c .before .before .before .before .before .before .pre .inner (c .before .before .before .before .enum-told4 .given .1)
 
 div-if2 : tie.Need-div-if2
-div-if2 c = c .before .before .before .pre .columns (c .before .enum-told4 .given .1)
+div-if2 c = c .before .before .before .before .before .before .before .pre .columns (c .before .before .before .before .before .enum-told4 .given .1)
 
 returns-2 : tie.Need-returns-2
 returns-2 c =
-    let a = c .before .before .before .before .args in
+    let a = c .before .before .before .before .before .before .before .before .args in
+    let told = c .before .before .before .before .before .before .enum-told4 in
     sym
-    (ap (λ (k : Kind). pair k (a .p) (a .q) (a .r) (a .t) (a .i) (a .j)) (c .before .before .enum-told4 .given .1)
-    ∙ inner-off (a .p) (a .q) (a .r) (a .t) (a .i) (a .j) (c .if2 .taken))
+    (ap (λ (k : Kind). pairFor k (a .shape .p) (a .shape .q) (a .shape .r) (a .t) (a .i) (a .j)) (told .given .1)
+    ∙ inner-off (a .shape .p) (a .shape .q) (a .shape .r) (a .t) (a .i) (a .j) (c .if2 .taken))
 
 rem-result-2 : tie.Need-rem-result-2
-rem-result-2 c = c .before .before .before .before .pre .columns (c .before .before .enum-told4 .given .1)
+rem-result-2 c =
+    let told = c .before .before .before .before .before .before .before .enum-told4 in
+    c .before .before .before .before .before .before .before .before .before .pre .columns (told .given .1)
 
 rem-result-3 : tie.Need-rem-result-3
-rem-result-3 c = c .before .before .before .before .pre .columns (c .before .before .enum-told4 .given .1)
+rem-result-3 c =
+    let told = c .before .before .before .before .before .before .before .before .enum-told4 in
+    c .before .before .before .before .before .before .before .before .before .before .pre .columns (told .given .1)
 
 returns-3 : tie.Need-returns-3
-unfolding pair
-returns-3 c = let a = c .before .before .args in sym (ap (λ (k : Kind). pair k (a .p) (a .q) (a .r) (a .t) (a .i) (a .j)) (c .enum-told .given .1))
+unfolding pairFor
+returns-3 c =
+    let a = c .before .before .args in
+    sym (ap (λ (k : Kind). pairFor k (a .shape .p) (a .shape .q) (a .shape .r) (a .t) (a .i) (a .j)) (c .enum-told .given .1))
 
 returns-4 : tie.Need-returns-4
-unfolding pair
-returns-4 c = let a = c .before .before .args in sym (ap (λ (k : Kind). pair k (a .p) (a .q) (a .r) (a .t) (a .i) (a .j)) (c .enum-told2 .given .1))
+unfolding pairFor
+returns-4 c =
+    let a = c .before .before .args in
+    sym (ap (λ (k : Kind). pairFor k (a .shape .p) (a .shape .q) (a .shape .r) (a .t) (a .i) (a .j)) (c .enum-told2 .given .1))
 
 returns-5 : tie.Need-returns-5
-unfolding pair
-returns-5 c = let a = c .before .before .args in sym (ap (λ (k : Kind). pair k (a .p) (a .q) (a .r) (a .t) (a .i) (a .j)) (c .enum-told3 .given .1))
+unfolding pairFor
+returns-5 c =
+    let a = c .before .before .before .args in
+    sym (ap (λ (k : Kind). pairFor k (a .shape .p) (a .shape .q) (a .shape .r) (a .t) (a .i) (a .j)) (c .before .enum-told3 .given .1))
 
 returns-6 : tie.Need-returns-6
 returns-6 c =
-    let a = c .before .before .before .before .args in
+    let a = c .before .before .before .before .before .before .before .before .before .before .args in
+    let told = c .before .before .before .before .before .before .before .before .enum-told4 in
+    let if1 = c .before .before .before .before .before .if1 in
     sym
-    (ap (λ (k : Kind). pair k (a .p) (a .q) (a .r) (a .t) (a .i) (a .j)) (c .before .before .enum-told4 .given .1)
-    ∙ rest-left (a .p) (a .q) (a .r) (a .t) (a .i) (a .j) (c .before .if1 .left) (c .if2 .left))
+    (ap (λ (k : Kind). pairFor k (a .shape .p) (a .shape .q) (a .shape .r) (a .t) (a .i) (a .j)) (told .given .1)
+    ∙ rest-left (a .shape .p) (a .shape .q) (a .shape .r) (a .t) (a .i) (a .j) (if1 .left) (c .before .before .if2 .left))
 
 returns-7 : tie.Need-returns-7
-unfolding pair
-returns-7 c = let a = c .before .before .args in sym (ap (λ (k : Kind). pair k (a .p) (a .q) (a .r) (a .t) (a .i) (a .j)) (c .enum-told5 .given .1))
+unfolding pairFor
+returns-7 c =
+    let a = c .before .before .args in
+    sym (ap (λ (k : Kind). pairFor k (a .shape .p) (a .shape .q) (a .shape .r) (a .t) (a .i) (a .j)) (c .enum-told5 .given .1))
 
 pub is-pair-spec : {M : Type 1} → statement M
 is-pair-spec =

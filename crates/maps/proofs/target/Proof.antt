@@ -10,14 +10,15 @@ enum-told c = search needs
 
 square-requires : tie.Need-square-requires
 square-requires c κs =
-    let a = c .before .before .before .args in
-    accepted-in-table (a .kind) (a .p) (a .q) (a .r) (a .n) (a .m) (a .t) (c .before .before .before .pre) (c .before .enum-told .given .1) (c .if1 .taken)
+    let a = c .before .before .before .before .args in
+    accepted-in-table (a .shape) (a .n) (a .m) (a .t) (c .before .before .before .before .pre) (c .before .before .enum-told .given .1) (c .if1 .taken)
 
 returns : tie.Need-returns
 returns c =
-    let a = c .before .before .before .before .args in
+    let a = c .before .before .before .before .before .args in
+    let pre = c .before .before .before .before .before .pre in
     c .square .ensures
-    ∙ sym (accepted-square (a .kind) (a .p) (a .q) (a .r) (a .n) (a .m) (a .t) (c .before .before .before .before .pre) (c .before .before .enum-told .given .1) (c .before .if1 .taken))
+    ∙ sym (accepted-square (a .shape) (a .n) (a .m) (a .t) pre (c .before .before .before .enum-told .given .1) (c .before .if1 .taken))
 
 pub target-spec : {M : Type 1} → statement M
 target-spec =

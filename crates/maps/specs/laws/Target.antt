@@ -3,7 +3,7 @@
 -- Assumes nothing.
 use mathlib.Core.Path.{_≡_, refl, sym, ap, ap₂, _∙_}
 use mathlib.Core.Logic.{_≢_}
-use mathlib.Core.Bool.{Bool, true, false, _&&_}
+use mathlib.Core.Bool.{Bool, true, false, _&&_, true≢false}
 use mathlib.Core.Option.{some}
 use Prim.Native.Nat.{ℕ, _+_, _-_, _*_, _/_, _%_, _^_, _<_, _≤_}
 use native.Mathlib.Nat.{div-add-mod', div-lt-iff-lt-mul, mod-lt}
@@ -12,31 +12,33 @@ use lib.Arith.{digits-lt, digits-div, digits-mod}
 use lib.Dec.{eqb}
 use borrow.Author.Tests.{eqb-true, eq-eqb, ne-eqb}
 use Rattle.linear.specs.Bit.{bit}
+use Rattle.kinds.specs.Kinds.{isList}
 use Rattle.kinds.specs.declared.Kind.{Kind}
 use Rattle.kinds.specs.declared.Kind.the-variants as kind
-use Rattle.kinds.specs.Sizes.{sizes, within, polySizes, squareSizes, matSizes}
+use Rattle.kinds.specs.declared.Shape.{Shape}
+use Rattle.kinds.specs.Sizes.{shapeOf, sizesFor, sizes, within, polySizes, squareSizes, matSizes}
 use Rattle.kinds.specs.laws.Sizes.{given-some, MatWithin, mat-within}
 use Rattle.forms.specs.products.laws.Product.{bit-formOf, formOf-below}
-use Rattle.maps.specs.Textbook.{sumTo, output}
-use Rattle.maps.specs.Target.{value, pair, targetForm}
+use Rattle.maps.specs.Textbook.{sumTo, outputFor, output}
+use Rattle.maps.specs.Target.{value, pairFor, pair, targetForm}
 use Rattle.maps.specs.laws.Sum.{sum-same, sum-one, sum-times, sum-blocks}
 use Rattle.maps.specs.laws.Value.{sumOver, value-same}
 
-pub target-below : (k : Kind) (p q r n m t : ℕ) → targetForm k p q r n m t < 2 ^ (n * m)
+pub target-below : (shape : Shape) (n m t : ℕ) → targetForm shape n m t < 2 ^ (n * m)
 unfolding targetForm
-target-below k p q r n m t = formOf-below (n * m) (λ s. pair k p q r t (s / m) (s % m))
+target-below shape n m t = formOf-below (n * m) (λ s. pair shape t (s / m) (s % m))
 
 -- a coordinate of a target form tells whether a_i b_j is a term
-pub target-coordinate : (k : Kind) (p q r n m t i j : ℕ) → i < n → j < m → bit (targetForm k p q r n m t) (i * m + j) ≡ pair k p q r t i j
+pub target-coordinate : (shape : Shape) (n m t i j : ℕ) → i < n → j < m → bit (targetForm shape n m t) (i * m + j) ≡ pair shape t i j
 unfolding targetForm
-target-coordinate k p q r n m t i j a b =
-    bit-formOf (n * m) (λ s. pair k p q r t (s / m) (s % m)) (i * m + j) (digits-lt a b)
-    ∙ ap₂ (λ (x y : ℕ). pair k p q r t x y) (digits-div i b) (digits-mod i b)
+target-coordinate shape n m t i j a b =
+    bit-formOf (n * m) (λ s. pair shape t (s / m) (s % m)) (i * m + j) (digits-lt a b)
+    ∙ ap₂ (λ (x y : ℕ). pair shape t x y) (digits-div i b) (digits-mod i b)
 
 -- the value of a target form is the sum of its terms
-pub target-sum : (k : Kind) (p q r n m t : ℕ) (a b : ℕ → Bool)
-    → value n m (targetForm k p q r n m t) a b ≡ sumOver n m (pair k p q r t) a b
-target-sum k p q r n m t a b = value-same n m (targetForm k p q r n m t) (pair k p q r t) a b (target-coordinate k p q r n m t)
+pub target-sum : (shape : Shape) (n m t : ℕ) (a b : ℕ → Bool)
+    → value n m (targetForm shape n m t) a b ≡ sumOver n m (pair shape t) a b
+target-sum shape n m t a b = value-same n m (targetForm shape n m t) (pair shape t) a b (target-coordinate shape n m t)
 
 -- ---- the double sum of a matrix product
 module _ (p q r t : ℕ) (a b : ℕ → Bool) (Q : 1 ≤ q) (R : 1 ≤ r) (h : t < p * r) where
@@ -91,8 +93,8 @@ module _ (p q r t : ℕ) (a b : ℕ → Bool) (Q : 1 ≤ q) (R : 1 ≤ r) (h : t
       (λ z l. ap₂ (λ (u v : ℕ). sumTo (q * r) (λ j. test u v j && (a (x * q + z) && b j))) (digits-div x l) (digits-mod x l) ∙ of-one x z l)
       ∙ sum-times q (eqb x (t / r)) (entry x)
 
-  pub matrix-sum : sumOver (p * q) (q * r) (pair kind.Mat p q r t) a b ≡ output kind.Mat p q r a b t
-  unfolding pair output
+  pub matrix-sum : sumOver (p * q) (q * r) (pairFor kind.Mat p q r t) a b ≡ outputFor kind.Mat p q r a b t
+  unfolding pairFor outputFor
   matrix-sum =
       sum-blocks p q of ∙ sum-same p (λ x. sumTo q (λ z. of (x * q + z))) (λ x. eqb x (t / r) && sumTo q (entry x)) (λ x l. of-row x)
       ∙ sum-one p (λ x. eqb x (t / r) && sumTo q (entry x)) (t / r) row (λ x l n. ap (λ (u : Bool). u && sumTo q (entry x)) (ne-eqb x (t / r) n))
@@ -103,23 +105,27 @@ resized : (c : ℕ → ℕ → Bool) (a b : ℕ → Bool) (x y w n m u : ℕ) �
 resized c a b x y w n m u e =
     ap₂ (λ (x y : ℕ). sumOver x y c a b) (sym (ap (λ (z : ℕ × ℕ × ℕ). z .0) e)) (sym (ap (λ (z : ℕ × ℕ × ℕ). z .1) e))
 
-pub target-value : (k : Kind) (p q r n m u : ℕ) → sizes k p q r ≡ some (n, m, u) → (t : ℕ) → t < u → k ≢ kind.List → (a b : ℕ → Bool)
-    → value n m (targetForm k p q r n m t) a b ≡ output k p q r a b t
-unfolding polySizes squareSizes matSizes pair output
-target-value kind.Poly p q r n m u e t l d a b =
+each-value : (k : Kind) (p q r n m u : ℕ) → sizesFor k p q r ≡ some (n, m, u) → (t : ℕ) → t < u → isList k ≡ false → (a b : ℕ → Bool)
+    → value n m (targetForm (shapeOf k p q r) n m t) a b ≡ outputFor k p q r a b t
+unfolding polySizes squareSizes matSizes pairFor outputFor
+each-value kind.Poly p q r n m u e t l d a b =
     let g = given-some (eqb r 0 && within p q) (p, q, p + q - 1) (n, m, u) e in
-    target-sum kind.Poly p q r n m t a b ∙ resized (pair kind.Poly p q r t) a b p q (p + q - 1) n m u (g .1)
-target-value kind.Short p q r n m u e t l d a b =
+    target-sum (shapeOf kind.Poly p q r) n m t a b ∙ resized (pairFor kind.Poly p q r t) a b p q (p + q - 1) n m u (g .1)
+each-value kind.Short p q r n m u e t l d a b =
     let g = given-some (eqb r 0 && (eqb p q && within p q)) (p, q, p) (n, m, u) e in
-    target-sum kind.Short p q r n m t a b ∙ resized (pair kind.Short p q r t) a b p q p n m u (g .1)
-target-value kind.Circ p q r n m u e t l d a b =
+    target-sum (shapeOf kind.Short p q r) n m t a b ∙ resized (pairFor kind.Short p q r t) a b p q p n m u (g .1)
+each-value kind.Circ p q r n m u e t l d a b =
     let g = given-some (eqb r 0 && (eqb p q && within p q)) (p, q, p) (n, m, u) e in
-    target-sum kind.Circ p q r n m t a b ∙ resized (pair kind.Circ p q r t) a b p q p n m u (g .1)
-target-value kind.Mat p q r n m u e t l d a b =
+    target-sum (shapeOf kind.Circ p q r) n m t a b ∙ resized (pairFor kind.Circ p q r t) a b p q p n m u (g .1)
+each-value kind.Mat p q r n m u e t l d a b =
     let g = given-some (within (p * q) (q * r)) (p * q, q * r, p * r) (n, m, u) e in
     let M : MatWithin p q r = mat-within p q r (g .0) in
     let f : p * r ≡ u = ap (λ (z : ℕ × ℕ × ℕ). z .2) (g .1) in
-    target-sum kind.Mat p q r n m t a b
-    ∙ resized (pair kind.Mat p q r t) a b (p * q) (q * r) (p * r) n m u (g .1)
+    target-sum (shapeOf kind.Mat p q r) n m t a b
+    ∙ resized (pairFor kind.Mat p q r t) a b (p * q) (q * r) (p * r) n m u (g .1)
     ∙ matrix-sum p q r t a b (M .left .second) (M .right .second) (omega arith)
-target-value kind.List p q r n m u e t l d a b = absurd (d refl)
+each-value kind.List p q r n m u e t l d a b = absurd (true≢false d)
+
+pub target-value : (shape : Shape) (n m u : ℕ) → sizes shape ≡ some (n, m, u) → (t : ℕ) → t < u → isList (shape .kind) ≡ false → (a b : ℕ → Bool)
+    → value n m (targetForm shape n m t) a b ≡ output shape a b t
+target-value shape n m u e t l d a b = each-value (shape .kind) (shape .p) (shape .q) (shape .r) n m u e t l d a b

@@ -1,10 +1,10 @@
 -- The fields of a line.
---   fieldText n            == a comma and the number n
---   sizesText kind p q r k == the kind and the four counts of a problem or formula
+--   fieldText n       == a comma and the number n
+--   sizesText shape k == the kind and the four counts of a problem or formula
 -- Document 01: "as `poly,2,2,0,3,right,-,4`". Assumes nothing.
 use Prim.Native.Nat.{ℕ}
 use mathlib.Core.List.{List, _∷_, _++_}
-use Rattle.kinds.specs.declared.Kind.{Kind}
+use Rattle.kinds.specs.declared.Shape.{Shape}
 use Rattle.kinds.specs.Kinds.{nameOf}
 use Rattle.text.specs.Line.{comma}
 use Rattle.printing.specs.Print.{numberText}
@@ -13,5 +13,5 @@ use Rattle.printing.specs.Print.{numberText}
 abbrev pub fieldText : ℕ → List ℕ
 fieldText n = comma ∷ numberText n
 
-unfoldable pub sizesText : Kind → ℕ → ℕ → ℕ → ℕ → List ℕ
-sizesText kind p q r k = nameOf kind ++ fieldText p ++ fieldText q ++ fieldText r ++ fieldText k
+unfoldable pub sizesText : Shape → ℕ → List ℕ
+sizesText shape k = nameOf (shape .kind) ++ fieldText (shape .p) ++ fieldText (shape .q) ++ fieldText (shape .r) ++ fieldText k

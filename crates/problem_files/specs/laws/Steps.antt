@@ -1,81 +1,47 @@
--- The whole of a problem's file, step by step.
---   forms-refused, forms-judged   refusals 4 to 9
---   file-1 .. file-is, file-read  refusals 1 to 9
+-- The reply to a file whose problem is posed, refusal by refusal.
+--   said-refused, said-8, said-9, said-is   what `settle` says
 -- Assumes nothing.
-use Prim.Native.Nat.{ℕ, zero, suc, _-_, _≤_}
-use mathlib.Core.Path.{_≡_, refl, ap, _∙_}
+use Prim.Native.Nat.{ℕ}
+use mathlib.Core.Path.{_≡_, refl, sym, ap, ap₂, _∙_}
 use mathlib.Core.List.{List}
-use mathlib.Core.Option.{none, some}
-use lib.ListN.{length, take, drop}
-use Rattle.kinds.specs.declared.Kind.{Kind}
-use Rattle.kinds.specs.Sizes.{sizes}
-use Rattle.kinds.specs.Refusal.{Answer, refused, accepted, follow}
-use Rattle.problems.specs.Replies.{refusedBy}
-use Rattle.text.specs.heads.Head.{Head, headLines}
-use Rattle.text.specs.laws.Line.{part}
-use Rattle.problem_files.specs.handed_forms.ProblemLines.{handed, bodyOf}
-use Rattle.problem_files.specs.handed_forms.laws.Lines.{body-few}
-use Rattle.problem_files.specs.judging.Judged.{ProblemFile, problemOf, problemJudged, seenProblem}
-use Rattle.problem_files.specs.judging.laws.Judging.{judged-is}
+use mathlib.Core.Bool.{Bool, true, false}
+use lib.ListN.{take}
+use Rattle.kinds.specs.declared.Shape.{Shape}
+use Rattle.kinds.specs.Refusal.{Answer, accepted, refuse, follow}
+use Rattle.problems.specs.Problem.{problem}
+use Rattle.problem_files.specs.handed_forms.ProblemLines.{handed}
+use Rattle.problem_files.specs.posing.Posing.{ProblemFile, problemOf}
+use Rattle.problem_files.specs.posing.Views.{seenPosing}
+use Rattle.problem_files.specs.judging.Judged.{beyond, short, settled}
+use Rattle.problem_files.specs.Lent.{problemReply, Settled}
 use Rattle.problem_files.specs.declared.judging.Purpose.{Purpose}
 use Rattle.problem_files.specs.declared.judging.ProblemRead.{ProblemRead}
 use Rattle.problem_files.specs.declared.judging.ProblemRead.the-variants as read
-use Rattle.problem_files.specs.ProblemFile.{formsRead, problemFile}
-use Rattle.problem_files.specs.Lent.{seenRead}
-use Rattle.kinds.specs.Limits.{mostGenerators}
+use Rattle.problem_files.specs.declared.posing.PosedRead.{PosedRead}
+use Rattle.problem_files.specs.declared.posing.PosedRead.the-variants as posed
 
--- ---- 4 to 9
-module _ (a : Purpose) (kd : Kind) (p q r k n m u v : ℕ) (s g t : List ℕ) (e : ℕ) (h : bodyOf kd q r n m s ≡ refusedBy e (take (handed kd q) g, take (handed kd r) t)) where
-  pub forms-refused : (e ≡ 0 → ⊥) → formsRead a kd p q r k n m u v s ≡ refused e
-  unfolding formsRead
-  forms-refused d = ap (λ (y : Answer (List ℕ × List ℕ)). follow y (λ f. problemJudged a kd p q r k u v (f .0) (f .1))) (h ∙ go e d)
-    where
-      go : (e : ℕ) → (e ≡ 0 → ⊥) → refusedBy {A = List ℕ × List ℕ} e (take (handed kd q) g, take (handed kd r) t) ≡ refused e
-      go zero d = absurd (d refl)
-      go (suc e) d = refl
+module _ (a : Purpose) (u v : ℕ) {x : PosedRead} (t : List ℕ) where
+  pub said-refused : {e : ℕ} → x ≡ posed.Refused e → Settled a u v x t (read.Refused e)
+  said-refused q = record { by = λ gs ts g. sym (ap (λ (y : PosedRead). problemReply (follow (seenPosing gs ts g t y) (settled a u v))) q) }
 
-  forms-taken : e ≡ 0 → bodyOf kd q r n m s ≡ accepted (take (handed kd q) g, take (handed kd r) t)
-  forms-taken z = h ∙ ap (λ (i : ℕ). refusedBy {A = List ℕ × List ℕ} i (take (handed kd q) g, take (handed kd r) t)) z
+  module _ {shape : Shape} {k c n : ℕ} {T : List ℕ} (q : x ≡ posed.Problem shape k c n) (l : T ≡ take n t) where
+    abbrev replied : Bool → Bool → ProblemFile → ProblemRead
+    replied b d F = problemReply (refuse 8 b (refuse 9 d (accepted F)))
 
-  pub forms-few : e ≡ 0 → handed kd q ≤ mostGenerators
-  forms-few z = body-few kd q r n m s (take (handed kd q) g, take (handed kd r) t) (forms-taken z)
+    said-as : (b d : Bool) → beyond a k T ≡ b → short shape u v ≡ d → (gs ts g : List ℕ)
+        → replied b d (problemOf shape k (take (handed (shape .kind) (shape .q)) gs) (take (handed (shape .kind) (shape .r)) ts) (problem (take c g) (take n t)))
+        ≡ problemReply (follow (seenPosing gs ts g t x) (settled a u v))
+    unfolding settled
+    said-as b d h i gs ts g =
+        ap₂ (λ (b d : Bool). replied b d (problemOf shape k (take (handed (shape .kind) (shape .q)) gs) (take (handed (shape .kind) (shape .r)) ts) (problem (take c g) (take n t))))
+        (sym h ∙ ap (beyond a k) l) (sym i)
+        ∙ sym (ap (λ (y : PosedRead). problemReply (follow (seenPosing gs ts g t y) (settled a u v))) q)
 
-  pub forms-judged : (x : ProblemRead) (c d : ℕ) → e ≡ 0 → c ≡ handed kd q → d ≡ handed kd r
-      → problemJudged a kd p q r k u v (take c g) (take d t) ≡ seenProblem (take c g) (take d t) x
-      → formsRead a kd p q r k n m u v s ≡ seenRead g t x
-  unfolding formsRead
-  forms-judged x c d z i l j =
-      ap (λ (y : Answer (List ℕ × List ℕ)). follow y (λ f. problemJudged a kd p q r k u v (f .0) (f .1))) (forms-taken z)
-      ∙ go x (rw (i, l) at j)
-    where
-      go : (x : ProblemRead) → problemJudged a kd p q r k u v (take (handed kd q) g) (take (handed kd r) t) ≡ seenProblem (take (handed kd q) g) (take (handed kd r) t) x
-          → problemJudged a kd p q r k u v (take (handed kd q) g) (take (handed kd r) t) ≡ seenRead g t x
-      go (read.Refused e) j = j
-      go (read.Problem kd′ p′ q′ r′ k′) j =
-          let d = judged-is a kd p q r k u v (take (handed kd q) g) (take (handed kd r) t) (problemOf kd′ p′ q′ r′ k′ (take (handed kd q) g) (take (handed kd r) t)) j .1 in
-          j ∙ ap (λ (P : ProblemFile). accepted (problemOf kd′ p′ q′ r′ k′ (take (handed (P .kind) (P .q)) g) (take (handed (P .kind) (P .r)) t))) d
+    pub said-8 : beyond a k T ≡ true → Settled a u v x t (read.Refused 8)
+    said-8 h = record { by = λ gs ts g. said-as true (short shape u v) h refl gs ts g }
 
--- ---- 1 to 9
-module _ (a : Purpose) (s : List ℕ) (u v : ℕ) where
-  pub file-1 : headLines s ≡ none → problemFile a s u v ≡ refused 1
-  unfolding problemFile
-  file-1 e = rw e
+    pub said-9 : beyond a k T ≡ false → short shape u v ≡ true → Settled a u v x t (read.Refused 9)
+    said-9 h i = record { by = λ gs ts g. said-as false true h i gs ts g }
 
-  pub file-2 : (h : Head) (t : List ℕ) → headLines s ≡ some (h, t) → h .kind ≡ none → problemFile a s u v ≡ refused 2
-  unfolding problemFile
-  file-2 h t e f = rw (e, f)
-
-  pub file-3 : (h : Head) (t : List ℕ) (kd : Kind) → headLines s ≡ some (h, t) → h .kind ≡ some kd → sizes kd (h .p) (h .q) (h .r) ≡ none → problemFile a s u v ≡ refused 3
-  unfolding problemFile
-  file-3 h t kd e f z = rw (e, f, z)
-
-  pub file-is : (h : Head) (t : List ℕ) (kd : Kind) (n m o : ℕ) → headLines s ≡ some (h, t) → h .kind ≡ some kd → sizes kd (h .p) (h .q) (h .r) ≡ some (n, m, o)
-      → problemFile a s u v ≡ formsRead a kd (h .p) (h .q) (h .r) (h .k) n m u v t
-  unfolding problemFile
-  file-is h t kd n m o e f z = rw (e, f, z)
-
-  -- the lines under the first two are read at the part of s from i on
-  pub file-read : (h : Head) (kd : Kind) (n m o i : ℕ) (g t : List ℕ) (x : ProblemRead) → headLines s ≡ some (h, drop i s) → h .kind ≡ some kd → sizes kd (h .p) (h .q) (h .r) ≡ some (n, m, o)
-      → formsRead a kd (h .p) (h .q) (h .r) (h .k) n m u v (take (length s - i) (drop i s)) ≡ seenRead g t x
-      → problemFile a s u v ≡ seenRead g t x
-  file-read h kd n m o i g t x e f z j = file-is h (drop i s) kd n m o e f z ∙ (rw (part s i) at j)
+    pub said-is : beyond a k T ≡ false → short shape u v ≡ false → Settled a u v x t (read.Problem shape k)
+    said-is h i = record { by = λ gs ts g. said-as false false h i gs ts g }

@@ -19,7 +19,7 @@ returns : tie.Need-returns
 returns c =
     let args = c .before .before .before .before .before .before .before .before .args in
     let a = args in
-    mapped-4-laid (a .kind) (a .p) (a .q) (a .r) (a .n) (a .m) (a .u) (a .gs .now) (a .ts .now) (a .others .now) (a .g .now) (a .t .now)
+    mapped-4-laid (a .shape) (a .n) (a .m) (a .u) (a .gs .now) (a .ts .now) (a .others .now) (a .g .now) (a .t .now)
     (c .before .before .generator-count .ensures ∙ ap seenCount (c .enum-told .given .1))
 
 mul-map-refusal : tie.Need-mul-map-refusal
@@ -27,7 +27,7 @@ mul-map-refusal c =
     let args = c .before .before .before .before .before .before .before .before .before .args in
     let pre = c .before .before .before .before .before .before .before .before .before .pre in
     let a = args in
-    record { fits = omega (arith, sizes-bounds (a .kind) (a .p) (a .q) (a .r) (a .n, a .m, a .u) (pre .1 .sized) .fits .product) }
+    record { fits = omega (arith, sizes-bounds (a .shape) (a .n, a .m, a .u) (pre .1 .sized) .fits .product) }
 
 returns-2 : tie.Need-returns-2
 returns-2 c =
@@ -35,7 +35,7 @@ returns-2 c =
     let generator-count = c .before .before .before .before .before .generator-count in
     let the-c = c .before .before .before .c in
     let a = args in
-    mapped-by-laid (a .kind) (a .p) (a .q) (a .r) (a .n) (a .m) (a .u) (a .gs .now) (a .ts .now) (a .others .now) (a .g .now) (a .t .now)
+    mapped-by-laid (a .shape) (a .n) (a .m) (a .u) (a .gs .now) (a .ts .now) (a .others .now) (a .g .now) (a .t .now)
     (the-c .given .0 .0) (c .before .map-refusal .result) (generator-count .ensures ∙ ap seenCount (the-c .given .1))
     (c .before .map-refusal .ensures) (c .if1 .taken)
 
@@ -62,7 +62,7 @@ returns-3 c =
     let if1 = c .before .before .before .before .before .before .before .before .if1 in
     let fill-generators = c .before .before .before .before .before .before .fill-generators in
     let a = args in
-    mapped-laid (a .kind) (a .p) (a .q) (a .r) (a .n) (a .m) (a .u) (a .gs .now) (a .ts .now) (a .others .now) _ _ (the-c .given .0 .0)
+    mapped-laid (a .shape) (a .n) (a .m) (a .u) (a .gs .now) (a .ts .now) (a .others .now) _ _ (the-c .given .0 .0)
     (map-refusal .result) (generator-count .ensures ∙ ap seenCount (the-c .given .1)) (map-refusal .ensures) (if1 .left) (pre .1 .sized)
     (fill-generators .ensures) (c .before .before .fill-targets .ensures)
 

@@ -15,7 +15,7 @@ use Rattle.kinds.specs.Kinds.{kindNumbered}
 use Rattle.kinds.specs.Sizes.{sizes, given}
 use Rattle.kinds.specs.laws.Sizes.{given-some}
 use Rattle.kinds.specs.Refusal.{Answer, refused, accepted, need, refuse}
-use Rattle.kinds.specs.declared.Kind.{Kind}
+use Rattle.kinds.specs.declared.Shape.{Shape}
 use Rattle.words.specs.Masks.{wide, zeroIn}
 use Rattle.words.specs.lists.Lists.{repeats, unlike, listRefusal, mapRefusal}
 use Rattle.maps.specs.Generators.{generatorForms, generatorCount, countOf}
@@ -52,17 +52,17 @@ pub by-none : {A : Type 0} (e : ℕ) (a : A) → e ≡ 0 → refusedBy e a ≡ a
 by-none zero a d = refl
 by-none (suc e) a d = absurd (omega arith)
 
-module _ (kd : Kind) (p q r n m u : ℕ) (gs ts others : List ℕ) where
-  pub mapped-4 : countOf n m ≡ none → mapped kd p q r n m u gs ts others ≡ refused 4
+module _ (shape : Shape) (n m u : ℕ) (gs ts others : List ℕ) where
+  pub mapped-4 : countOf n m ≡ none → mapped shape n m u gs ts others ≡ refused 4
   unfolding mapped
   mapped-4 e =
-      ap (λ (o : Option ℕ). need 4 o λ c. refuse 5 (unlike 0 0 gs ts) (refuse 6 (wide (n * m) others) (accepted (problem (generatorForms n m) (targetForms kd p q r n m u))))) e
+      ap (λ (o : Option ℕ). need 4 o λ c. refuse 5 (unlike 0 0 gs ts) (refuse 6 (wide (n * m) others) (accepted (problem (generatorForms n m) (targetForms shape n m u))))) e
 
   pub mapped-counted : (c : ℕ) → countOf n m ≡ some c
-      → mapped kd p q r n m u gs ts others ≡ refuse 5 (unlike 0 0 gs ts) (refuse 6 (wide (n * m) others) (accepted (problem (generatorForms n m) (targetForms kd p q r n m u))))
+      → mapped shape n m u gs ts others ≡ refuse 5 (unlike 0 0 gs ts) (refuse 6 (wide (n * m) others) (accepted (problem (generatorForms n m) (targetForms shape n m u))))
   unfolding mapped
   mapped-counted c e =
-      ap (λ (o : Option ℕ). need 4 o λ c. refuse 5 (unlike 0 0 gs ts) (refuse 6 (wide (n * m) others) (accepted (problem (generatorForms n m) (targetForms kd p q r n m u))))) e
+      ap (λ (o : Option ℕ). need 4 o λ c. refuse 5 (unlike 0 0 gs ts) (refuse 6 (wide (n * m) others) (accepted (problem (generatorForms n m) (targetForms shape n m u))))) e
 
 pub counted : (n m c : ℕ) → countOf n m ≡ some c → (generatorCount n m ≡ c) × (c ≤ mostGenerators)
 unfolding countOf

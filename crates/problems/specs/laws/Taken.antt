@@ -2,7 +2,8 @@
 --   ListTaken ..     == the list's forms have the right numbers and widths, and no generator is zero or stands twice
 --   MapTaken ..      == the map has at most 4,095 generators, no list was handed in, and the further forms have n × m bits
 --   listed-taken, mapped-taken   an accepted list or map is such, and is the problem that the definition says
---   posed-kind       an accepted problem has a kind and sizes
+--   shaped-inv       an accepted problem of a kind and sizes has sizes that fit
+--   posed-inv        an accepted problem has a kind
 -- Assumes nothing.
 use mathlib.Core.Path.{_≡_, sym}
 use mathlib.Core.Bool.{false, not, _||_}
@@ -14,14 +15,15 @@ use lib.ListN.{length}
 use lib.Dec.{eqb, ltb}
 use borrow.Author.Tests.{ltb-false, eqb-true, not-false}
 use Rattle.kinds.specs.Kinds.{kindNumbered}
-use Rattle.kinds.specs.Sizes.{sizes}
+use Rattle.kinds.specs.Sizes.{shapeOf, sizes}
 use Rattle.kinds.specs.Refusal.{Answer, accepted, need, refuse}
 use Rattle.kinds.specs.laws.Refusal.{accepted-inj, need-inv, refuse-inv, neither}
 use Rattle.kinds.specs.declared.Kind.{Kind}
+use Rattle.kinds.specs.declared.Shape.{Shape}
 use Rattle.words.specs.Masks.{wide, zeroIn}
 use Rattle.words.specs.lists.Lists.{repeats, unlike}
 use Rattle.maps.specs.Generators.{generatorForms, countOf}
-use Rattle.problems.specs.Problem.{Problem, problem, targetForms, listed, mapped, sorted, posed}
+use Rattle.problems.specs.Problem.{Problem, problem, targetForms, listed, mapped, sorted, shaped, posed}
 use Rattle.problems.specs.laws.Refusals.{counted}
 use Rattle.kinds.specs.Limits.{mostGenerators}
 use Rattle.problems.specs.Taken.{ListTaken, MapTaken}
@@ -56,11 +58,11 @@ listed-taken p q r gs ts others P e =
       no-repeat = z .1;
     }
 
-pub mapped-taken : (kd : Kind) (p q r n m u : ℕ) (gs ts others : List ℕ) (P : Problem) → mapped kd p q r n m u gs ts others ≡ accepted P
-    → MapTaken kd p q r n m u gs ts others P
+pub mapped-taken : (shape : Shape) (n m u : ℕ) (gs ts others : List ℕ) (P : Problem) → mapped shape n m u gs ts others ≡ accepted P
+    → MapTaken shape n m u gs ts others P
 unfolding mapped
-mapped-taken kd p q r n m u gs ts others P e =
-    let made : Problem = problem (generatorForms n m) (targetForms kd p q r n m u) in
+mapped-taken shape n m u gs ts others P e =
+    let made : Problem = problem (generatorForms n m) (targetForms shape n m u) in
     let six : Answer Problem = refuse 6 (wide (n * m) others) (accepted made) in
     let a = need-inv 4 (countOf n m) (λ c. refuse 5 (unlike 0 0 gs ts) six) P e in
     let b = refuse-inv 5 (unlike 0 0 gs ts) six P (a .2) in
@@ -75,19 +77,20 @@ mapped-taken kd p q r n m u gs ts others P e =
       others-fit = c .0;
     }
 
-pub record Kinded (number p q r : ℕ) (gs ts others : List ℕ) (P : Problem) : Type 0 where
-  pub kd : Kind
+pub record Kinded (shape : Shape) (gs ts others : List ℕ) (P : Problem) : Type 0 where
   pub n : ℕ
   pub m : ℕ
   pub u : ℕ
-  pub named : kindNumbered number ≡ some kd
-  pub sized : sizes kd p q r ≡ some (n, m, u)
-  pub rest : sorted kd p q r n m u gs ts others ≡ accepted P
+  pub sized : sizes shape ≡ some (n, m, u)
+  pub rest : sorted shape n m u gs ts others ≡ accepted P
 
-pub posed-kind : (number p q r : ℕ) (gs ts others : List ℕ) (P : Problem) → posed number p q r gs ts others ≡ accepted P → Kinded number p q r gs ts others P
+pub shaped-inv : (shape : Shape) (gs ts others : List ℕ) (P : Problem) → shaped shape gs ts others ≡ accepted P → Kinded shape gs ts others P
+unfolding shaped
+shaped-inv shape gs ts others P e =
+    let b = need-inv 3 (sizes shape) (λ z. sorted shape (z .0) (z .1) (z .2) gs ts others) P e in
+    record { n = b .0 .0; m = b .0 .1; u = b .0 .2; sized = b .1; rest = b .2 }
+
+pub posed-inv : (number p q r : ℕ) (gs ts others : List ℕ) (P : Problem) → posed number p q r gs ts others ≡ accepted P
+    → (kd : Kind) × (kindNumbered number ≡ some kd) × (shaped (shapeOf kd p q r) gs ts others ≡ accepted P)
 unfolding posed
-posed-kind number p q r gs ts others P e =
-    let after : Kind → ℕ × ℕ × ℕ → Answer Problem = λ kd z. sorted kd p q r (z .0) (z .1) (z .2) gs ts others in
-    let a = need-inv 2 (kindNumbered number) (λ kd. need 3 (sizes kd p q r) (after kd)) P e in
-    let b = need-inv 3 (sizes (a .0) p q r) (after (a .0)) P (a .2) in
-    record { kd = a .0; n = b .0 .0; m = b .0 .1; u = b .0 .2; named = a .1; sized = b .1; rest = b .2 }
+posed-inv number p q r gs ts others P e = need-inv 2 (kindNumbered number) (λ kd. shaped (shapeOf kd p q r) gs ts others) P e

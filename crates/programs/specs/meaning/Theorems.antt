@@ -9,10 +9,7 @@ use mathlib.Core.List.{List, [], _++_, List·Memᴰ}
 use native.Mathlib.Omega.{arith}
 use lib.ListN.{length, take, drop, getD}
 use lib.Seq.{length-take-le, getD-take}
-use lib.Dec.{ltb}
-use Rattle.kinds.specs.Kinds.{numberOf}
 use Rattle.kinds.specs.Refusal.{Answer, accepted, follow}
-use Rattle.kinds.specs.laws.Refusal.{refuse-inv}
 use Rattle.linear.specs.Basis.{dim}
 use Rattle.linear.specs.Entry.{space}
 use Rattle.linear.specs.Word.{word}
@@ -20,43 +17,39 @@ use Rattle.linear.specs.laws.Order.{mem-getD, mem-map}
 use Rattle.records.specs.Length.{recordLength}
 use Rattle.catalogue.specs.listing.laws.Run.{fitting-le}
 use Rattle.printing.specs.record_lines.RecordLines.{entryText, recordLines}
-use Rattle.problems.specs.Problem.{Problem, posed}
-use Rattle.problem_files.specs.judging.Judged.{ProblemFile}
-use Rattle.problem_files.specs.ProblemFile.{problemFile}
+use Rattle.problems.specs.Problem.{Problem, shaped}
+use Rattle.problem_files.specs.posing.Posing.{ProblemFile}
 use Rattle.problem_files.specs.declared.judging.Purpose.the-variants as purpose
 use Rattle.catalogue.specs.Catalogue.{Catalogued}
-use Rattle.rank.specs.Rank.{rank}
-use Rattle.theorems.specs.catalogue_and_rank.Theorems.{CatalogueMeans, catalogue-means, RankMeans, rank-means}
+use Rattle.theorems.specs.catalogue_and_rank.Theorems.{CatalogueMeans, catalogue-of-means, RankMeans, rank-of-means}
 use Rattle.rank.specs.fewest.Fewest.{Ranking}
 use Rattle.catalogue_text.specs.report.CatalogueReports.{entriesText, entryNames, countsText, catalogueText}
 use Rattle.printing.specs.refusals.Pages.{listingRoom, answerText}
 use Rattle.catalogue_text.specs.CatalogueAnswers.{catalogueAnswer, catalogueReply}
 use Rattle.rank_text.specs.RankAnswers.{rankAnswer, rankReply}
-use Rattle.problem_files.specs.inputs.Inputs.{inputFile, inputOf}
+use Rattle.problem_files.specs.inputs.Inputs.{inputOf}
 use Rattle.programs.specs.Programs.{replyTo, problemProgram, catalogueProgram, rankProgram}
 use Rattle.programs.specs.meaning.Lines.{linesOf}
 use Rattle.programs.specs.meaning.laws.Lines.{Stands, lines-are}
-use Rattle.programs.specs.meaning.laws.Answered.{file-posed, catalogue-accepted, rank-accepted}
-use Rattle.text.specs.Limits.{programWords, mostBytes}
+use Rattle.programs.specs.meaning.laws.Answered.{input-poses, catalogue-accepted, rank-accepted}
+use Rattle.text.specs.Limits.{programWords}
 
 pub record CatalogueAnswered (s : List ℕ) (P : ProblemFile) : Type 0 where
-  -- the problem's generators and targets, and the answer
-  pub x : Problem
-  pub posed-as : posed (numberOf (P .kind)) (P .p) (P .q) (P .r) (P .generators) (P .targets) [] ≡ accepted x
+  -- the forms handed in pose the problem; its answer
+  pub posed-as : shaped (P .shape) (P .generators) (P .targets) [] ≡ accepted (P .problem)
   pub said : Catalogued
-  pub means : CatalogueMeans (x .generators) (x .targets) (P .k) listingRoom said
-  pub prints : catalogueProgram s ≡ catalogueText (P .kind) (P .p) (P .q) (P .r) (P .k) (said .ell) (said .found) (said .shown) (said .buffer)
+  pub means : CatalogueMeans (P .problem .generators) (P .problem .targets) (P .k) listingRoom said
+  pub prints : catalogueProgram s ≡ catalogueText (P .shape) (P .k) (said .ell) (said .found) (said .shown) (said .buffer)
   -- line i under the names is entry i: its number, its extension and its basis
   pub lines : catalogueProgram s
-      ≡ countsText (P .kind) (P .p) (P .q) (P .r) (P .k) (said .ell) (said .found) (said .shown) ++ entryNames
-      ++ linesOf entryText (space word (x .generators) (x .targets)) 0 (take (said .shown) (means .extensions))
+      ≡ countsText (P .shape) (P .k) (said .ell) (said .found) (said .shown) ++ entryNames
+      ++ linesOf entryText (space word (P .problem .generators) (P .problem .targets)) 0 (take (said .shown) (means .extensions))
 
 pub record RankAnswered (s : List ℕ) (P : ProblemFile) : Type 0 where
-  pub x : Problem
-  pub posed-as : posed (numberOf (P .kind)) (P .p) (P .q) (P .r) (P .generators) (P .targets) [] ≡ accepted x
+  pub posed-as : shaped (P .shape) (P .generators) (P .targets) [] ≡ accepted (P .problem)
   pub said : Ranking
-  pub means : RankMeans (x .generators) (x .targets) listingRoom said
-  pub prints : rankProgram s ≡ rankAnswer (P .kind) (P .p) (P .q) (P .r) (P .k) (dim word (x .targets)) (length (x .targets)) (accepted said)
+  pub means : RankMeans (P .problem .generators) (P .problem .targets) listingRoom said
+  pub prints : rankProgram s ≡ rankAnswer (P .shape) (P .k) (dim word (P .problem .targets)) (length (P .problem .targets)) (accepted said)
 
 -- the lines of what a Catalogue's listing holds
 listing-lines : (gens targets : List ℕ) (k : ℕ) (old : List ℕ) (c : Catalogued) (M : CatalogueMeans gens targets k old c)
@@ -84,42 +77,36 @@ listing-lines gens targets k old c M =
         )
 
 pub catalogue-answered : (s : List ℕ) (P : ProblemFile) → inputOf purpose.Catalogue s ≡ accepted P → CatalogueAnswered s P
-unfolding inputFile problemProgram catalogueReply catalogueText
+unfolding problemProgram catalogueReply catalogueText
 catalogue-answered s P e =
-    let f = refuse-inv 1 (ltb mostBytes (length s)) (problemFile purpose.Catalogue s programWords programWords) P e .1 in
-    let g = file-posed purpose.Catalogue s programWords programWords P f in
-    let c = catalogue-accepted (numberOf (P .kind)) (P .p) (P .q) (P .r) (P .k) (P .generators) (P .targets) listingRoom (g .0) (g .1) (g .2) in
-    let m = catalogue-means (numberOf (P .kind)) (P .p) (P .q) (P .r) (P .k) (P .generators) (P .targets) listingRoom (c .0) (c .1) in
+    let I = input-poses purpose.Catalogue s programWords programWords P e in
+    let x : Problem = P .problem in
+    let c = catalogue-accepted x (P .k) listingRoom (I .within) in
+    let M = catalogue-of-means x (P .k) listingRoom (c .0) (c .1) .1 in
     let printed =
-    ap (λ (o : Answer ProblemFile). answerText (follow o λ Q. accepted (replyTo purpose.Catalogue Q))) e
-    ∙ ap (catalogueAnswer (P .kind) (P .p) (P .q) (P .r) (P .k)) (c .1) in
+    ap (λ (o : Answer ProblemFile). answerText (follow o λ Q. accepted (replyTo purpose.Catalogue Q))) e ∙ ap (catalogueAnswer (P .shape) (P .k)) (c .1) in
     record {
-      x = m .0;
-      posed-as = m .1;
+      posed-as = I .posed-as;
       said = c .0;
-      means = m .3;
+      means = M;
       prints = printed;
       lines =
           printed
-          ∙ ap (λ (t : List ℕ). countsText (P .kind) (P .p) (P .q) (P .r) (P .k) (c .0 .ell) (c .0 .found) (c .0 .shown) ++ entryNames ++ t)
-          (listing-lines (m .0 .generators) (m .0 .targets) (P .k) listingRoom (c .0) (m .3));
+          ∙ ap (λ (t : List ℕ). countsText (P .shape) (P .k) (c .0 .ell) (c .0 .found) (c .0 .shown) ++ entryNames ++ t)
+          (listing-lines (x .generators) (x .targets) (P .k) listingRoom (c .0) M);
     }
 
 pub rank-answered : (s : List ℕ) (P : ProblemFile) → inputOf purpose.Rank s ≡ accepted P → RankAnswered s P
-unfolding inputFile problemProgram rankReply
+unfolding problemProgram rankReply
 rank-answered s P e =
-    let f = refuse-inv 1 (ltb mostBytes (length s)) (problemFile purpose.Rank s programWords programWords) P e .1 in
-    let g = file-posed purpose.Rank s programWords programWords P f in
-    let a = rank-accepted (numberOf (P .kind)) (P .p) (P .q) (P .r) (P .k) (P .generators) (P .targets) (g .0) (g .1) (g .2) in
-    let m = rank-means (numberOf (P .kind)) (P .p) (P .q) (P .r) (P .k) (P .generators) (P .targets) listingRoom (a .0) (a .1) in
-    let said : Problem → Answer Ranking → List ℕ = λ y r. rankAnswer (P .kind) (P .p) (P .q) (P .r) (P .k) (dim word (y .targets)) (length (y .targets)) r in
+    let I = input-poses purpose.Rank s programWords programWords P e in
+    let x : Problem = P .problem in
+    let a = rank-accepted x (P .k) (I .few) (I .within) in
     record {
-      x = m .0;
-      posed-as = m .1;
+      posed-as = I .posed-as;
       said = a .0;
-      means = m .3;
+      means = rank-of-means x (P .k) listingRoom (a .0) (a .1) .1;
       prints =
           ap (λ (o : Answer ProblemFile). answerText (follow o λ Q. accepted (replyTo purpose.Rank Q))) e
-          ∙ ap (λ (o : Answer Problem). answerText (follow o λ y. accepted (said y (rank (numberOf (P .kind)) (P .p) (P .q) (P .r) (P .k) (P .generators) (P .targets) listingRoom)))) (m .1)
-          ∙ ap (said (m .0)) (a .1);
+          ∙ ap (rankAnswer (P .shape) (P .k) (dim word (x .targets)) (length (x .targets))) (a .1);
     }

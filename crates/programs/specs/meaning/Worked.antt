@@ -14,15 +14,15 @@ use Rattle.kinds.specs.Kinds.{kindNumbered}
 use Rattle.kinds.specs.Sizes.{within, polySizes}
 use Rattle.words.specs.Masks.{wide, zeroIn}
 use Rattle.forms.specs.products.Product.{formOf, productForm}
-use Rattle.maps.specs.Target.{pair, targetForm}
+use Rattle.maps.specs.Target.{pairFor, targetForm}
 use Rattle.maps.specs.Generators.{generatorCount, firstMask, secondMask, generatorForm, listOf, generatorForms, countOf}
-use Rattle.problems.specs.Problem.{targetForms, mapped, posed}
+use Rattle.problems.specs.Problem.{targetForms, mapped, shaped, posed}
 use Rattle.catalogue.specs.listing.Listing.{records, flat, fitting}
 use Rattle.bases.specs.rows.Rows.{rowOf}
 use Rattle.first_formula.specs.Choice.{formulaRecord}
 use Rattle.rank.specs.fewest.Fewest.{ranking}
-use Rattle.catalogue.specs.Catalogue.{entryListing, catalogue}
-use Rattle.rank.specs.Rank.{rank}
+use Rattle.catalogue.specs.Catalogue.{entryListing, catalogueOf, catalogue}
+use Rattle.rank.specs.Rank.{rankFor, rank}
 use Rattle.text.specs.Line.{cut, field, nameLine}
 use Rattle.text.specs.Numeral.{digits, numeral}
 use Rattle.text.specs.heads.Head.{countFields, headLine, headLines}
@@ -34,11 +34,11 @@ use Rattle.printing.specs.record_lines.RecordLines.{listsText, entryText, recor
 use Rattle.catalogue_text.specs.report.CatalogueReports.{countsText, catalogueText}
 use Rattle.rank_text.specs.report.RankReports.{rankHead, rankText}
 use Rattle.problem_files.specs.handed_forms.ProblemLines.{mapLines}
-use Rattle.problem_files.specs.judging.Judged.{settled, problemJudged}
-use Rattle.problem_files.specs.ProblemFile.{formsRead, problemFile}
+use Rattle.problem_files.specs.judging.Judged.{settled}
+use Rattle.problem_files.specs.posing.Posing.{posedLines, posedFile}
 use Rattle.catalogue_text.specs.CatalogueAnswers.{catalogueReply}
 use Rattle.rank_text.specs.RankAnswers.{rankReply}
-use Rattle.problem_files.specs.inputs.Inputs.{inputFile}
+use Rattle.problem_files.specs.inputs.Inputs.{posedInput, inputFile}
 use Rattle.programs.specs.Programs.{problemProgram, catalogueProgram, rankProgram}
 
 pub worked-catalogue : catalogueProgram (107 ∷ 105 ∷ 110 ∷ 100 ∷ 44 ∷ 112 ∷ 44 ∷ 113 ∷ 44 ∷ 114 ∷ 44 ∷ 107 ∷ 10 ∷ 112 ∷ 111 ∷ 108 ∷ 121 ∷ 44 ∷ 50 ∷ 44 ∷ 51 ∷ 44 ∷ 48 ∷ 44 ∷ 53 ∷ 10 ∷ [])
@@ -49,10 +49,10 @@ pub worked-catalogue : catalogueProgram (107 ∷ 105 ∷ 110 ∷ 100 ∷ 44 ∷ 
     ++ (49 ∷ 44 ∷ 51 ∷ 44 ∷ 50 ∷ 48 ∷ 32 ∷ 49 ∷ 48 ∷ 32 ∷ 97 ∷ 32 ∷ 52 ∷ 32 ∷ 49 ∷ 10 ∷ [])
     ++ (50 ∷ 44 ∷ 53 ∷ 44 ∷ 50 ∷ 48 ∷ 32 ∷ 49 ∷ 50 ∷ 32 ∷ 97 ∷ 32 ∷ 54 ∷ 32 ∷ 49 ∷ 10 ∷ [])
 unfolding bit digitsOf top clear reduce norm place insert inserts basisOf dim risingLists anyOf only firstOfEach sameVec sameBasis inside generator
-    chosen generatorsIn fits space entries kindNumbered within polySizes wide zeroIn formOf productForm pair targetForm generatorCount firstMask
-    secondMask generatorForm listOf generatorForms countOf targetForms mapped posed records flat fitting entryListing catalogue numeralText sizesText
-    spacedText innerText listsText entryText recordLines countsText catalogueText cut field nameLine digits numeral countFields headLine headLines
-    ended mapLines settled problemJudged formsRead problemFile catalogueReply inputFile problemProgram
+    chosen generatorsIn fits space entries kindNumbered within polySizes wide zeroIn formOf productForm pairFor targetForm generatorCount firstMask
+    secondMask generatorForm listOf generatorForms countOf targetForms mapped shaped posed records flat fitting entryListing catalogueOf catalogue
+    numeralText sizesText spacedText innerText listsText entryText recordLines countsText catalogueText cut field nameLine digits numeral countFields headLine headLines
+    ended mapLines settled posedLines posedFile catalogueReply posedInput inputFile problemProgram
 worked-catalogue = refl
 
 pub worked-rank : rankProgram (107 ∷ 105 ∷ 110 ∷ 100 ∷ 44 ∷ 112 ∷ 44 ∷ 113 ∷ 44 ∷ 114 ∷ 44 ∷ 107 ∷ 10 ∷ 112 ∷ 111 ∷ 108 ∷ 121 ∷ 44 ∷ 50 ∷ 44 ∷ 50 ∷ 44 ∷ 48 ∷ 44 ∷ 48 ∷ 10 ∷ [])
@@ -61,8 +61,8 @@ pub worked-rank : rankProgram (107 ∷ 105 ∷ 110 ∷ 100 ∷ 44 ∷ 112 ∷ 44
     ++ (112 ∷ 114 ∷ 111 ∷ 100 ∷ 117 ∷ 99 ∷ 116 ∷ 115 ∷ 44 ∷ 114 ∷ 111 ∷ 119 ∷ 115 ∷ 10 ∷ [])
     ++ (48 ∷ 32 ∷ 52 ∷ 32 ∷ 56 ∷ 44 ∷ 49 ∷ 32 ∷ 55 ∷ 32 ∷ 50 ∷ 10 ∷ [])
 unfolding bit digitsOf top clear reduce norm place insert inserts basisOf dim risingLists anyOf only firstOfEach sameVec sameBasis inside generator
-    chosen generatorsIn fits space entries kindNumbered within polySizes wide zeroIn formOf productForm pair targetForm generatorCount firstMask
-    secondMask generatorForm listOf generatorForms countOf targetForms mapped posed formulae leastFrom missed fewest rowOf formulaRecord ranking rank
-    numeralText sizesText spacedText innerText listsText rankHead rankText cut field nameLine digits numeral countFields headLine headLines ended mapLines
-    settled problemJudged formsRead problemFile rankReply inputFile problemProgram
+    chosen generatorsIn fits space entries kindNumbered within polySizes wide zeroIn formOf productForm pairFor targetForm generatorCount firstMask
+    secondMask generatorForm listOf generatorForms countOf targetForms mapped shaped posed formulae leastFrom missed fewest rowOf formulaRecord ranking
+    rankFor rank numeralText sizesText spacedText innerText listsText rankHead rankText cut field nameLine digits numeral countFields headLine headLines ended mapLines
+    settled posedLines posedFile rankReply posedInput inputFile problemProgram
 worked-rank = refl

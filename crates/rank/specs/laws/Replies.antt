@@ -3,14 +3,19 @@
 -- Assumes nothing.
 use mathlib.Core.Path.{_≡_, ap}
 use mathlib.Core.Bool.{Bool, not}
+use mathlib.Core.List.{List}
 use Prim.Native.Nat.{ℕ}
-use lib.Dec.{eqb}
 use borrow.Author.Tests.{eq-eqb, ne-eqb}
-use Rattle.kinds.specs.Refusal.{Answer, refused, refuse}
-use Rattle.rank.specs.fewest.Fewest.{Ranking}
+use Rattle.kinds.specs.Refusal.{refused, refuse}
+use Rattle.problems.specs.Problem.{Problem}
+use Rattle.rank.specs.Rank.{rankFor}
+use Rattle.rank.specs.fewest.Fewest.{ranking}
 
-pub rank-far : (k : ℕ) (b : Answer Ranking) → (k ≡ 0 → ⊥) → refuse 8 (not (eqb k 0)) b ≡ refused 8
-rank-far k b n = ap (λ (t : Bool). refuse 8 (not t) b) (ne-eqb k 0 n)
+module _ (x : Problem) (k : ℕ) (old : List ℕ) where
+  pub rank-far : (k ≡ 0 → ⊥) → rankFor x k old ≡ refused 8
+  unfolding rankFor
+  rank-far n = ap (λ (t : Bool). refuse 8 (not t) (ranking (x .generators) (x .targets) old)) (ne-eqb k 0 n)
 
-pub rank-near : (k : ℕ) (b : Answer Ranking) → k ≡ 0 → refuse 8 (not (eqb k 0)) b ≡ b
-rank-near k b z = ap (λ (t : Bool). refuse 8 (not t) b) (eq-eqb k 0 z)
+  pub rank-near : k ≡ 0 → rankFor x k old ≡ ranking (x .generators) (x .targets) old
+  unfolding rankFor
+  rank-near z = ap (λ (t : Bool). refuse 8 (not t) (ranking (x .generators) (x .targets) old)) (eq-eqb k 0 z)

@@ -2,6 +2,7 @@
 use mathlib.Core.Path.{sym}
 use native.Mathlib.Omega.{arith}
 use lib.Seq.{length-take-le}
+use borrow.Author.Needs.{needs}
 use Rattle.rank_text.specs.laws.Rank.{formula-short, formula-piece}
 use Rattle.rank_text.proofs.put_formula.Statement.{statement}
 use Rattle.rank_text.proofs.put_formula.Tie as tie
@@ -22,11 +23,11 @@ returns : tie.Need-returns
 returns c =
     let args = c .before .before .before .before .before .before .before .before .args in
     let pre = c .before .before .before .before .before .before .before .before .pre in
-    formula-piece (args .n) (args .t) (args .formula .now) (args .kind) (args .p) (args .q) (args .r) (args .k) (args .ell) (args .page .now) _ _
+    formula-piece (args .n) (args .t) (args .formula .now) (args .shape) (args .k) (args .ell) (args .page .now) _ _
     (pre .1) (c .before .before .rank-text .ensures)
 
 pub put-formula-spec : {M : Type 1} → statement M
 put-formula-spec =
     tie.close
     (tie.spec slice-aggregate-rank-text (λ c. omega arith) (λ c. omega arith) (λ c. omega arith) (λ c. omega arith) (λ c. omega arith)
-    rank-text-requires (λ c. c .before .before .rank-text .kept .1 .1 .1 .1 .1 .1 .1 .1 .0) returns)
+    rank-text-requires (λ c. search needs) returns)

@@ -1,35 +1,64 @@
 -- `rank_text::rank_reply` meets its contract. Assumes nothing.
-use native.Mathlib.Omega.{arith}
-use Rattle.rank_text.specs.laws.Rank.{reply-refused, measured}
 use borrow.Author.Needs.{needs}
+use Rattle.bases.specs.Basis.{based-dim}
+use Rattle.problems.specs.Problem.{problem}
+use Rattle.rank_text.specs.laws.Rank.{Said, said-refused, said-room, said-formula, said-above, said-beyond}
 use Rattle.rank_text.proofs.rank_reply.Statement.{statement}
 use Rattle.rank_text.proofs.rank_reply.Tie as tie
 
-put-rank-requires : tie.Need-put-rank-requires
-put-rank-requires c κs =
-    let args = c .before .before .before .before .before .before .before .before .before .before .args in
-    let pre = c .before .before .before .before .before .before .before .before .before .before .pre in
-    let number-of = c .before .before .before .before .before .before .number-of in
-    let targets-of = c .before .before .before .before .targets-of in
-    let t = c .before .before .t in (
-      pre,
-      measured (args .kind) (args .p) (args .q) (args .r) (args .k) (args .gs .now) (args .ts .now) _ (t .given .0 .0) (t .given .0 .1 .0)
-          (targets-of .result) (number-of .ensures) (targets-of .ensures) (t .given .1),
-    )
+-- what the call said
+answer : (c : tie.After-rank-posed) →
+    let args = c .before .before .before .before .before .before .args in
+    Said (args .shape) (args .k) (problem (args .gens .now) (args .targets .now)) (c .before .before .basis-of .result .len)
+    (c .rank-posed .result) (c .rank-posed .last .1 .1 .1 .1 .0)
+answer c =
+    let basis = c .before .before .basis-of in
+    record {
+      dimension = based-dim (c .before .before .before .before .before .before .args .targets .now) (basis .result) (basis .ensures);
+      answer = c .rank-posed .ensures .0;
+      size = c .rank-posed .kept .1 .1 .1 .1 .0;
+    }
+
+put-formula-requires : tie.Need-put-formula-requires
+put-formula-requires c κs =
+    let rank-posed = c .before .before .before .before .before .before .rank-posed in
+    let room = said-room _ _ _ _ _ _ (answer (c .before .before .before .before .before .before)) _ (c .before .before .before .said2 .given .1) in
+    (rank-posed .kept .1 .1 .1 .1 .0, room)
 
 returns : tie.Need-returns
 returns c =
+    let said = c .before .before .before .before .before .said in
+    said-refused _ _ _ _ _ _ (answer (c .before .before .before .before .before .before .before .before)) _ _ _ (said .given .1)
+    (c .before .before .refused-page .ensures)
+
+returns-2 : tie.Need-returns-2
+returns-2 c =
+    let far = c .before .before .before .before .before .before .before .before .before .before .before .before in
+    let args = far .before .before .before .args in
+    let pre = far .before .before .before .pre in
+    let said2 = c .before .before .before .before .before .before .said2 in
+    said-formula _ _ _ _ _ _ (answer (c .before .before .before .before .before .before .before .before .before)) _ (said2 .given .1) (args .page .now)
+    _ _ (pre .0) (c .before .before .put-formula .ensures)
+
+returns-3 : tie.Need-returns-3
+returns-3 c =
     let far = c .before .before .before .before .before .before .before .before .before .before .before .before in
     let args = far .before .args in
-    let number-of = c .before .before .before .before .before .before .before .before .before .number-of in
-    let targets-of = c .before .before .before .before .before .before .before .targets-of in
-    let e = c .before .before .before .before .before .e in
-    reply-refused (args .kind) (args .p) (args .q) (args .r) (args .k) (args .gs .now) (args .ts .now) _ (e .given .0 .0) _ (targets-of .result) _
-    (number-of .ensures) (targets-of .ensures) (e .given .1) (c .before .before .refused-page .ensures)
+    let pre = far .before .pre in
+    said-above _ _ _ _ _ _ (answer (c .before .before .before .before .before .before .before))
+    (c .before .before .before .before .enum-told .given .1) (args .page .now) _ _ (pre .0) (c .before .before .far-rank-text .ensures)
+
+returns-4 : tie.Need-returns-4
+returns-4 c =
+    let far = c .before .before .before .before .before .before .before .before .before .before .before .before in
+    let args = far .before .args in
+    let pre = far .before .pre in
+    said-beyond _ _ _ _ _ _ (answer (c .before .before .before .before .before .before .before))
+    (c .before .before .before .before .enum-told2 .given .1) (args .page .now) _ _ (pre .0) (c .before .before .far-rank-text2 .ensures)
 
 pub rank-reply-spec : {M : Type 1} → statement M
 rank-reply-spec =
     tie.close
-    (tie.spec (λ c κs. search needs) (λ c. search needs) (λ c κs. search needs) (λ c. search needs) (λ c κs. omega arith) (λ c. search needs)
-    put-rank-requires (λ c. c .before .before .refused-page .kept .1 .0) returns
-    (λ c. c .before .before .put-rank .kept .1 .1 .1 .1 .1 .1 .1 .1 .1 .0) (λ c. c .before .before .put-rank .ensures))
+    (tie.spec (λ c κs. search needs) (λ c. search needs) (λ c κs. search needs) (λ c. search needs) (λ c κs. search needs) (λ c. search needs)
+    (λ c. search needs) put-formula-requires (λ c. search needs) (λ c κs. search needs) (λ c. search needs) (λ c κs. search needs) (λ c. search needs)
+    returns (λ c. search needs) returns-2 (λ c. search needs) returns-3 (λ c. search needs) returns-4)

@@ -7,7 +7,7 @@ use Prim.Native.Nat.{ℕ}
 use mathlib.Core.Bool.{Bool, true, false}
 use mathlib.Core.List.{List, [], _∷_, _++_}
 use lib.ListN.{length}
-use Rattle.kinds.specs.declared.Kind.{Kind}
+use Rattle.kinds.specs.declared.Shape.{Shape}
 use Rattle.text.specs.Line.{LF}
 use Rattle.printing.specs.fields.Fields.{fieldText, sizesText}
 use Rattle.printing.specs.record_lines.RecordLines.{listsText}
@@ -23,13 +23,13 @@ abbrev pub farText : Bool → List ℕ
 farText true = 44 ∷ 97 ∷ 98 ∷ 111 ∷ 118 ∷ 101 ∷ LF ∷ []
 farText false = 44 ∷ 98 ∷ 101 ∷ 121 ∷ 111 ∷ 110 ∷ 100 ∷ LF ∷ []
 
-unfoldable pub rankHead : Kind → (p q r k ell : ℕ) → List ℕ
-rankHead kind p q r k ell = rankNames ++ sizesText kind p q r k ++ fieldText ell
+unfoldable pub rankHead : Shape → (k ell : ℕ) → List ℕ
+rankHead shape k ell = rankNames ++ sizesText shape k ++ fieldText ell
 
 -- a rank that is not found: above (true) or beyond
-unfoldable pub farRankText : Kind → (p q r k ell : ℕ) → Bool → List ℕ
-farRankText kind p q r k ell above = rankHead kind p q r k ell ++ farText above
+unfoldable pub farRankText : Shape → (k ell : ℕ) → Bool → List ℕ
+farRankText shape k ell above = rankHead shape k ell ++ farText above
 
 -- "0 4 8,1 7 2"
-unfoldable pub rankText : Kind → (p q r k ell : ℕ) → (products rows : List ℕ) → List ℕ
-rankText kind p q r k ell products rows = rankHead kind p q r k ell ++ fieldText (length products) ++ (LF ∷ []) ++ formulaNames ++ listsText products rows
+unfoldable pub rankText : Shape → (k ell : ℕ) → (products rows : List ℕ) → List ℕ
+rankText shape k ell products rows = rankHead shape k ell ++ fieldText (length products) ++ (LF ∷ []) ++ formulaNames ++ listsText products rows

@@ -5,6 +5,7 @@ use Prim.Native.Nat.{ℕ}
 use mathlib.Core.Path.{_≡_, sym, ap, ap₂, _∙_}
 use mathlib.Core.List.{List}
 use lib.ListN.{length}
+use Rattle.kinds.specs.Sizes.{shapeOf}
 use Rattle.kinds.specs.Refusal.{accepted}
 use Rattle.formula_check.specs.Formula.{Admitted}
 use Rattle.formula_files.specs.FormulaFile.{formulaFile}
@@ -24,6 +25,6 @@ formula-accepted-only s la lb lr f e =
     let A = G .so in
     let l = A .l in
     head-only s (h, G .text) (A .kd) (G .lines) (A .is-named)
-    ∙ ap₂ (λ (k : ℕ) (t : List ℕ). fileHead (A .kd) (h .p) (h .q) (h .r) k t)
+    ∙ ap₂ (fileHead (shapeOf (A .kd) (h .p) (h .q) (h .r)))
     (sym (body-lengths (h .k) (A .u) (G .text) (l .0) (l .1) (l .2) (A .listed) .0)) (body-only (h .k) (A .u) (G .text) (l .0) (l .1) (l .2) (A .listed))
-    ∙ ap (λ (g : Admitted). fileHead (g .kind) (g .p) (g .q) (g .r) (length (g .firsts)) (bodyText (g .firsts) (g .seconds) (g .rows))) (A .is)
+    ∙ ap (λ (g : Admitted). fileHead (g .shape) (length (g .firsts)) (bodyText (g .firsts) (g .seconds) (g .rows))) (A .is)

@@ -19,4 +19,4 @@ use Rattle.round_trips.specs.formulae.HeadText.{fileHead}
 use Rattle.round_trips.specs.formulae.BodyText.{bodyText}
 
 unfoldable pub fileText : Admitted → List ℕ
-fileText f = fileHead (f .kind) (f .p) (f .q) (f .r) (length (f .firsts)) (bodyText (f .firsts) (f .seconds) (f .rows))
+fileText f = fileHead (f .shape) (length (f .firsts)) (bodyText (f .firsts) (f .seconds) (f .rows))

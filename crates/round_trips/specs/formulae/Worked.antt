@@ -6,7 +6,7 @@ use mathlib.Core.Path.{_≡_, refl}
 use mathlib.Core.List.{List, [], _∷_}
 use Prim.Native.Nat.{ℕ}
 use Rattle.kinds.specs.declared.Kind.the-variants as kind
-use Rattle.kinds.specs.Sizes.{within, polySizes}
+use Rattle.kinds.specs.Sizes.{shapeOf, within, polySizes}
 use Rattle.words.specs.Masks.{wide, zeroIn}
 use Rattle.text.specs.Numeral.{digits, numeral}
 use Rattle.text.specs.Line.{cut, nameLine, field}
@@ -29,12 +29,13 @@ workedBytes =
     ∷ 114 ∷ 111 ∷ 119 ∷ 10 ∷ 49 ∷ 10 ∷ 55 ∷ 10 ∷ 50 ∷ 10 ∷ []
 
 abbrev pub workedFormula : Admitted
-workedFormula = formulaOf kind.Poly 2 2 0 2 2 (1 ∷ 2 ∷ 3 ∷ []) (1 ∷ 2 ∷ 3 ∷ []) (1 ∷ 7 ∷ 2 ∷ [])
+workedFormula = formulaOf (shapeOf kind.Poly 2 2 0) 2 2 (1 ∷ 2 ∷ 3 ∷ []) (1 ∷ 2 ∷ 3 ∷ []) (1 ∷ 7 ∷ 2 ∷ [])
 
 pub worked-file : fileText workedFormula ≡ workedBytes
 unfolding fileText fileHead fieldsText bodyText productsText rowsText numeralText
 worked-file = refl
 
 pub worked-reading : formulaFile workedBytes 3 3 3 ≡ accepted workedFormula
-unfolding formulaFile rest admit passed body products rows ended productLine headLines headLine countFields nameLine field cut numeral digits polySizes within wide zeroIn
+unfolding formulaFile rest admit passed body products rows ended productLine headLines headLine countFields nameLine field cut numeral digits polySizes
+    within wide zeroIn
 worked-reading = refl

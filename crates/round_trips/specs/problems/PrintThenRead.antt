@@ -1,63 +1,80 @@
 -- What is printed is read back.
---   ProblemSound a kd p q r k gs ts == a problem that is not refused as numbers, with a k that is allowed for what is asked
---   problem-then-read   reading the text of such a problem, into buffers with room for its forms, gives the problem back
+--   ProblemSound a u v P == the forms of P pose its problem, and neither 8 nor 9 applies where a is asked and buffers of u and v words are lent
+--   problem-sound        such is every problem whose forms pose it, with a k that is allowed for what is asked and buffers with room for its forms
+--   problem-then-read    reading the text of such a problem gives the problem back
 -- Assumes nothing.
 use Prim.Native.Nat.{ℕ, _+_, _≤_, _<_}
-use mathlib.Core.Path.{_≡_, refl, ap, _∙_}
+use mathlib.Core.Path.{_≡_, refl, ap, ap₂, _∙_}
 use mathlib.Core.List.{List, []}
-use mathlib.Core.Bool.{false}
-use mathlib.Core.Option.{some}
+use mathlib.Core.Bool.{false, _||_}
 use native.Mathlib.Omega.{arith}
 use lib.ListN.{length}
 use lib.Dec.{eqb}
-use borrow.Author.Tests.{ltb-false, eqb-true, not-false}
+use borrow.Author.Tests.{ltb-false, le-ltb, eqb-true, not-false}
 use Rattle.linear.specs.Basis.{dim}
 use Rattle.linear.specs.Word.{word}
 use Rattle.linear.specs.laws.Dimension.{dim-length}
-use Rattle.kinds.specs.declared.Kind.{Kind}
-use Rattle.kinds.specs.Kinds.{numberOf}
 use Rattle.kinds.specs.Refusal.{Answer, accepted, follow}
-use Rattle.problems.specs.Problem.{Problem, posed}
-use Rattle.problems.specs.Theorems.{posed-few}
-use Rattle.round_trips.specs.formulae.HeadText.{fileHead}
+use Rattle.problems.specs.Problem.{Problem, shaped}
+use Rattle.problems.specs.Theorems.{shaped-few}
 use Rattle.round_trips.specs.formulae.laws.HeadBack.{head-back}
-use Rattle.problem_files.specs.judging.Judged.{ProblemFile, problemOf, beyond, settled, problemJudged}
-use Rattle.problem_files.specs.ProblemFile.{formsRead, problemFile}
+use Rattle.problem_files.specs.handed_forms.ProblemLines.{handed}
+use Rattle.problem_files.specs.posing.Posing.{ProblemFile, problemOf, posedLines, posedFile}
+use Rattle.problem_files.specs.posing.laws.Steps.{file-is}
+use Rattle.problem_files.specs.judging.Judged.{beyond, settled}
+use Rattle.problem_files.specs.judging.laws.Judging.{settled-is, settled-inv}
+use Rattle.problem_files.specs.inputs.laws.Handed.{shaped-counted}
+use Rattle.problem_files.specs.ProblemFile.{problemFile}
 use Rattle.problem_files.specs.declared.judging.Purpose.{Purpose}
 use Rattle.problem_files.specs.declared.judging.Purpose.the-variants as purpose
-use Rattle.problem_files.specs.judging.laws.Judging.{settled-is}
-use Rattle.problem_files.specs.laws.Steps.{file-is}
 use Rattle.round_trips.specs.problems.ProblemText.{linesText, problemText}
 use Rattle.round_trips.specs.problems.laws.FormsBack.{Forms, forms-of}
 
-pub record ProblemSound (a : Purpose) (kd : Kind) (p q r k : ℕ) (gs ts : List ℕ) : Type 0 where
-  pub problem : Problem
-  pub taken : posed (numberOf kd) p q r gs ts [] ≡ accepted problem
-  pub allowed : beyond a k (problem .targets) ≡ false
+pub record ProblemSound (a : Purpose) (u v : ℕ) (P : ProblemFile) : Type 0 where
+  pub poses : shaped (P .shape) (P .generators) (P .targets) [] ≡ accepted (P .problem)
+  pub settles : settled a u v P ≡ accepted P
+
+pub problem-sound : (a : Purpose) (u v : ℕ) (P : ProblemFile) → shaped (P .shape) (P .generators) (P .targets) [] ≡ accepted (P .problem)
+    → beyond a (P .k) (P .problem .targets) ≡ false → length (P .generators) ≤ u → length (P .targets) ≤ v → ProblemSound a u v P
+problem-sound a u v P e h hg ht =
+    let C = shaped-counted (P .shape) (P .generators) (P .targets) (P .problem) e in
+    let q = handed (P .shape .kind) (P .shape .q) in
+    let r = handed (P .shape .kind) (P .shape .r) in
+    let g : q ≤ u = (let c = C .generators in omega (arith, c, hg)) in
+    let t : r ≤ v = (let c = C .targets in omega (arith, c, ht)) in
+    record { poses = e; settles = settled-is a u v P h (ap₂ _||_ (le-ltb u q g) (le-ltb v r t)) }
 
 -- an allowed k has few digits
 few-count : (a : Purpose) (k : ℕ) (ts : List ℕ) → beyond a k ts ≡ false → length ts ≤ 64 → k < 10000
 few-count purpose.Catalogue k ts e h = omega (arith, ltb-false (dim word ts + 6) k e, dim-length word ts)
 few-count purpose.Rank k ts e h = omega (arith, eqb-true k 0 (not-false (eqb k 0) e))
 
-module _ (a : Purpose) (kd : Kind) (p q r k u v : ℕ) (gs ts : List ℕ) (S : ProblemSound a kd p q r k gs ts) (hg : length gs ≤ u) (ht : length ts ≤ v) where
-  F : Forms kd p q r gs ts
-  F = forms-of p q r gs ts (S .problem) kd (S .taken)
+module _ (a : Purpose) (u v : ℕ) (P : ProblemFile) (S : ProblemSound a u v P) where
+  F : Forms (P .shape) (P .generators) (P .targets)
+  F = forms-of (P .shape) (P .generators) (P .targets) (P .problem) (S .poses)
 
-  judged-back : problemJudged a kd p q r k u v gs ts ≡ accepted (problemOf kd p q r k gs ts)
-  unfolding problemJudged
-  judged-back =
-      ap (λ (y : Answer Problem). follow y (λ x. settled a kd p q r k u v (x .targets) gs ts)) (S .taken)
-      ∙ settled-is a kd p q r k u v (S .problem .targets) (S .allowed) (let e = F .generators in omega (arith, e, hg)) (let e = F .targets in omega (arith, e, ht)) .by gs ts
+  abbrev lines : List ℕ
+  lines = linesText (P .shape .kind) (P .generators) (P .targets)
 
-  forms-back : formsRead a kd p q r k (F .z .0) (F .z .1) u v (linesText kd gs ts) ≡ accepted (problemOf kd p q r k gs ts)
-  unfolding formsRead
-  forms-back = ap (λ (y : Answer (List ℕ × List ℕ)). follow y (λ f. problemJudged a kd p q r k u v (f .0) (f .1))) (F .body) ∙ judged-back
+  few : P .k < 10000
+  few =
+      few-count a (P .k) (P .problem .targets) (settled-inv a u v P P (S .settles) .0)
+      (shaped-few (P .shape) (P .generators) (P .targets) [] (P .problem) (S .poses) .targets)
 
-  pub problem-then-read : problemFile a (problemText kd p q r k gs ts) u v ≡ accepted (problemOf kd p q r k gs ts)
+  lines-back : posedLines (P .shape) (P .k) (F .z .0) (F .z .1) lines ≡ accepted P
+  unfolding posedLines
+  lines-back =
+      let one : List ℕ × List ℕ → Problem → Answer ProblemFile = λ f Q. accepted (problemOf (P .shape) (P .k) (f .0) (f .1) Q) in
+      ap (λ (o : Answer (List ℕ × List ℕ)). follow o λ f. follow (shaped (P .shape) (f .0) (f .1) []) (one f)) (F .body)
+      ∙ ap (λ (o : Answer Problem). follow o (one (P .generators, P .targets))) (S .poses)
+
+  posed-back : posedFile (problemText P) ≡ accepted P
   unfolding problemText
-  problem-then-read =
-      file-is a (fileHead kd p q r k (linesText kd gs ts)) u v (record { kind = some kd; p = p; q = q; r = r; k = k }) (linesText kd gs ts) kd (F .z .0) (F .z .1) (F .z .2)
-      (head-back kd p q r k (linesText kd gs ts) (F .first) (F .second) (F .third)
-      (few-count a k (S .problem .targets) (S .allowed) (posed-few p q r gs ts [] (S .problem) (numberOf kd) (S .taken) .targets))) refl (F .sized)
-      ∙ forms-back
+  posed-back =
+      file-is _ _ lines (head-back (P .shape) (P .k) lines (F .first) (F .second) (F .third) few) (P .shape .kind) refl (F .z .0) (F .z .1) (F .z .2)
+      (F .sized)
+      ∙ lines-back
+
+  pub problem-then-read : problemFile a (problemText P) u v ≡ accepted P
+  unfolding problemFile
+  problem-then-read = ap (λ (o : Answer ProblemFile). follow o (settled a u v)) posed-back ∙ S .settles

@@ -1,7 +1,7 @@
 -- The file format: the text of a problem.
---   rolesText c xs t               == a line of the role c for each form of xs, in front of the text t
---   listText gs ts                 == `role,form`, a line for each generator, a line for each target
---   problemText kd p q r k gs ts   == the first two lines, and for list those
+--   rolesText c xs t == a line of the role c for each form of xs, in front of the text t
+--   listText gs ts   == `role,form`, a line for each generator, a line for each target
+--   problemText P    == the first two lines, and for list those
 --     kind,p,q,r,k
 --     list,2,3,1,2
 --     role,form
@@ -18,6 +18,7 @@ use Rattle.text.specs.Line.{LF, comma}
 use Rattle.printing.specs.Print.{maskText}
 use Rattle.kinds.specs.Kinds.{isList}
 use Rattle.problem_files.specs.list_lines.Roles.{roleNames, generatorRole, targetRole}
+use Rattle.problem_files.specs.posing.Posing.{ProblemFile}
 use Rattle.round_trips.specs.formulae.HeadText.{fileHead}
 
 unfoldable pub rolesText : ℕ → List ℕ → List ℕ → List ℕ
@@ -31,5 +32,5 @@ listText gs ts = roleNames ++ (LF ∷ rolesText generatorRole gs (rolesText targ
 abbrev pub linesText : Kind → List ℕ → List ℕ → List ℕ
 linesText kd gs ts = cond (isList kd) (listText gs ts) []
 
-unfoldable pub problemText : Kind → (p q r k : ℕ) → List ℕ → List ℕ → List ℕ
-problemText kd p q r k gs ts = fileHead kd p q r k (linesText kd gs ts)
+unfoldable pub problemText : ProblemFile → List ℕ
+problemText P = fileHead (P .shape) (P .k) (linesText (P .shape .kind) (P .generators) (P .targets))

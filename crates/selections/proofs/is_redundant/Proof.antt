@@ -2,6 +2,8 @@
 use borrow.Author.Needs.{needs}
 use mathlib.Core.Path.{_∙_}
 use Rattle.problems.specs.laws.Handed.{follow-refused, follow-made}
+use Rattle.selections.specs.declared.on_forms.Said.the-variants as said
+use Rattle.selections.specs.on_forms.laws.Numbers.{said-told}
 use Rattle.selections.specs.Selections.{isRedundant}
 use Rattle.selections.proofs.is_redundant.Statement.{statement}
 use Rattle.selections.proofs.is_redundant.Tie as tie
@@ -13,14 +15,15 @@ use Rattle.selections.proofs.on_forms.say_redundant.Reads as say-redund
 
 returns : tie.Need-returns
 unfolding isRedundant
-returns c = follow-refused (c .before .before .before .before .before .pose .ensures) _ (c .before .e .given .1)
+returns c = said-told (said.Refused _) (follow-refused (c .before .before .before .before .before .pose .ensures) _ (c .before .e .given .1))
 
 returns-2 : tie.Need-returns-2
 unfolding isRedundant
 returns-2 c =
-    follow-made (c .before .before .before .before .before .before .before .before .before .before .pose .ensures) _
+    said-told (c .say-redundant .result)
+    (follow-made (c .before .before .before .before .before .before .before .before .before .before .pose .ensures) _
     (c .before .before .before .before .before .before .n .given .1)
-    (c .before .before .before .first-words .ensures) (c .before .first-words2 .ensures) ∙ c .say-redundant .ensures
+    (c .before .before .before .first-words .ensures) (c .before .first-words2 .ensures) ∙ c .say-redundant .ensures)
 
 pub is-redundant-spec : {M : Type 1} → statement M
 is-redundant-spec =

@@ -5,15 +5,17 @@
 --   sumAnswer x sel form      == is the form a sum of the selected generators of the problem x; refusal 11
 --   redundantAnswer x sel j   == do the selected generators but j still span the targets (document 01: is j spare); refusal 11
 --   seenSaid a                == what the code's answer stands for
+--   saidNumbers a             == its numbers: the refusal's, and 1 for yes; `saidValues b`, the same of what is accepted
 -- Document 01: "For a selection of menu numbers two questions exist: is a given form a sum of selected forms; and is the selected product with menu
 -- number j spare, meaning that the others still span T." Refusal 11: "A selection has a number outside the menu, or one twice, or (when spares are
 -- asked for) doesn't span T or lacks j." What the answers mean is in crate selections. Assumes nothing.
 use mathlib.Core.Bool.{Bool, true, false, not, _||_}
-use mathlib.Core.List.{List}
+use mathlib.Core.List.{List, [], _∷_}
 use Prim.Native.Nat.{ℕ}
 use lib.ListN.{length}
 use lib.Dec.{eqb, ltb}
 use Rattle.kinds.specs.Refusal.{Answer, refused, accepted, refuse}
+use Rattle.kinds.specs.Numbers.{refusalNumbers, answerNumbers}
 use Rattle.problems.specs.Problem.{Problem}
 use Rattle.words.specs.lists.Lists.{repeats}
 use Rattle.linear.specs.Basis.{basisOf}
@@ -48,3 +50,13 @@ abbrev pub seenSaid : Said → Answer Bool
 seenSaid (said.Refused e) = refused e
 seenSaid said.Yes = accepted true
 seenSaid said.No = accepted false
+
+-- "A refusal is its number, every other number of the reply 0."
+abbrev pub saidNumbers : Said → List ℕ
+saidNumbers (said.Refused e) = refusalNumbers 1 e
+saidNumbers said.Yes = answerNumbers (1 ∷ [])
+saidNumbers said.No = answerNumbers (0 ∷ [])
+
+abbrev pub saidValues : Bool → List ℕ
+saidValues true = 1 ∷ []
+saidValues false = 0 ∷ []

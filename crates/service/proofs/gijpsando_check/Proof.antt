@@ -17,8 +17,8 @@ check-reply-requires c κs =
     let args = far .before .before .before .before .args in
     let read-formula = c .before .before .before .before .before .before .before .before .before .before .read-formula in
     let got2 = c .before .before .before .before .before .got2 in
-    read-ready (args .file .now) (got2 .given .0 .0) (got2 .given .0 .1 .0) (got2 .given .0 .1 .1 .0) (got2 .given .0 .1 .1 .1 .0)
-    (got2 .given .0 .1 .1 .1 .1 .0) (replicate 64 0) (replicate 64 0) (replicate 64 0) (read-formula .last .1 .0) (read-formula .last .1 .1 .0)
+    read-ready (args .file .now) (got2 .given .0 .0) (got2 .given .0 .1 .0) (replicate 64 0) (replicate 64 0) (replicate 64 0)
+    (read-formula .last .1 .0) (read-formula .last .1 .1 .0)
     (read-formula .last .1 .1 .1 .0) refl refl refl (sym (got2 .given .1) ∙ read-formula .ensures .0) (read-formula .ensures .1)
     (read-formula .ensures .2) (read-formula .ensures .3)
 
@@ -37,8 +37,8 @@ returns-2 c =
     let read-formula = far .before .read-formula in
     let got2 = c .before .before .before .before .before .before .before .before .got2 in
     let check-reply = c .before .before .check-reply in
-    let e = read-checks (args .file .now) (got2 .given .0 .0) (got2 .given .0 .1 .0) (got2 .given .0 .1 .1 .0) (got2 .given .0 .1 .1 .1 .0)
-    (got2 .given .0 .1 .1 .1 .1 .0) (replicate 64 0) (replicate 64 0) (replicate 64 0) (read-formula .last .1 .0) (read-formula .last .1 .1 .0)
+    let e = read-checks (args .file .now) (got2 .given .0 .0) (got2 .given .0 .1 .0) (replicate 64 0) (replicate 64 0) (replicate 64 0)
+    (read-formula .last .1 .0) (read-formula .last .1 .1 .0)
     (read-formula .last .1 .1 .1 .0) refl refl refl (sym (got2 .given .1) ∙ read-formula .ensures .0) (read-formula .ensures .1)
     (read-formula .ensures .2) (read-formula .ensures .3) in (
       check-reply .ensures .0 ∙ ap (λ (x : Answer (List ℕ)). replyOf x (args .out .now)) (sym e),
@@ -50,4 +50,4 @@ pub gijpsando-check-spec : {M : Type 1} → statement M
 gijpsando-check-spec =
     tie.close
     (tie.spec (λ c. refl) (λ c. refl) (λ c. refl) (λ c κs. tt) (λ c. c .match .keys1) (λ c. c .match .keys2) (λ c. omega arith) (λ c. omega arith)
-    (λ c. omega arith) check-reply-requires returns (λ c. c .before .before .check-reply .kept .1 .1 .1 .1 .1 .1 .1 .1 .0) returns-2)
+    (λ c. omega arith) check-reply-requires returns (λ c. c .before .before .check-reply .kept .1 .1 .1 .1 .1 .0) returns-2)

@@ -19,7 +19,7 @@ returns c =
     let the-check = c .before .before .before .before .check in
     let said2 = c .before .before .said2 in
     let e : check (args .kind) (args .p) (args .q) (args .r) (args .k) (args .a .now) (args .b .now) (args .rows .now) ≡ accepted
-    ((seenVerdict (said2 .given .0 .0)), (said2 .given .0 .1 .0)) = the-check .ensures ∙ ap seenReply (said2 .given .1) in
+    ((seenVerdict (said2 .given .0 .0)), (said2 .given .0 .1 .0)) = the-check .ensures .0 ∙ ap seenReply (said2 .given .1) in
     let n = numbers-short (seenVerdict (said2 .given .0 .0)) (said2 .given .0 .1 .0) (args .reply .now) (omega arith) in (
       n .0 ∙ ap (λ (x : Answer (Option ℕ × ℕ)). numbersReply x (args .reply .now)) (sym e),
       n .1 ∙ ap
@@ -31,7 +31,7 @@ returns-2 c =
     let args = c .before .before .before .before .before .before .before .before .args in
     let the-check = c .before .before .before .check in
     let e : check (args .kind) (args .p) (args .q) (args .r) (args .k) (args .a .now) (args .b .now) (args .rows .now) ≡ refused
-    (c .before .said .given .0 .0) = the-check .ensures ∙ ap seenReply (c .before .said .given .1) in (
+    (c .before .said .given .0 .0) = the-check .ensures .0 ∙ ap seenReply (c .before .said .given .1) in (
       ap (λ (x : Answer (Option ℕ × ℕ)). numbersReply x (args .reply .now)) (sym e),
       ap
           (λ (x : Answer (Option ℕ × ℕ)). numbersLent x (args .reply .now)) (sym e),
@@ -45,7 +45,7 @@ returns-3 c =
     let said2 = c .before .before .before .before .before .before .before .before .said2 in
     let the-enum-told = c .before .before .before .before .enum-told in
     let e : check (args .kind) (args .p) (args .q) (args .r) (args .k) (args .a .now) (args .b .now) (args .rows .now) ≡ accepted
-    (none, (said2 .given .0 .1 .0)) = the-check .ensures ∙ ap seenReply (said2 .given .1) ∙ ap
+    (none, (said2 .given .0 .1 .0)) = the-check .ensures .0 ∙ ap seenReply (said2 .given .1) ∙ ap
     (λ (x : Option ℕ). accepted (x, (said2 .given .0 .1 .0))) (ap seenVerdict (the-enum-told .given .1)) in
     let n = numbers-whole none (said2 .given .0 .1 .0) (args .reply .now) (omega arith) in (
       n .0 ∙ ap (λ (x : Answer (Option ℕ × ℕ)). numbersReply x (args .reply .now)) (sym e),
@@ -61,7 +61,7 @@ returns-4 c =
     let said2 = c .before .before .before .before .before .before .before .before .before .said2 in
     let v = c .before .before .before .before .before .v in
     let e : check (args .kind) (args .p) (args .q) (args .r) (args .k) (args .a .now) (args .b .now) (args .rows .now) ≡ accepted
-    (some (v .given .0 .0), (said2 .given .0 .1 .0)) = the-check .ensures ∙ ap seenReply (said2 .given .1) ∙ ap
+    (some (v .given .0 .0), (said2 .given .0 .1 .0)) = the-check .ensures .0 ∙ ap seenReply (said2 .given .1) ∙ ap
     (λ (x : Option ℕ). accepted (x, (said2 .given .0 .1 .0))) (ap seenVerdict (v .given .1)) in
     let n = numbers-whole (some (v .given .0 .0)) (said2 .given .0 .1 .0) (args .reply .now) (omega arith) in (
       n .0 ∙ ap (λ (x : Answer (Option ℕ × ℕ)). numbersReply x (args .reply .now)) (sym e),

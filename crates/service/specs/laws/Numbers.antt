@@ -12,7 +12,8 @@ use lib.ListN.{length, set}
 use borrow.Author.Tests.{lt-ltb, le-ltb}
 use Rattle.kinds.specs.Refusal.{accepted}
 use Rattle.words.specs.Buffers.{filled}
-use Rattle.service.specs.Service.{verdictWords, numbersReply, numbersLent}
+use Rattle.formula_check.specs.Replies.{checkValues}
+use Rattle.service.specs.Service.{numbersReply, numbersLent}
 
 pub three : (d : List ℕ) (x y z : ℕ) → 3 ≤ length d → set (set (set d 0 x) 1 y) 2 z ≡ filled (x ∷ y ∷ z ∷ []) d
 three [] x y z h = absurd (omega arith)
@@ -24,11 +25,11 @@ module _ (v : Option ℕ) (w : ℕ) (d : List ℕ) where
   pub numbers-short : length d < 3 → (9 ≡ numbersReply (accepted (v, w)) d) × (d ≡ numbersLent (accepted (v, w)) d)
   numbers-short h = (
     sym (ap (λ (b : Bool). cond b 9 0) (lt-ltb (length d) 3 h)),
-    sym (ap (λ (b : Bool). cond b d (filled (verdictWords v w) d)) (lt-ltb (length d) 3 h)),
+    sym (ap (λ (b : Bool). cond b d (filled (checkValues (v, w)) d)) (lt-ltb (length d) 3 h)),
   )
 
-  pub numbers-whole : 3 ≤ length d → (0 ≡ numbersReply (accepted (v, w)) d) × (filled (verdictWords v w) d ≡ numbersLent (accepted (v, w)) d)
+  pub numbers-whole : 3 ≤ length d → (0 ≡ numbersReply (accepted (v, w)) d) × (filled (checkValues (v, w)) d ≡ numbersLent (accepted (v, w)) d)
   numbers-whole h = (
     sym (ap (λ (b : Bool). cond b 9 0) (le-ltb (length d) 3 h)),
-    sym (ap (λ (b : Bool). cond b d (filled (verdictWords v w) d)) (le-ltb (length d) 3 h)),
+    sym (ap (λ (b : Bool). cond b d (filled (checkValues (v, w)) d)) (le-ltb (length d) 3 h)),
   )

@@ -4,7 +4,7 @@
 -- Assumes nothing.
 use mathlib.Core.Path.{_≡_, refl, sym, ap, ap₂, _∙_}
 use mathlib.Core.List.{List}
-use mathlib.Core.Option.{Option, some}
+use mathlib.Core.Option.{some}
 use Prim.Native.Nat.{ℕ, _≤_}
 use native.Mathlib.Omega.{arith}
 use lib.ListN.{length, take, drop, length-append, length-drop}
@@ -12,7 +12,7 @@ use lib.Seq.{take-append-seam}
 use Rattle.kinds.specs.Limits.{mostProducts, mostTargets}
 use Rattle.kinds.specs.Refusal.{Answer, refused, accepted, follow}
 use Rattle.kinds.specs.Sizes.{sizes}
-use Rattle.kinds.specs.declared.Kind.{Kind}
+use Rattle.kinds.specs.declared.Shape.{Shape}
 use Rattle.words.specs.Buffers.{filled}
 use Rattle.formula_check.specs.Formula.{Admitted, formulaOf}
 use Rattle.formula_files.specs.FormulaFile.{formulaFile}
@@ -26,26 +26,15 @@ use Rattle.check_text.specs.laws.Replying.{sizes-in}
 use Rattle.service.specs.Service.{checkFile}
 
 -- ---- a reply that is a formula
-pub record Was (o : Answer Admitted) (kd : Kind) (p q r k : ℕ) : Type 0 where
+pub record Was (o : Answer Admitted) (shape : Shape) (k : ℕ) : Type 0 where
   pub f : Admitted
   pub is : o ≡ accepted f
-  pub kind : f .kind ≡ kd
-  pub first : f .p ≡ p
-  pub second : f .q ≡ q
-  pub third : f .r ≡ r
+  pub kinded : f .shape ≡ shape
   pub products : length (f .firsts) ≡ k
 
-was : (o : Answer Admitted) (kd : Kind) (p q r k : ℕ) → formulaReply o ≡ read.Formula kd p q r k → Was o kd p q r k
-was (refused e) kd p q r k h = absurd (let z : _≡_ {A = ℕ} 0 1 = cc in omega arith)
-was (accepted f) kd p q r k h = record { f = f; is = refl; kind = cc; first = cc; second = cc; third = cc; products = cc }
-
--- the same formula, by the kind and sizes that were told
-module _ (f : Admitted) (kd : Kind) (p q r : ℕ) (a : f .kind ≡ kd) (b : f .p ≡ p) (c : f .q ≡ q) (d : f .r ≡ r) where
-  told-sizes : (o : Option (ℕ × ℕ × ℕ)) → sizes (f .kind) (f .p) (f .q) (f .r) ≡ o → sizes kd p q r ≡ o
-  told-sizes o e = rw (← a, ← b, ← c, ← d) e
-
-  told-formula : formulaOf kd p q r (f .n) (f .m) (f .firsts) (f .seconds) (f .rows) ≡ f
-  told-formula = rw (← a, ← b, ← c, ← d)
+was : (o : Answer Admitted) (shape : Shape) (k : ℕ) → formulaReply o ≡ read.Formula shape k → Was o shape k
+was (refused e) shape k h = absurd (let z : _≡_ {A = ℕ} 0 1 = cc in omega arith)
+was (accepted f) shape k h = record { f = f; is = refl; kinded = cc; products = cc }
 
 refused-is : (o : Answer Admitted) (e : ℕ) → formulaReply o ≡ read.Refused e → o ≡ refused e
 refused-is (refused e′) e h = cc
@@ -63,15 +52,17 @@ lent-as : (s a b rows : List ℕ) → length a ≡ mostProducts → length b ≡
     → formulaFile s mostProducts mostProducts mostTargets ≡ formulaFile s (length a) (length b) (length rows)
 lent-as s a b rows la lb lr = ap₂ (λ (x y : ℕ). formulaFile s x y mostTargets) (sym la) (sym lb) ∙ ap (formulaFile s (length a) (length b)) (sym lr)
 
-module _ (s : List ℕ) (kd : Kind) (p q r k : ℕ) (a b rows a₁ b₁ rows₁ : List ℕ) (la : length a ≡ mostProducts) (lb : length b ≡ mostProducts) (lr : length rows ≡ mostTargets)
-    (told : read.Formula kd p q r k ≡ formulaReply (formulaFile s (length a) (length b) (length rows)))
-    (fa : a₁ ≡ firstOf (formulaFile s (length a) (length b) (length rows)) a) (fb : b₁ ≡ secondOf (formulaFile s (length a) (length b) (length rows)) b)
+module _ (s : List ℕ) (shape : Shape) (k : ℕ) (a b rows a₁ b₁ rows₁ : List ℕ)
+    (la : length a ≡ mostProducts) (lb : length b ≡ mostProducts) (lr : length rows ≡ mostTargets)
+    (told : read.Formula shape k ≡ formulaReply (formulaFile s (length a) (length b) (length rows)))
+    (fa : a₁ ≡ firstOf (formulaFile s (length a) (length b) (length rows)) a)
+    (fb : b₁ ≡ secondOf (formulaFile s (length a) (length b) (length rows)) b)
     (fr : rows₁ ≡ rowsLent (formulaFile s (length a) (length b) (length rows)) rows) where
   abbrev O : Answer Admitted
   O = formulaFile s (length a) (length b) (length rows)
 
-  W : Was O kd p q r k
-  W = was O kd p q r k (sym told)
+  W : Was O shape k
+  W = was O shape k (sym told)
 
   f : Admitted
   f = W .f
@@ -88,10 +79,10 @@ module _ (s : List ℕ) (kd : Kind) (p q r k : ℕ) (a b rows a₁ b₁ rows₁ 
   er : rows₁ ≡ filled (W .f .rows) rows
   er = fr ∙ ap (λ (o : Answer Admitted). rowsLent o rows) (W .is)
 
-  fits : sizes kd p q r ≡ some (W .f .n, W .f .m, length (W .f .rows))
-  fits = told-sizes (W .f) kd p q r (W .kind) (W .first) (W .second) (W .third) (some (W .f .n, W .f .m, length (W .f .rows))) (S .0 .fits)
+  fits : sizes shape ≡ some (W .f .n, W .f .m, length (W .f .rows))
+  fits = ap sizes (sym (W .kinded)) ∙ S .0 .fits
 
-  pub read-ready : FormulaBuffers kd p q r k a₁ b₁ rows₁
+  pub read-ready : FormulaBuffers shape k a₁ b₁ rows₁
   read-ready =
       record {
         n = W .f .n;
@@ -99,21 +90,24 @@ module _ (s : List ℕ) (kd : Kind) (p q r k : ℕ) (a b rows a₁ b₁ rows₁ 
         u = length (W .f .rows);
         sized = fits;
         firsts = (let l = ap length ea ∙ filled-length (W .f .firsts) a (S .1 .for-firsts) in omega (arith, l, W .products, S .1 .for-firsts));
-        seconds = (let l = ap length eb ∙ filled-length (W .f .seconds) b (S .1 .for-seconds) in omega (arith, l, W .products, S .0 .paired, S .1 .for-seconds));
+        seconds = (let l = ap length eb ∙ filled-length (W .f .seconds) b (S .1 .for-seconds) in
+            omega (arith, l, W .products, S .0 .paired, S .1 .for-seconds));
         outputs = (let l = ap length er ∙ filled-length (W .f .rows) rows (S .1 .for-rows) in omega (arith, l, S .1 .for-rows));
         few = omega (arith, W .products, S .0 .few);
       }
 
   -- the buffers hold the formula
-  in-buffers : formulaIn kd p q r k a₁ b₁ rows₁ ≡ W .f
+  in-buffers : formulaIn shape k a₁ b₁ rows₁ ≡ W .f
   in-buffers =
-      ap (λ (z : ℕ × ℕ × ℕ). formulaOf kd p q r (z .0) (z .1) (take k a₁) (take k b₁) (take (z .2) rows₁)) (sizes-in kd p q r (W .f .n, W .f .m, length (W .f .rows)) fits)
-      ∙ ap₂ (λ (x y : List ℕ). formulaOf kd p q r (W .f .n) (W .f .m) x y (take (length (W .f .rows)) rows₁))
+      ap (λ (z : ℕ × ℕ × ℕ). formulaOf shape (z .0) (z .1) (take k a₁) (take k b₁) (take (z .2) rows₁))
+      (sizes-in shape (W .f .n, W .f .m, length (W .f .rows)) fits)
+      ∙ ap₂ (λ (x y : List ℕ). formulaOf shape (W .f .n) (W .f .m) x y (take (length (W .f .rows)) rows₁))
       (ap (take k) ea ∙ take-filled k (W .f .firsts) a (W .products)) (ap (take k) eb ∙ take-filled k (W .f .seconds) b (sym (S .0 .paired) ∙ W .products))
-      ∙ ap (formulaOf kd p q r (W .f .n) (W .f .m) (W .f .firsts) (W .f .seconds)) (ap (take (length (W .f .rows))) er ∙ take-filled (length (W .f .rows)) (W .f .rows) rows refl)
-      ∙ told-formula (W .f) kd p q r (W .kind) (W .first) (W .second) (W .third)
+      ∙ ap (formulaOf shape (W .f .n) (W .f .m) (W .f .firsts) (W .f .seconds))
+      (ap (take (length (W .f .rows))) er ∙ take-filled (length (W .f .rows)) (W .f .rows) rows refl)
+      ∙ ap (λ (sh : Shape). formulaOf sh (W .f .n) (W .f .m) (W .f .firsts) (W .f .seconds) (W .f .rows)) (sym (W .kinded))
 
-  pub read-checks : checkFile s ≡ accepted (admittedText (formulaIn kd p q r k a₁ b₁ rows₁))
+  pub read-checks : checkFile s ≡ accepted (admittedText (formulaIn shape k a₁ b₁ rows₁))
   unfolding checkFile
   read-checks =
       ap (λ (o : Answer Admitted). follow o (λ g. accepted (admittedText g))) (lent-as s a b rows la lb lr ∙ W .is)

@@ -4,16 +4,19 @@
 --   recordSize targets rows    == how many words the record of a formula has
 --   Formulae                   == how many formulae are listed, whether these are all, and the buffer's content
 --   formulaeListing x rows old == what is said of the problem x and the space with those rows, in a buffer that holds old
+--   formulaeFor x rows old     == refused by 8 or 10, or that
 --   formulaeOf ..              == refused by a number of document 01's list (2 to 8, 10), or that
 --   seenFormulae r after       == what the code's answer r says, the buffer holding `after`
+--   formulaeNumbers r          == its numbers: the refusal's; 0 for all, 1 for more; how many are listed; `formulaeValues`, the same of what is accepted
 --   lentFormulae a old         == the buffer's content at exit
 -- The test is true exactly for the solution spaces, `entry-exactly`; what it all means is in `Theorems`. Assumes nothing.
-use mathlib.Core.Bool.{Bool, true, false, not, _&&_}
-use mathlib.Core.List.{List, _++_, map}
+use mathlib.Core.Bool.{Bool, true, false, not, _&&_, cond}
+use mathlib.Core.List.{List, [], _∷_, _++_, map}
 use Prim.Native.Nat.{ℕ, _+_, _*_, _≤_}
 use lib.ListN.{length, take, drop}
 use lib.Dec.{eqb, ltb}
 use Rattle.kinds.specs.Refusal.{Answer, refused, accepted, refuse, follow}
+use Rattle.kinds.specs.Numbers.{refusalNumbers, answerNumbers}
 use Rattle.problems.specs.Problem.{Problem, posed, problem}
 use Rattle.linear.specs.Basis.{basisOf, dim}
 use Rattle.linear.specs.Select.{anyOf}
@@ -51,19 +54,32 @@ formulaeListing x rows old =
       buffer = flat (take listed (map (formulaRecord (x .generators) (x .targets)) all)) ++ drop (listed * size) old;
     }
 
--- The rows are further forms of the call: a bit outside the width is refusal 6. Refusal 8: k exceeds ℓ + 6; 10: the rows are not the reduced basis of an entry.
-unfoldable pub formulaeOf : (number p q r : ℕ) (gs ts rows old : List ℕ) → Answer Formulae
-formulaeOf number p q r gs ts rows old =
-    follow (posed number p q r gs ts rows) λ x.
+-- Refusal 8: k exceeds ℓ + 6; 10: the rows are not the reduced basis of an entry.
+unfoldable pub formulaeFor : Problem → (rows old : List ℕ) → Answer Formulae
+formulaeFor x rows old =
     refuse 8 (ltb (dim word (x .targets) + 6) (length rows))
     (refuse 10 (not (isEntry (x .generators) (x .targets) rows))
     (accepted (formulaeListing x rows old)))
+
+-- of the problem handed in: refusals 2 to 7 come first. The rows are further forms of the call: a bit outside the width is refusal 6.
+unfoldable pub formulaeOf : (number p q r : ℕ) (gs ts rows old : List ℕ) → Answer Formulae
+formulaeOf number p q r gs ts rows old =
+    follow (posed number p q r gs ts rows) λ x. formulaeFor x rows old
 
 -- the answer of the code
 abbrev pub seenFormulae : Reply → List ℕ → Answer Formulae
 seenFormulae (reply.Refused e) after = refused e
 seenFormulae (reply.All n) after = accepted (record { listed = n; whole = true; buffer = after })
 seenFormulae (reply.More n) after = accepted (record { listed = n; whole = false; buffer = after })
+
+-- "A refusal is its number, every other number of the reply 0."
+abbrev pub formulaeNumbers : Reply → List ℕ
+formulaeNumbers (reply.Refused e) = refusalNumbers 2 e
+formulaeNumbers (reply.All n) = answerNumbers (0 ∷ n ∷ [])
+formulaeNumbers (reply.More n) = answerNumbers (1 ∷ n ∷ [])
+
+abbrev pub formulaeValues : Formulae → List ℕ
+formulaeValues x = cond (x .whole) 0 1 ∷ x .listed ∷ []
 
 -- "any other refused call leaves its buffers unchanged"
 abbrev pub lentFormulae : Answer Formulae → List ℕ → List ℕ

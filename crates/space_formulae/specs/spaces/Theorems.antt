@@ -1,5 +1,5 @@
 -- What the formulae of a space are, in the words of document 01's demand: none missing, none twice. To be read from top to bottom.
---   FormulaeMeans, formulae-means   an accepted reply lists, in dictionary order, the first of exactly all sets of k independent generators that span the space
+--   FormulaeMeans, formulae-means, formulae-for-means   an accepted reply lists, in dictionary order, the first of exactly all sets of k independent generators that span the space
 --   RankFirst, rank-first           Rank's formula is the first of the list for the first entry's space
 --   entry-exactly                   the test behind refusal 10 holds exactly for the reduced bases of entries
 -- The definitions: formulaeOf, isEntry (Spaces), posed (problems), Solution (linear, Entry), Formula (linear, Formulae), formulaRecord (first_formula, Choice). Assumes nothing.
@@ -28,7 +28,7 @@ use Rattle.bases.specs.rows.Rows.{rowOf}
 use Rattle.bases.specs.rows.laws.Rows.{row-sum, row-only}
 use Rattle.catalogue.specs.listing.Listing.{flat, fitting}
 use Rattle.first_formula.specs.Choice.{formulaRecord}
-use Rattle.space_formulae.specs.spaces.Spaces.{Formulae, isEntry, recordSize, formulaeListing, formulaeOf}
+use Rattle.space_formulae.specs.spaces.Spaces.{Formulae, isEntry, recordSize, formulaeListing, formulaeFor, formulaeOf}
 use Rattle.space_formulae.specs.spaces.laws.Entry.{is-entry}
 
 pub entry-exactly : (gens targets rows : List ℕ) → (isEntry gens targets rows ≡ true) ↔ Solution word gens targets (length rows) rows
@@ -79,17 +79,23 @@ module _ (x : Problem) (rows : List ℕ) (E : Solution word (x .generators) (x .
       l : ℕ
       l = fitting (recordSize (x .targets) rows) c (length old)
 
+-- of a posed problem
+pub formulae-for-means : (x : Problem) (rows old : List ℕ) (f : Formulae) → formulaeFor x rows old ≡ accepted f
+    → (ltb (dim word (x .targets) + 6) (length rows) ≡ false) × FormulaeMeans (x .generators) (x .targets) rows old f
+unfolding formulaeFor
+formulae-for-means x rows old f e =
+    let j = refuse-inv 8 (ltb (dim word (x .targets) + 6) (length rows)) (refuse 10 (not (isEntry (x .generators) (x .targets) rows)) (accepted (formulaeListing x rows old))) f e in
+    let k = refuse-inv 10 (not (isEntry (x .generators) (x .targets) rows)) (accepted (formulaeListing x rows old)) f (j .1) in
+    let E = is-entry (x .generators) (x .targets) rows .0 (not-false (isEntry (x .generators) (x .targets) rows) (k .0)) in
+    (j .0, subst (FormulaeMeans (x .generators) (x .targets) rows old) (accepted-inj (formulaeListing x rows old) f (k .1)) (listing-means x rows E old))
+
 pub formulae-means : (number p q r : ℕ) (gs ts rows old : List ℕ) (f : Formulae) → formulaeOf number p q r gs ts rows old ≡ accepted f
     → (x : Problem) × (posed number p q r gs ts rows ≡ accepted x) × (ltb (dim word (x .targets) + 6) (length rows) ≡ false) × FormulaeMeans (x .generators) (x .targets) rows old f
 unfolding formulaeOf
 formulae-means number p q r gs ts rows old f e =
-    let i = follow-inv (posed number p q r gs ts rows)
-    (λ x. refuse 8 (ltb (dim word (x .targets) + 6) (length rows)) (refuse 10 (not (isEntry (x .generators) (x .targets) rows)) (accepted (formulaeListing x rows old)))) f e in
-    let x : Problem = i .0 in
-    let j = refuse-inv 8 (ltb (dim word (x .targets) + 6) (length rows)) (refuse 10 (not (isEntry (x .generators) (x .targets) rows)) (accepted (formulaeListing x rows old))) f (i .2) in
-    let k = refuse-inv 10 (not (isEntry (x .generators) (x .targets) rows)) (accepted (formulaeListing x rows old)) f (j .1) in
-    let E = is-entry (x .generators) (x .targets) rows .0 (not-false (isEntry (x .generators) (x .targets) rows) (k .0)) in
-    (x, i .1, j .0, subst (FormulaeMeans (x .generators) (x .targets) rows old) (accepted-inj (formulaeListing x rows old) f (k .1)) (listing-means x rows E old))
+    let i = follow-inv (posed number p q r gs ts rows) (λ x. formulaeFor x rows old) f e in
+    let m = formulae-for-means (i .0) rows old f (i .2) in
+    (i .0, i .1, m .0, m .1)
 
 -- Rank says the first formula of the first entry's space. The rows of that space are accepted, and the list for them begins with Rank's formula.
 pub record RankFirst (gens targets es : List ℕ) : Type 0 where

@@ -1,7 +1,6 @@
 -- Lines and fields.
 --   till-here, till-later, till-end, till-le   the search for the first c, byte by byte
 --   cut-some, cut-none                         the cut goes by that number
---   same-step .. same-only                     two byte strings, byte by byte
 --   name-cut .. field-is                       the cases of a line and of a field
 --   read-at, fits-at                           a reading of the part of s from u on
 --   Ends, Named, FieldAt                         what is known where a cut, a fixed line, a field was found
@@ -9,7 +8,7 @@
 use Prim.Native.Nat.{ℕ, suc, _+_, _-_, _<_, _≤_}
 use mathlib.Core.Path.{_≡_, refl, sym, ap, _∙_}
 use mathlib.Core.List.{List, [], _∷_}
-use mathlib.Core.Bool.{Bool, true, false, _&&_, cond}
+use mathlib.Core.Bool.{Bool, true, false, cond}
 use mathlib.Core.Option.{Option, none, some}
 use native.Mathlib.Omega.{arith}
 use native.Mathlib.Numerals.{add-one}
@@ -17,7 +16,7 @@ use lib.ListN.{length, getD, take, drop, length-drop}
 use lib.Seq.{drop-cons, drop-length, drop-drop, length-take-le}
 use lib.Dec.{eqb}
 use borrow.Rule.Slice.PartAt.{part-to-end}
-use borrow.Author.Tests.{eq-eqb, ne-eqb, eqb-true}
+use borrow.Author.Tests.{eq-eqb, ne-eqb}
 use Rattle.kinds.specs.Kinds.{same}
 use Rattle.text.specs.Reading.{_>>=_}
 use Rattle.text.specs.Numeral.{numeral}
@@ -74,39 +73,6 @@ cut-none c (b ∷ s) h = go (eqb b c) (cut-none c s) h
         → cond {A = Option (List ℕ × List ℕ)} t (some ([], s)) (cut c s >>= λ p. some (b ∷ p .0, p .1)) ≡ none
     go true ih l = absurd (omega arith)
     go false ih l = rw (ih (omega arith))
-
--- ---- the same bytes
-pub same-step : (i : ℕ) (s t : List ℕ) → i < length s → i < length t → getD s i 0 ≡ getD t i 0 → same (drop i s) (drop i t) ≡ same (drop (i + 1) s) (drop (i + 1) t)
-same-step i s t h g e = rw (add-one, drop-cons s i 0 h, drop-cons t i 0 g) (simp (eq-eqb (getD s i 0) (getD t i 0) e))
-
-pub same-stop : (i : ℕ) (s t : List ℕ) → i < length s → i < length t → (getD s i 0 ≡ getD t i 0 → ⊥) → same (drop i s) (drop i t) ≡ false
-same-stop i s t h g e = rw (drop-cons s i 0 h, drop-cons t i 0 g) (simp (ne-eqb (getD s i 0) (getD t i 0) e))
-
-pub same-end : (i : ℕ) (s t : List ℕ) → i ≡ length s → i ≡ length t → same (drop i s) (drop i t) ≡ true
-same-end i s t h g =
-    let a : drop i s ≡ [] = rw (h, drop-length s) in
-    let b : drop i t ≡ [] = rw (g, drop-length t) in
-    rw (a, b)
-
-pub same-length : (s t : List ℕ) → (length s ≡ length t → ⊥) → same s t ≡ false
-same-length [] [] h = absurd (h refl)
-same-length [] (y ∷ t) h = refl
-same-length (x ∷ s) [] h = refl
-same-length (x ∷ s) (y ∷ t) h = go (eqb x y) (same-length s t (λ e. h (ap suc e)))
-  where
-    go : (b : Bool) → same s t ≡ false → (b && same s t) ≡ false
-    go true e = e
-    go false e = refl
-
-pub same-only : (s t : List ℕ) → same s t ≡ true → s ≡ t
-same-only [] [] e = refl
-same-only [] (y ∷ t) e = absurd (let q : _≡_ {A = ℕ} 0 1 = cc in omega arith)
-same-only (x ∷ s) [] e = absurd (let q : _≡_ {A = ℕ} 0 1 = cc in omega arith)
-same-only (x ∷ s) (y ∷ t) e = go (eqb x y) refl (same-only s t) e
-  where
-    go : (a : Bool) → eqb x y ≡ a → (same s t ≡ true → s ≡ t) → (a && same s t) ≡ true → x ∷ s ≡ y ∷ t
-    go true h ih f = rw (eqb-true x y h, ih f)
-    go false h ih f = absurd (let q : _≡_ {A = ℕ} 0 1 = cc in omega arith)
 
 -- ---- the cut, by the code's answer
 pub cut-told : (c : ℕ) (s : List ℕ) (r t : Cut) → cut c s ≡ seenCut s r → r ≡ t → cut c s ≡ seenCut s t

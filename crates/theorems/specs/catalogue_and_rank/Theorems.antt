@@ -1,8 +1,8 @@
 -- What Catalogue and Rank say, in the words of document 01's demand: none missing, none twice, none fewer. To be read from top to bottom.
---   CatalogueMeans, catalogue-means   found counts every space of k dimensions that contains the targets and is spanned by generators, each once
+--   CatalogueMeans, catalogue-means, catalogue-of-means   found counts every space of k dimensions that contains the targets and is spanned by generators, each once
 --   catalogue-pinned                  no other reply means that
 --   look-up-means                     an entry asked for by its number is that entry's record
---   RankMeans, rank-means             r is the least number of generators that compute the targets, and the buffer holds a formula with r products
+--   RankMeans, rank-means, rank-of-means   r is the least number of generators that compute the targets, and the buffer holds a formula with r products
 -- The definitions: catalogue (Catalogue), rank (Rank), posed (problems), entries and Solution (linear, Entry), Rank and Computes (linear, Rank). Assumes nothing.
 use mathlib.Core.Path.{_≡_, refl, sym, ap, ap₂, _∙_, subst}
 use mathlib.Core.Logic.{_⊎_, inl, inr, _↔_}
@@ -39,8 +39,8 @@ use Rattle.catalogue.specs.listing.laws.Placed.{entry-placed}
 use Rattle.catalogue.specs.listing.Listing.{records, flat, fitting}
 use Rattle.first_formula.specs.Choice.{formulaRecord}
 use Rattle.rank.specs.fewest.Fewest.{Ranking, is, above, beyond, written, ranking}
-use Rattle.catalogue.specs.Catalogue.{Catalogued, entryListing, catalogue}
-use Rattle.rank.specs.Rank.{rank}
+use Rattle.catalogue.specs.Catalogue.{Catalogued, entryListing, catalogueOf, catalogue}
+use Rattle.rank.specs.Rank.{rankFor, rank}
 use Rattle.records.specs.Length.{recordLength}
 use Rattle.records.specs.lookup.Lookup.{lookup}
 use Rattle.records.specs.lookup.laws.Lookup.{not-shown, held}
@@ -185,18 +185,23 @@ catalogue-pinned gens targets k old c d M N =
         ∙ ap₂ (λ (s : ℕ) (l : List (List ℕ)). flat (take s (map (entryRecord gens targets) l)) ++ drop (s * recordLength (dim word targets) k) old) shown extensions
         ∙ sym (N .buffer)
 
+-- of a posed problem
+pub catalogue-of-means : (x : Problem) (k : ℕ) (old : List ℕ) (c : Catalogued) → catalogueOf x k old ≡ accepted c
+    → (k ≤ dim word (x .targets) + 6) × CatalogueMeans (x .generators) (x .targets) k old c
+unfolding catalogueOf
+catalogue-of-means x k old c e =
+    let j = refuse-inv 8 (ltb (dim word (x .targets) + 6) k) (accepted (entryListing x k old)) c e in (
+      ltb-false (dim word (x .targets) + 6) k (j .0),
+      subst (CatalogueMeans (x .generators) (x .targets) k old) (accepted-inj (entryListing x k old) c (j .1)) (listing-means (x .generators) (x .targets) k old),
+    )
+
 pub catalogue-means : (number p q r k : ℕ) (gs ts old : List ℕ) (c : Catalogued) → catalogue number p q r k gs ts old ≡ accepted c
     → (x : Problem) × (posed number p q r gs ts [] ≡ accepted x) × (k ≤ dim word (x .targets) + 6) × CatalogueMeans (x .generators) (x .targets) k old c
 unfolding catalogue
 catalogue-means number p q r k gs ts old c e =
-    let i = follow-inv (posed number p q r gs ts []) (λ x. refuse 8 (ltb (dim word (x .targets) + 6) k) (accepted (entryListing x k old))) c e in
-    let j = refuse-inv 8 (ltb (dim word (i .0 .targets) + 6) k) (accepted (entryListing (i .0) k old)) c (i .2) in (
-      i .0,
-      i .1,
-      ltb-false (dim word (i .0 .targets) + 6) k (j .0),
-      subst (CatalogueMeans (i .0 .generators) (i .0 .targets) k old)
-          (accepted-inj (entryListing (i .0) k old) c (j .1)) (listing-means (i .0 .generators) (i .0 .targets) k old),
-    )
+    let i = follow-inv (posed number p q r gs ts []) (λ x. catalogueOf x k old) c e in
+    let m = catalogue-of-means (i .0) k old c (i .2) in
+    (i .0, i .1, m .0, m .1)
 
 -- ---- the look-up
 -- a part of n words from i times n on, where there are n words, is within w
@@ -293,10 +298,17 @@ module _ (gens targets old : List ℕ) where
             beyond-exactly = (λ p. rank-beyond word gens targets .0 q, λ h. refl);
           })
 
+-- of a posed problem
+pub rank-of-means : (x : Problem) (k : ℕ) (old : List ℕ) (a : Ranking) → rankFor x k old ≡ accepted a → (k ≡ 0) × RankMeans (x .generators) (x .targets) old a
+unfolding rankFor
+rank-of-means x k old a e =
+    let j = refuse-inv 8 (not (eqb k 0)) (ranking (x .generators) (x .targets) old) a e in
+    (eqb-true k 0 (not-false (eqb k 0) (j .0)), ranking-means (x .generators) (x .targets) old a (j .1))
+
 pub rank-means : (number p q r k : ℕ) (gs ts old : List ℕ) (a : Ranking) → rank number p q r k gs ts old ≡ accepted a
     → (x : Problem) × (posed number p q r gs ts [] ≡ accepted x) × (k ≡ 0) × RankMeans (x .generators) (x .targets) old a
 unfolding rank
 rank-means number p q r k gs ts old a e =
-    let i = follow-inv (posed number p q r gs ts []) (λ x. refuse 8 (not (eqb k 0)) (ranking (x .generators) (x .targets) old)) a e in
-    let j = refuse-inv 8 (not (eqb k 0)) (ranking (i .0 .generators) (i .0 .targets) old) a (i .2) in
-    (i .0, i .1, eqb-true k 0 (not-false (eqb k 0) (j .0)), ranking-means (i .0 .generators) (i .0 .targets) old a (j .1))
+    let i = follow-inv (posed number p q r gs ts []) (λ x. rankFor x k old) a e in
+    let m = rank-of-means (i .0) k old a (i .2) in
+    (i .0, i .1, m .0, m .1)

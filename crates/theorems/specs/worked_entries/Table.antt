@@ -22,18 +22,18 @@ use Rattle.kinds.specs.Refusal.{Answer, accepted}
 use Rattle.words.specs.Masks.{wide, zeroIn}
 use Rattle.forms.specs.products.Product.{formOf, productForm}
 use Rattle.forms.specs.Weight.{weight}
-use Rattle.maps.specs.Target.{pair, targetForm}
+use Rattle.maps.specs.Target.{pairFor, targetForm}
 use Rattle.maps.specs.Generators.{generatorCount, firstMask, secondMask, generatorForm, listOf, generatorForms, countOf}
 use Rattle.words.specs.lists.Lists.{repeats}
-use Rattle.problems.specs.Problem.{targetForms, listed, mapped, posed}
+use Rattle.problems.specs.Problem.{targetForms, listed, mapped, shaped, posed}
 use Rattle.bases.specs.rows.Rows.{rowOf}
 use Rattle.first_formula.specs.Choice.{formulaRecord}
 use Rattle.catalogue.specs.listing.Listing.{records, flat, fitting}
 use Rattle.rank.specs.fewest.Fewest.{Ranking, is, above, beyond, ranking}
-use Rattle.catalogue.specs.Catalogue.{Catalogued, entryListing, catalogue}
-use Rattle.rank.specs.Rank.{rank}
+use Rattle.catalogue.specs.Catalogue.{Catalogued, entryListing, catalogueOf, catalogue}
+use Rattle.rank.specs.Rank.{rankFor, rank}
 use Rattle.space_formulae.specs.spaces.Spaces as space
-use Rattle.space_formulae.specs.spaces.Spaces.{isEntry, formulaeOf}
+use Rattle.space_formulae.specs.spaces.Spaces.{isEntry, formulaeFor, formulaeOf}
 use Rattle.formula_check.specs.Formula.{firstWrong, passed, admit, lengths, check}
 use Rattle.formula_check.specs.sums.Sums.{productForms, addersOf}
 use Rattle.forms.specs.Row.{rowForm}
@@ -109,14 +109,14 @@ table = threeProducts ∷ karatsuba ∷ fourProducts ∷ fiveProducts ∷ right 
 -- The Catalogue's lines
 held-catalogues : LineHolds threeProducts × LineHolds fourProducts × LineHolds fiveProducts × LineHolds listOne × LineHolds listTwo
 unfolding bit digitsOf top clear reduce norm place insert inserts basisOf dim risingLists anyOf only firstOfEach sameVec sameBasis inside generator
-    chosen generatorsIn fits space entries kindNumbered within polySizes listSizes wide zeroIn formOf productForm pair targetForm generatorCount
-    firstMask secondMask generatorForm listOf generatorForms countOf targetForms repeats listed mapped posed records flat fitting entryListing
-    catalogue
+    chosen generatorsIn fits space entries kindNumbered within polySizes listSizes wide zeroIn formOf productForm pairFor targetForm generatorCount
+    firstMask secondMask generatorForm listOf generatorForms countOf targetForms repeats listed mapped shaped posed records flat fitting entryListing
+    catalogueOf catalogue
 held-catalogues = (refl, refl, refl, refl, refl)
 
 -- Check's lines
 held-checks : LineHolds right × LineHolds wrongRow
-unfolding bit kindNumbered within polySizes wide zeroIn formOf productForm weight pair targetForm productForms rowForm firstWrong addersOf lengths
+unfolding bit kindNumbered within polySizes wide zeroIn formOf productForm weight pairFor targetForm productForms rowForm firstWrong addersOf lengths
     passed admit check
 held-checks = (refl, refl)
 
@@ -124,16 +124,16 @@ held-checks = (refl, refl)
 held-ranks : LineHolds far × LineHolds nothing × LineHolds one
 unfolding bit digitsOf top clear reduce norm place insert inserts basisOf dim risingLists anyOf only firstOfEach sameVec sameBasis inside generator
     chosen generatorsIn fits space entries formulae leastFrom missed fewest kindNumbered within polySizes listSizes wide zeroIn formOf
-    productForm pair targetForm generatorCount firstMask secondMask generatorForm listOf generatorForms countOf targetForms repeats listed
-    mapped posed rowOf formulaRecord ranking rank
+    productForm pairFor targetForm generatorCount firstMask secondMask generatorForm listOf generatorForms countOf targetForms repeats listed
+    mapped shaped posed rowOf formulaRecord ranking rankFor rank
 held-ranks = (refl, refl, refl)
 
 -- The lines of formulae
 held-formulae : LineHolds karatsuba × LineHolds listFormulae
 unfolding bit digitsOf top clear reduce norm place insert inserts basisOf dim risingLists anyOf only sameVec sameBasis inside generator chosen
-    generatorsIn fits formulae kindNumbered within polySizes listSizes wide zeroIn formOf productForm pair targetForm generatorCount firstMask
-    secondMask generatorForm listOf generatorForms countOf targetForms repeats listed mapped posed rowOf formulaRecord flat fitting isEntry
-    space.formulaeListing formulaeOf
+    generatorsIn fits formulae kindNumbered within polySizes listSizes wide zeroIn formOf productForm pairFor targetForm generatorCount firstMask
+    secondMask generatorForm listOf generatorForms countOf targetForms repeats listed mapped shaped posed rowOf formulaRecord flat fitting isEntry
+    space.formulaeListing formulaeFor formulaeOf
 held-formulae = (refl, refl)
 
 pub worked : (l : WorkedLine) → List·Memᴰ l table → LineHolds l

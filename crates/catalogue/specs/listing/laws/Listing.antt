@@ -24,9 +24,10 @@ use Rattle.catalogue.specs.walk.Walk.{search}
 use Rattle.catalogue.specs.walk.laws.Search.{search-is}
 use Rattle.catalogue.specs.declared.listing.Listing.{Listing}
 use Rattle.catalogue.specs.listing.Walked.{start}
-use Rattle.catalogue.specs.listing.Listing.{records, flat, fitting, SearchAsked, Listed}
+use Rattle.catalogue.specs.listing.Listing.{records, flat, fitting, Listed}
 use Rattle.catalogue.specs.listing.laws.Run.{fitting-le, fitting-none, afterAll, run-limit}
 use Rattle.records.specs.Length.{recordLength}
+use Rattle.kinds.specs.Limits.{mostGenerators}
 
 pub record-length : (gens targets : List ℕ) (k : ℕ) (r : List ℕ) → List·Memᴰ r (records gens targets k) → length r ≡ recordLength (dim word targets) k
 unfolding records
@@ -38,10 +39,11 @@ pub records-length : (gens targets : List ℕ) (k : ℕ) → length (records gen
 unfolding records
 records-length gens targets k = length-map (entries word gens targets k) (λ es. es ++ space word gens targets es)
 
-pub found-all : (gens targets : List ℕ) (k : ℕ) (before after : List ℕ) (r : Listing) → SearchAsked gens targets k → Listed gens targets k (2 ^ 64 - 1) before after r
+pub found-all : (gens targets : List ℕ) (k : ℕ) (before after : List ℕ) (r : Listing) → length gens ≤ mostGenerators → k ≤ dim word targets + 6
+    → Listed gens targets k (2 ^ 64 - 1) before after r
     → r .found ≡ length (entries word gens targets k)
-found-all gens targets k before after r A L =
-    let b : length (entries word gens targets k) < 2 ^ 64 = entries-count word gens targets k (A .small) (A .near) in
+found-all gens targets k before after r s h L =
+    let b : length (entries word gens targets k) < 2 ^ 64 = entries-count word gens targets k s h in
     omega (arith, b, L .found)
 
 pub listed-below : (gens targets : List ℕ) (k l limit : ℕ) (buffer : List ℕ) → l ≡ dim word targets → k < l

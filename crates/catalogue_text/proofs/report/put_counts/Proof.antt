@@ -14,7 +14,7 @@ returns c =
     let put-field = far .before .before .before .put-field in
     let put-field2 = c .before .before .before .before .before .before .before .before .before .before .before .put-field2 in
     let put-field3 = c .before .before .before .before .before .before .before .put-field3 in
-    counts-put (args .kind) _ _ _ _ _ _ _ _ _ _ _ _ _ _ _ _ _ _ _ _ (put-bytes .ensures) (put-sizes .ensures) (put-field .ensures)
+    counts-put (args .shape) _ _ _ _ _ _ _ _ _ _ _ _ _ _ _ _ _ (put-bytes .ensures) (put-sizes .ensures) (put-field .ensures)
     (put-field2 .ensures) (put-field3 .ensures) (c .before .before .put-bytes2 .ensures)
 
 pub put-counts-spec : {M : Type 1} → statement M

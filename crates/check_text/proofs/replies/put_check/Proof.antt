@@ -22,7 +22,8 @@ returns c =
     let v = f .before .before .before .before in
     let s = v .before .before .before .before in
     let n = s .before .before .before .before in
-    check-put (n .before .before .before .before .args .kind) _ _ _ _ (n .before .before .before .before .args .v) _ _ _ _ _ _ _ _ _ _ _ _ (n .put-bytes .ensures) (s .put-sizes .ensures)
+    let args = n .before .before .before .before .args in
+    check-put (args .shape) _ (args .v) _ _ _ _ _ _ _ _ _ _ _ _ (n .put-bytes .ensures) (s .put-sizes .ensures)
     (v .put-verdict .ensures) (f .put-field .ensures) (c .before .before .put-bytes2 .ensures)
 
 pub put-check-spec : {M : Type 1} → statement M

@@ -17,12 +17,13 @@ use borrow.Author.Tests.{eq-eqb, ne-eqb, eqb-true, not-false}
 use Rattle.linear.specs.Bit.{bit, xorB}
 use Rattle.linear.specs.Word.{scaleW}
 use Rattle.kinds.specs.Kinds.{kindNumbered, isList}
-use Rattle.kinds.specs.Sizes.{sizes}
+use Rattle.kinds.specs.Sizes.{shapeOf, sizes}
 use Rattle.kinds.specs.laws.Sizes.{sizes-bounds}
 use Rattle.kinds.specs.Refusal.{accepted}
 use Rattle.kinds.specs.laws.Refusal.{accepted-inj, follow-inv, neither}
 use Rattle.words.specs.Masks.{wide, zeroIn}
 use Rattle.kinds.specs.declared.Kind.{Kind}
+use Rattle.kinds.specs.declared.Shape.{Shape}
 use Rattle.kinds.specs.declared.Kind.the-variants as kind
 use Rattle.forms.specs.products.Product.{productForm}
 use Rattle.forms.specs.products.laws.Product.{product-below}
@@ -62,10 +63,10 @@ row-below n m (x ∷ xs) (y ∷ ys) row k =
     (scale-below (n * m) (productForm n m x y) (bit row k) (product-below n m x y)) (row-below n m xs ys row (suc k))
 
 -- ---- the first wrong output
-module _ (kd : Kind) (p q r n m : ℕ) (fs : List ℕ) where
+module _ (shape : Shape) (n m : ℕ) (fs : List ℕ) where
   -- row i, of rows whose first is for output t, gives the target
   abbrev Same : List ℕ → ℕ → ℕ → Type 0
-  Same rows t i = rowForm fs (getD rows i 0) 0 ≡ targetForm kd p q r n m (t + i)
+  Same rows t i = rowForm fs (getD rows i 0) 0 ≡ targetForm shape n m (t + i)
 
   abbrev First : List ℕ → ℕ → ℕ → Type 0
   First rows t i = (i < length rows) × (Same rows t i → ⊥) × ((j : ℕ) → j < i → Same rows t j)
@@ -75,20 +76,20 @@ module _ (kd : Kind) (p q r n m : ℕ) (fs : List ℕ) where
   Found (some u) rows t = (i : ℕ) × (u ≡ t + i) × First rows t i
 
   shift : (rows : List ℕ) (row t i : ℕ) → Same rows (suc t) i → Same (row ∷ rows) t (suc i)
-  shift rows row t i e = e ∙ ap (targetForm kd p q r n m) (suc-add t i ∙ sym (add-suc t i))
+  shift rows row t i e = e ∙ ap (targetForm shape n m) (suc-add t i ∙ sym (add-suc t i))
 
   back : (rows : List ℕ) (row t i : ℕ) → Same (row ∷ rows) t (suc i) → Same rows (suc t) i
-  back rows row t i e = e ∙ ap (targetForm kd p q r n m) (add-suc t i ∙ sym (suc-add t i))
+  back rows row t i e = e ∙ ap (targetForm shape n m) (add-suc t i ∙ sym (suc-add t i))
 
-  head : (rows : List ℕ) (row t : ℕ) → rowForm fs row 0 ≡ targetForm kd p q r n m t → Same (row ∷ rows) t 0
-  head rows row t e = e ∙ ap (targetForm kd p q r n m) (sym (add-zero t))
+  head : (rows : List ℕ) (row t : ℕ) → rowForm fs row 0 ≡ targetForm shape n m t → Same (row ∷ rows) t 0
+  head rows row t e = e ∙ ap (targetForm shape n m) (sym (add-zero t))
 
-  pub first-found : (rows : List ℕ) (t : ℕ) → Found (firstWrong kd p q r n m fs rows t) rows t
+  pub first-found : (rows : List ℕ) (t : ℕ) → Found (firstWrong shape n m fs rows t) rows t
   unfolding firstWrong
   first-found [] t = λ i h. absurd (omega arith)
-  first-found (row ∷ rows) t = go (ℕ-discrete (rowForm fs row 0) (targetForm kd p q r n m t)) (first-found rows (suc t))
+  first-found (row ∷ rows) t = go (ℕ-discrete (rowForm fs row 0) (targetForm shape n m t)) (first-found rows (suc t))
     where
-      later : (o : Option ℕ) → rowForm fs row 0 ≡ targetForm kd p q r n m t → Found o rows (suc t) → Found o (row ∷ rows) t
+      later : (o : Option ℕ) → rowForm fs row 0 ≡ targetForm shape n m t → Found o rows (suc t) → Found o (row ∷ rows) t
       later none e f = all
         where
           all : (i : ℕ) → i < suc (length rows) → Same (row ∷ rows) t i
@@ -104,52 +105,52 @@ module _ (kd : Kind) (p q r n m : ℕ) (fs : List ℕ) where
           all zero h = head rows row t e
           all (suc j) h = shift rows row t j (f .2 .2 j (omega arith))
 
-      go : Dec (rowForm fs row 0 ≡ targetForm kd p q r n m t) → Found (firstWrong kd p q r n m fs rows (suc t)) rows (suc t)
-          → Found (cond (eqb (rowForm fs row 0) (targetForm kd p q r n m t)) (firstWrong kd p q r n m fs rows (suc t)) (some t)) (row ∷ rows) t
+      go : Dec (rowForm fs row 0 ≡ targetForm shape n m t) → Found (firstWrong shape n m fs rows (suc t)) rows (suc t)
+          → Found (cond (eqb (rowForm fs row 0) (targetForm shape n m t)) (firstWrong shape n m fs rows (suc t)) (some t)) (row ∷ rows) t
       go (yes e) ih =
-          subst (λ (b : Bool). Found (cond b (firstWrong kd p q r n m fs rows (suc t)) (some t)) (row ∷ rows) t) (sym (eq-eqb (rowForm fs row 0) (targetForm kd p q r n m t) e))
-          (later (firstWrong kd p q r n m fs rows (suc t)) e ih)
+          subst (λ (b : Bool). Found (cond b (firstWrong shape n m fs rows (suc t)) (some t)) (row ∷ rows) t) (sym (eq-eqb (rowForm fs row 0) (targetForm shape n m t) e))
+          (later (firstWrong shape n m fs rows (suc t)) e ih)
       go (no d) ih =
-          subst (λ (b : Bool). Found (cond b (firstWrong kd p q r n m fs rows (suc t)) (some t)) (row ∷ rows) t) (sym (ne-eqb (rowForm fs row 0) (targetForm kd p q r n m t) d))
-          (0, sym (add-zero t), (omega arith, (λ s. d (s ∙ ap (targetForm kd p q r n m) (add-zero t))), λ j h. absurd (omega arith)))
+          subst (λ (b : Bool). Found (cond b (firstWrong shape n m fs rows (suc t)) (some t)) (row ∷ rows) t) (sym (ne-eqb (rowForm fs row 0) (targetForm shape n m t) d))
+          (0, sym (add-zero t), (omega arith, (λ s. d (s ∙ ap (targetForm shape n m) (add-zero t))), λ j h. absurd (omega arith)))
 
 -- ---- forms that are equal, and outputs that agree
-module _ (kd : Kind) (p q r n m : ℕ) (xs ys rows : List ℕ) (sized : sizes kd p q r ≡ some (n, m, length rows)) (map : kd ≢ kind.List) where
+module _ (shape : Shape) (n m : ℕ) (xs ys rows : List ℕ) (sized : sizes shape ≡ some (n, m, length rows)) (map : isList (shape .kind) ≡ false) where
   fs : List ℕ
   fs = productForms n m xs ys
 
   room : n * m ≤ 64
-  room = sizes-bounds kd p q r (n, m, length rows) sized .fits .product
+  room = sizes-bounds shape (n, m, length rows) sized .fits .product
 
   abbrev Equal : ℕ → Type 0
-  Equal t = rowForm (productForms n m xs ys) (getD rows t 0) 0 ≡ targetForm kd p q r n m t
+  Equal t = rowForm (productForms n m xs ys) (getD rows t 0) 0 ≡ targetForm shape n m t
 
   -- the values of the two forms are what the row gives and what the map has
   given-here : (t a b : ℕ) → value n m (rowForm (productForms n m xs ys) (getD rows t 0) 0) (bit a) (bit b) ≡ gives n m xs ys (getD rows t 0) a b
   given-here t a b = row-value n m room xs ys (getD rows t 0) 0 (bit a) (bit b)
 
-  wanted-here : (t : ℕ) → t < length rows → (a b : ℕ) → value n m (targetForm kd p q r n m t) (bit a) (bit b) ≡ output kd p q r (bit a) (bit b) t
-  wanted-here t h a b = target-value kd p q r n m (length rows) sized t h map (bit a) (bit b)
+  wanted-here : (t : ℕ) → t < length rows → (a b : ℕ) → value n m (targetForm shape n m t) (bit a) (bit b) ≡ output shape (bit a) (bit b) t
+  wanted-here t h a b = target-value shape n m (length rows) sized t h map (bit a) (bit b)
 
-  pub equal-agrees : (t : ℕ) → t < length rows → Equal t → Agrees kd p q r n m xs ys rows t
+  pub equal-agrees : (t : ℕ) → t < length rows → Equal t → Agrees shape n m xs ys rows t
   equal-agrees t h e a b ha hb = sym (given-here t a b) ∙ ap (λ (f : ℕ). value n m f (bit a) (bit b)) e ∙ wanted-here t h a b
 
-  pub agrees-equal : (t : ℕ) → t < length rows → Agrees kd p q r n m xs ys rows t → Equal t
+  pub agrees-equal : (t : ℕ) → t < length rows → Agrees shape n m xs ys rows t → Equal t
   agrees-equal t h e =
-      value-equal n m (rowForm (productForms n m xs ys) (getD rows t 0) 0) (targetForm kd p q r n m t) (row-below n m xs ys (getD rows t 0) 0) (target-below kd p q r n m t)
+      value-equal n m (rowForm (productForms n m xs ys) (getD rows t 0) 0) (targetForm shape n m t) (row-below n m xs ys (getD rows t 0) 0) (target-below shape n m t)
       (λ a b ha hb. given-here t a b ∙ e a b ha hb ∙ sym (wanted-here t h a b))
 
   abbrev Differs : ℕ → Type 0
-  Differs t = (a : ℕ) × (b : ℕ) × (a < 2 ^ n) × (b < 2 ^ m) × (gives n m xs ys (getD rows t 0) a b ≢ output kd p q r (bit a) (bit b) t)
+  Differs t = (a : ℕ) × (b : ℕ) × (a < 2 ^ n) × (b < 2 ^ m) × (gives n m xs ys (getD rows t 0) a b ≢ output shape (bit a) (bit b) t)
 
   unequal-differs : (t : ℕ) → t < length rows → (Equal t → ⊥) → Differs t
   unequal-differs t h d =
-      let x = value-differs n m (rowForm (productForms n m xs ys) (getD rows t 0) 0) (targetForm kd p q r n m t) (row-below n m xs ys (getD rows t 0) 0) (target-below kd p q r n m t) d in
+      let x = value-differs n m (rowForm (productForms n m xs ys) (getD rows t 0) 0) (targetForm shape n m t) (row-below n m xs ys (getD rows t 0) 0) (target-below shape n m t) d in
       (x .0, x .1, x .2, x .3, λ e. x .4 (given-here t (x .0) (x .1) ∙ e ∙ sym (wanted-here t h (x .0) (x .1))))
 
   -- ---- the said
   abbrev said : Option ℕ
-  said = firstWrong kd p q r n m (productForms n m xs ys) rows 0
+  said = firstWrong shape n m (productForms n m xs ys) rows 0
 
   -- what was found, from output 0 on
   abbrev Verdict : Option ℕ → Type 0
@@ -159,31 +160,31 @@ module _ (kd : Kind) (p q r n m : ℕ) (xs ys rows : List ℕ) (sized : sizes kd
   zero-plus : (t : ℕ) → 0 + t ≡ t
   zero-plus t = omega arith
 
-  from-zero : (o : Option ℕ) → Found kd p q r n m (productForms n m xs ys) o rows 0 → Verdict o
-  from-zero none f = λ t h. f t h ∙ ap (targetForm kd p q r n m) (zero-plus t)
+  from-zero : (o : Option ℕ) → Found shape n m (productForms n m xs ys) o rows 0 → Verdict o
+  from-zero none f = λ t h. f t h ∙ ap (targetForm shape n m) (zero-plus t)
   from-zero (some u) f =
       let e : u ≡ f .0 = f .1 ∙ zero-plus (f .0) in
       subst (λ (x : ℕ). (x < length rows) × (Equal x → ⊥) × ((s : ℕ) → s < x → Equal s)) (sym e)
-      (f .2 .0, (λ g. f .2 .1 (g ∙ ap (targetForm kd p q r n m) (sym (zero-plus (f .0))))), λ s h. f .2 .2 s h ∙ ap (targetForm kd p q r n m) (zero-plus s))
+      (f .2 .0, (λ g. f .2 .1 (g ∙ ap (targetForm shape n m) (sym (zero-plus (f .0))))), λ s h. f .2 .2 s h ∙ ap (targetForm shape n m) (zero-plus s))
 
   found : Verdict said
-  found = from-zero said (first-found kd p q r n m (productForms n m xs ys) rows 0)
+  found = from-zero said (first-found shape n m (productForms n m xs ys) rows 0)
 
   differ-no : (t : ℕ) → t < length rows → Differs t → Equal t → ⊥
   differ-no t h d e = d .4 (equal-agrees t h e (d .0) (d .1) (d .2) (d .3))
 
-  none-right : (o : Option ℕ) → Verdict o → (o ≡ none) ↔ Right kd p q r n m xs ys rows
+  none-right : (o : Option ℕ) → Verdict o → (o ≡ none) ↔ Right shape n m xs ys rows
   none-right none f = (λ e t h. equal-agrees t h (f t h), λ g. refl)
   none-right (some t) f = (λ e. absurd (let z : _≡_ {A = ℕ} 0 1 = cc in omega arith), λ g. absurd (f .1 (agrees-equal t (f .0) (g t (f .0)))))
 
-  some-wrong : (o : Option ℕ) → Verdict o → (t : ℕ) → (o ≡ some t) ↔ FirstDiffers kd p q r n m xs ys rows t
+  some-wrong : (o : Option ℕ) → Verdict o → (t : ℕ) → (o ≡ some t) ↔ FirstDiffers shape n m xs ys rows t
   some-wrong none f t = (
     λ e. absurd (let z : _≡_ {A = ℕ} 0 1 = cc in omega arith),
     λ g. absurd (differ-no t (g .there) (g .differs) (f t (g .there))),
   )
   some-wrong (some u) f t = (λ e. to (let z : u ≡ t = cc in z), λ g. ap some (same g (decLt u t) (decLt t u)))
     where
-      here : FirstDiffers kd p q r n m xs ys rows u
+      here : FirstDiffers shape n m xs ys rows u
       here =
           record {
             there = f .0;
@@ -191,29 +192,25 @@ module _ (kd : Kind) (p q r n m : ℕ) (xs ys rows : List ℕ) (sized : sizes kd
             first = λ s h. equal-agrees s (let l = f .0 in omega arith) (f .2 s h);
           }
 
-      to : u ≡ t → FirstDiffers kd p q r n m xs ys rows t
-      to z = subst (FirstDiffers kd p q r n m xs ys rows) z here
+      to : u ≡ t → FirstDiffers shape n m xs ys rows t
+      to z = subst (FirstDiffers shape n m xs ys rows) z here
 
-      same : FirstDiffers kd p q r n m xs ys rows t → Dec (u < t) → Dec (t < u) → u ≡ t
+      same : FirstDiffers shape n m xs ys rows t → Dec (u < t) → Dec (t < u) → u ≡ t
       same g (yes l) b = absurd (f .1 (agrees-equal u (f .0) (g .first u l)))
       same g (no l) (yes b) = absurd (differ-no t (g .there) (g .differs) (f .2 t b))
       same g (no l) (no b) = omega arith
 
-  pub right-iff : (said ≡ none) ↔ Right kd p q r n m xs ys rows
+  pub right-iff : (said ≡ none) ↔ Right shape n m xs ys rows
   right-iff = none-right said found
 
-  pub wrong-iff : (t : ℕ) → (said ≡ some t) ↔ FirstDiffers kd p q r n m xs ys rows t
+  pub wrong-iff : (t : ℕ) → (said ≡ some t) ↔ FirstDiffers shape n m xs ys rows t
   wrong-iff = some-wrong said found
 
 -- ---- the verdict on an admitted formula
-not-list : (kd : Kind) → isList kd ≡ false → kd ≢ kind.List
-not-list kd h z = absurd (true≢false (ap isList (sym z) ∙ h))
-
-pub verdict-means : (f : Admitted) → sizes (f .kind) (f .p) (f .q) (f .r) ≡ some (f .n, f .m, length (f .rows)) → isList (f .kind) ≡ false
+pub verdict-means : (f : Admitted) → sizes (f .shape) ≡ some (f .n, f .m, length (f .rows)) → isList (f .shape .kind) ≡ false
     → ((verdict f .0 ≡ none) ↔ RightFormula f) × ((t : ℕ) → (verdict f .0 ≡ some t) ↔ FormulaDiffers f t)
 verdict-means f S h =
-    let N = not-list (f .kind) h in
-    (right-iff (f .kind) (f .p) (f .q) (f .r) (f .n) (f .m) (f .firsts) (f .seconds) (f .rows) S N, wrong-iff (f .kind) (f .p) (f .q) (f .r) (f .n) (f .m) (f .firsts) (f .seconds) (f .rows) S N)
+    (right-iff (f .shape) (f .n) (f .m) (f .firsts) (f .seconds) (f .rows) S h, wrong-iff (f .shape) (f .n) (f .m) (f .firsts) (f .seconds) (f .rows) S h)
 
 -- ---- an accepted reply
 pub lengths-inv : (k u : ℕ) (xs ys rows : List ℕ) → lengths k u xs ys rows ≡ false → (length xs ≡ k) × (length ys ≡ k) × (length rows ≡ u)
@@ -237,13 +234,14 @@ check-means number p q r k xs ys rows v w e =
     let i = follow-inv (admit (kindNumbered number) p q r k (listsHanded k xs ys rows)) (λ f. accepted (verdict f)) (v, w) e in
     let A = admit-inv (kindNumbered number) p q r k (listsHanded k xs ys rows) (i .0) (i .1) in
     let kd = A .kd in
+    let shape = shapeOf kd p q r in
     let H = handed-inv k (A .u) xs ys rows (A .l) (A .listed) in
     let l = lengths-inv k (A .u) xs ys rows (H .0) in
-    let T : sizes kd p q r ≡ some (A .n, A .m, length rows) = A .sized ∙ ap (λ (u : ℕ). some (A .n, A .m, u)) (sym (l .2)) in
-    let F : formulaOf kd p q r (A .n) (A .m) xs ys rows ≡ i .0 = ap (λ (l : Lists). formulaOf kd p q r (A .n) (A .m) (l .0) (l .1) (l .2)) (H .1) ∙ A .is in
-    let N = not-list kd (A .is-map) in
-    let J : verdict (formulaOf kd p q r (A .n) (A .m) xs ys rows) ≡ (v, w) = ap verdict F ∙ accepted-inj (verdict (i .0)) (v, w) (i .2) in
-    let E : firstWrong kd p q r (A .n) (A .m) (productForms (A .n) (A .m) xs ys) rows 0 ≡ v = ap (λ (x : Option ℕ × ℕ). x .0) J in
+    let T : sizes shape ≡ some (A .n, A .m, length rows) = A .sized ∙ ap (λ (u : ℕ). some (A .n, A .m, u)) (sym (l .2)) in
+    let F : formulaOf shape (A .n) (A .m) xs ys rows ≡ i .0 = ap (λ (l : Lists). formulaOf shape (A .n) (A .m) (l .0) (l .1) (l .2)) (H .1) ∙ A .is in
+    let N = A .is-map in
+    let J : verdict (formulaOf shape (A .n) (A .m) xs ys rows) ≡ (v, w) = ap verdict F ∙ accepted-inj (verdict (i .0)) (v, w) (i .2) in
+    let E : firstWrong shape (A .n) (A .m) (productForms (A .n) (A .m) xs ys) rows 0 ≡ v = ap (λ (x : Option ℕ × ℕ). x .0) J in
     record {
       kd = kd;
       n = A .n;
@@ -253,7 +251,7 @@ check-means number p q r k xs ys rows v w e =
       sized = T;
       products = l .0;
       pairs = l .1;
-      right = subst (λ (o : Option ℕ). (o ≡ none) ↔ Right kd p q r (A .n) (A .m) xs ys rows) E (right-iff kd p q r (A .n) (A .m) xs ys rows T N);
-      wrong = λ t. subst (λ (o : Option ℕ). (o ≡ some t) ↔ FirstDiffers kd p q r (A .n) (A .m) xs ys rows t) E (wrong-iff kd p q r (A .n) (A .m) xs ys rows T N t);
+      right = subst (λ (o : Option ℕ). (o ≡ none) ↔ Right shape (A .n) (A .m) xs ys rows) E (right-iff shape (A .n) (A .m) xs ys rows T N);
+      wrong = λ t. subst (λ (o : Option ℕ). (o ≡ some t) ↔ FirstDiffers shape (A .n) (A .m) xs ys rows t) E (wrong-iff shape (A .n) (A .m) xs ys rows T N t);
       cost = sym (ap (λ (x : Option ℕ × ℕ). x .1) J);
     }

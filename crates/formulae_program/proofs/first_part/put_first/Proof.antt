@@ -12,9 +12,11 @@ returns c =
 
 returns-2 : tie.Need-returns-2
 returns-2 c =
-    let start = c .before .before .before .before .before .before .before .before in
-    let said = c .before .before .before .before .before .said2 in
-    first-listed (start .args .said) (said .given .0 .0) (start .args .out .now) _ _ (said .given .1) (start .pre) (c .before .before .put-head .ensures)
+    let args = c .before .before .before .before .before .before .before .before .before .args in
+    let pre = c .before .before .before .before .before .before .before .before .before .pre in
+    let said2 = c .before .before .before .before .before .before .said2 in
+    let said = said2 in
+    first-listed (args .said) (said .given .0 .0) (args .out .now) _ _ (said .given .1) (pre) (c .before .before .put-head .ensures)
 
 pub put-first-spec : {M : Type 1} → statement M
 put-first-spec =

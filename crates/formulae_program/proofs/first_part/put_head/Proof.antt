@@ -8,7 +8,7 @@ returns : tie.Need-returns
 returns c =
     let args = c .before .before .before .before .before .before .before .before .before .before .args in
     let counts = c .before .before .before .before .before .before .before .put-counts in
-    head-put (args .kind) (args .p) (args .q) (args .r) (args .k) (args .ell) (args .found) (args .shown) _ _ _ _ _ (counts .ensures)
+    head-put (args .shape) (args .k) (args .ell) (args .found) (args .shown) _ _ _ _ _ (counts .ensures)
     (c .before .before .put-bytes .ensures)
 
 pub put-head-spec : {M : Type 1} → statement M

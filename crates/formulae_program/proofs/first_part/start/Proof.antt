@@ -1,59 +1,69 @@
 -- `formulae_program::first_part::start` meets its contract. Assumes nothing.
-use Prim.Native.Nat.{_≤_}
-use mathlib.Core.Path.{_≡_, refl, sym}
+use mathlib.Core.Path.{sym, _∙_}
 use native.Mathlib.Omega.{arith}
 use borrow.Author.Needs.{needs}
-use lib.ListN.{length}
-use lib.Seq.{length-take-le}
-use Rattle.problem_files.specs.declared.judging.Purpose.the-variants as purpose
-use Rattle.problem_files.specs.inputs.laws.Input.{input-given, input-room}
-use Rattle.formulae_program.specs.first_part.laws.Start.{start-refused, start-listed}
+use Rattle.problem_files.specs.inputs.laws.Input.{posed-few}
+use Rattle.formulae_program.specs.first_part.laws.Start.{start-short, start-refused, start-listed, short-not}
 use Rattle.formulae_program.proofs.first_part.start.Statement.{statement}
 use Rattle.formulae_program.proofs.first_part.start.Tie as tie
 
--- the forms handed in are within the buffers
-room : (c : tie.After-handed2) →
-    let read = c .before .before .before .before .before .before .before .before .before .read-input .last .1 .1 in
-    (c .before .handed .result ≤ length (read .0)) × (c .handed2 .result ≤ length (read .1 .0))
-room c =
-    let args = c .before .before .before .before .before .before .before .before .before .before .before .before .before .before .before .before .args in
-    let read = c .before .before .before .before .before .before .before .before .before .read-input in
-    let I = input-given purpose.Catalogue (args .file .now) (args .gs .now) (args .ts .now) _ _ (read .result) _ _ refl refl (read .ensures) in
-    let m = input-room _ _ _ _ _ _ _ I _ _ _ _ _ (c .before .before .before .kind .given .1) in
-    (omega (arith, m .0, c .before .handed .ensures, read .kept .1 .1 .0), omega (arith, m .1, c .handed2 .ensures, read .kept .1 .1 .1 .0))
-
--- the buffers keep their lengths
-read-kept : (c : tie.After-read-input) →
-    let args = c .before .before .before .before .before .before .before .args in
-    (length (c .read-input .last .1 .1 .0) ≡ length (args .gs .now)) × (length (c .read-input .last .1 .1 .1 .0) ≡ length (args .ts .now))
-read-kept c = (c .read-input .kept .1 .1 .0, c .read-input .kept .1 .1 .1 .0)
+plan-problem-requires : tie.Need-plan-problem-requires
+plan-problem-requires c κs =
+    let far = c .before .before .before .before .before .before .before .before .before .before .before .before in
+    let pose-input = far .pose-input in
+    let shape = c .before .before .before .before .before .before .before .before .shape in
+    let first-words = c .before .before .before .before .before .first-words in
+    let too-short = far .before .before .before .before .too-short in
+    let first-words2 = c .before .before .before .first-words2 in
+    let if1 = far .before .before .before .if1 in
+    let args = far .before .before .before .before .before .before .before .before .before .args in
+    let h = sym (too-short .ensures) ∙ if1 .left in
+    let r = short-not _ _ h in (
+      posed-few (args .file .now) _ _ (pose-input .ensures) (shape .given .1) (first-words .ensures)
+          (first-words2 .ensures),
+      r .0,
+      r .1,
+    )
 
 returns : tie.Need-returns
 returns c =
+    let too-short = c .before .before .before .before .before .before .before .before .before .too-short in
+    let if1 = c .before .before .before .before .before .before .before .before .if1 in
+    let clear = c .before .before .before .before .before .before .clear in
     let args = c .before .before .before .before .before .before .before .before .before .before .before .before .before .before .args in
-    let read = c .before .before .before .before .before .before .before .read-input in
-    start-refused (args .file .now) (args .gs .now) (args .ts .now) (args .listing .now) (read .result) _ _ (read .ensures) _ (c .before .e .given .1)
+    start-short (args .file .now) (args .gs .now) (args .ts .now) (args .listing .now) _ _ (sym (too-short .ensures) ∙ if1 .taken) (clear .ensures)
+    (c .before .before .clear2 .ensures)
 
 returns-2 : tie.Need-returns-2
 returns-2 c =
-    let far = c .before .before .before .before .before .before .before .before .before .before .before .before .before .before .before in
-    let args = far .before .before .before .before .before .before .before .args in
-    let read = far .read-input in
-    let kind = c .before .before .before .before .before .before .before .before .before .kind in
-    let handed = c .before .before .before .before .before .before .before .handed in
-    let handed2 = c .before .before .before .before .before .before .handed2 in
-    let plan = c .before .before .plan-problem in
-    start-listed (args .file .now) (args .gs .now) (args .ts .now) (args .listing .now) (read .result) _ _ (read .ensures) (kind .given .0 .0)
-    (kind .given .0 .1 .0) (kind .given .0 .1 .1 .0) (kind .given .0 .1 .1 .1 .0) (kind .given .0 .1 .1 .1 .1 .0) (kind .given .1) (handed .result)
-    (handed2 .result) (handed .ensures) (handed2 .ensures) (plan .result) _ (plan .ensures)
+    let far = c .before .before .before .before .before .before .before .before .before .before .before .before in
+    let the-e = c .before .before .before .before .before .before .before .before .before .e in
+    let clear3 = c .before .before .before .before .before .before .clear3 in
+    let too-short = far .before .before .before .before .before .too-short in
+    let if1 = far .before .before .before .before .if1 in
+    let args = far .before .before .before .before .before .before .before .before .before .before .args in
+    start-refused (args .file .now) (args .gs .now) (args .ts .now) (args .listing .now) (sym (too-short .ensures) ∙ if1 .left)
+    (far .before .pose-input .ensures) _ _
+    (the-e .given .1) (clear3 .ensures) (c .before .before .clear4 .ensures)
+
+returns-3 : tie.Need-returns-3
+returns-3 c =
+    let far = c .before .before .before .before .before .before .before .before .before .before .before .before in
+    let first-words = far .first-words in
+    let too-short = far .before .before .before .before .before .before .before .before .before .before .before .too-short in
+    let first-words2 = c .before .before .before .before .before .before .before .before .before .before .first-words2 in
+    let if1 = far .before .before .before .before .before .before .before .before .before .before .if1 in
+    let pose-input = far .before .before .before .before .before .before .before .pose-input in
+    let plan-problem = c .before .before .before .before .before .before .plan-problem in
+    let shape = far .before .before .before .shape in
+    let args = far .before .before .before .before .before .before .before .before .before .before .before .before .before .before .before .before .args in
+    start-listed (args .file .now) (args .gs .now) (args .ts .now) (args .listing .now) (sym (too-short .ensures) ∙ if1 .left) (pose-input .ensures)
+    (shape .given .1) (first-words .ensures) (first-words2 .ensures) (plan-problem .result) _ _ _ (plan-problem .ensures)
 
 pub start-spec : {M : Type 1} → statement M
 start-spec =
     tie.close
-    (tie.spec (λ c κs. search needs) (λ c. search needs) (λ c. search needs) (λ c κs. search needs) (λ c κs. search needs) (λ c. room c .0)
-    (λ c. sym (length-take-le _ _ (room (c .before) .0))) (λ c. room (c .before) .1) (λ c. sym (length-take-le _ _ (room (c .before .before) .1)))
-    (λ c κs. search needs) (λ c. read-kept (c .before .before .before .before .before .before .before) .0)
-    (λ c. read-kept (c .before .before .before .before .before .before .before) .1) returns
-    (λ c. read-kept (c .before .before .before .before .before .before .before .before .before .before .before .before .before .before .before) .0)
-    (λ c. read-kept (c .before .before .before .before .before .before .before .before .before .before .before .before .before .before .before) .1)
-    (λ c. c .before .before .plan-problem .kept .1 .1 .1 .1 .1 .1 .1 .0) returns-2)
+    (tie.spec (λ c κs. search needs) (λ c κs. search needs) (λ c κs. search needs) (λ c. search needs) (λ c. search needs) returns (λ c. search needs)
+    (λ c. search needs) (λ c κs. search needs) (λ c. search needs) (λ c κs. search needs) (λ c κs. search needs) (λ c. search needs)
+    (λ c. search needs) (λ c κs. search needs) (λ c. search needs) (λ c κs. search needs) plan-problem-requires (λ c. search needs)
+    (λ c. search needs) returns-2 (λ c. search needs) (λ c. search needs) (λ c. search needs) returns-3)

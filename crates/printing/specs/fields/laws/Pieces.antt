@@ -1,6 +1,5 @@
 -- A text written piece by piece.
 --   piece-then         two pieces, one after the other, are one
---   name-short         a kind's name has at most 5 bytes
 --   number-short       a number has at most 20
 --   field-put .. refused-put   each text, from its pieces
 --   whole              what the page holds up to the text's end is the text
@@ -15,9 +14,8 @@ use native.Mathlib.Numerals.{add-one}
 use lib.ListN.{length, set, take, drop, length-append}
 use lib.Seq.{sets, take-at, length-take-le}
 use borrow.Author.Tests.{lt-ltb, le-ltb}
-use Rattle.kinds.specs.declared.Kind.{Kind}
-use Rattle.kinds.specs.declared.Kind.the-variants as kind
-use Rattle.kinds.specs.Kinds.{nameOf}
+use Rattle.kinds.specs.declared.Shape.{Shape}
+use Rattle.kinds.specs.Kinds.{nameOf, longestName, name-short}
 use Rattle.words.specs.laws.Buffers.{filled-sets}
 use Rattle.printing.specs.Print.{numberText}
 use Rattle.printing.specs.laws.Print.{sets-append, printed-fits}
@@ -42,13 +40,6 @@ piece-then {d} {d₁} {d₂} {xs} {ys} {at} {e} {f} {m} {n} a b =
       most = omega (arith, a .most, b .most, length-append xs ys);
     }
 
-pub name-short : (k : Kind) → length (nameOf k) ≤ 5
-name-short kind.Poly = omega arith
-name-short kind.Short = omega arith
-name-short kind.Circ = omega arith
-name-short kind.Mat = omega arith
-name-short kind.List = omega arith
-
 pub number-short : (n : ℕ) → length (numberText n) ≤ 20
 number-short n = printed-fits 10 20 n
 
@@ -61,12 +52,13 @@ field-put n at e d d₁ d₂ h p =
       most = omega (arith, number-short n);
     }
 
-pub sizes-put : (kind : Kind) (p q r k at a b c d e : ℕ) (o o₁ o₂ o₃ o₄ o₅ : List ℕ) → Put o at (nameOf kind) o₁ a
-    → Piece o₁ a (fieldText p) 21 o₂ b → Piece o₂ b (fieldText q) 21 o₃ c → Piece o₃ c (fieldText r) 21 o₄ d → Piece o₄ d (fieldText k) 21 o₅ e
-    → Piece o at (sizesText kind p q r k) 89 o₅ e
+pub sizes-put : (shape : Shape) (k at a b c d e : ℕ) (o o₁ o₂ o₃ o₄ o₅ : List ℕ) → Put o at (nameOf (shape .kind)) o₁ a
+    → Piece o₁ a (fieldText (shape .p)) 21 o₂ b → Piece o₂ b (fieldText (shape .q)) 21 o₃ c → Piece o₃ c (fieldText (shape .r)) 21 o₄ d
+    → Piece o₄ d (fieldText k) 21 o₅ e → Piece o at (sizesText shape k) 89 o₅ e
 unfolding sizesText
-sizes-put kind p q r k at a b c d e o o₁ o₂ o₃ o₄ o₅ h hp hq hr hk =
-    piece-then (piece-then (piece-then (piece-then (piece o at (nameOf kind) 5 o₁ a h (name-short kind)) hp) hq) hr) hk
+sizes-put shape k at a b c d e o o₁ o₂ o₃ o₄ o₅ h hp hq hr hk =
+    let name = piece o at (nameOf (shape .kind)) longestName o₁ a h (name-short (shape .kind)) in
+    piece-then (piece-then (piece-then (piece-then name hp) hq) hr) hk
 
 pub refused-put : (n a b e : ℕ) (o o₁ o₂ o₃ : List ℕ) → Put o 0 refusedName o₁ a → Put o₁ a (numberText n) o₂ b → Put o₂ b (LF ∷ []) o₃ e → Piece o 0 (refusedText n) 29 o₃ e
 unfolding refusedText

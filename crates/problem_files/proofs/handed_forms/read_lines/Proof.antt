@@ -9,8 +9,7 @@ list-lines-requires : tie.Need-list-lines-requires
 list-lines-requires c κs =
     let args = c .before .before .before .before .before .before .before .args in
     let pre = c .before .before .before .before .before .before .before .pre in
-    let is-list = c .before .before .before .is-list in
-    ready-list (args .kind) (args .r) (args .g .now) (args .t .now) pre (sym (is-list .ensures) ∙ c .before .before .if1 .taken)
+    ready-list (args .shape) (args .g .now) (args .t .now) pre (sym (c .before .before .before .is-list .ensures) ∙ c .before .before .if1 .taken)
 
 returns : tie.Need-returns
 returns c =
@@ -18,17 +17,16 @@ returns c =
     let is-list = c .before .before .before .before .before .before .before .before .is-list in
     let if1 = c .before .before .before .before .before .before .before .if1 in
     let list-lines = c .before .before .before .before .list-lines in
-    body-list (args .kind) (args .q) (args .r) (args .n) (args .m) (args .s .now) (list-lines .last .1 .1 .1 .0) (list-lines .last .1 .1 .1 .1 .0)
-    (list-lines .result) (sym (is-list .ensures) ∙ if1 .taken) (list-lines .ensures)
+    body-list (args .shape) (args .n) (args .m) (args .s .now) (list-lines .last .1 .1 .1 .0) (list-lines .last .1 .1 .1 .1 .0) (list-lines .result)
+    (sym (is-list .ensures) ∙ if1 .taken) (list-lines .ensures)
 
 returns-2 : tie.Need-returns-2
 returns-2 c =
     let args = c .before .before .before .before .before .before .args in
-    body-map (args .kind) (args .q) (args .r) (args .n) (args .m) (args .s .now) (args .g .now) (args .t .now) (c .map-lines .result)
+    body-map (args .shape) (args .n) (args .m) (args .s .now) (args .g .now) (args .t .now) (c .map-lines .result)
     (sym (c .before .before .is-list .ensures) ∙ c .before .if1 .left) (c .map-lines .ensures)
 
 pub read-lines-spec : {M : Type 1} → statement M
 read-lines-spec =
     tie.close
-    (tie.spec (λ c κs. search needs) list-lines-requires (λ c. c .before .before .before .before .list-lines .kept .1 .1 .1 .0)
-    (λ c. c .before .before .before .before .list-lines .kept .1 .1 .1 .1 .0) returns (λ c κs. search needs) returns-2)
+    (tie.spec (λ c κs. search needs) list-lines-requires (λ c. search needs) (λ c. search needs) returns (λ c κs. search needs) returns-2)

@@ -12,8 +12,7 @@ use native.Mathlib.Omega.{arith}
 use lib.ListN.{length, take}
 use lib.Dec.{ltb}
 use borrow.Author.Tests.{lt-ltb, le-ltb, ltb-false}
-use Rattle.kinds.specs.declared.Kind.{Kind}
-use Rattle.kinds.specs.declared.Kind.the-variants as kind
+use Rattle.kinds.specs.declared.Shape.{Shape}
 use Rattle.kinds.specs.Sizes.{sizes, given}
 use Rattle.kinds.specs.Refusal.{refused, accepted, need}
 use Rattle.kinds.specs.laws.Refusal.{refuse-inv}
@@ -26,9 +25,9 @@ use Rattle.problem_files.specs.list_lines.Roles.{listBody}
 use Rattle.problem_files.specs.handed_forms.ProblemLines.{handed, listLines, mapLines, bodyOf, FormRoom}
 use Rattle.kinds.specs.Limits.{mostGenerators, mostTargets}
 
-pub ready-list : (kd : Kind) (r : ℕ) (g t : List ℕ) → FormRoom kd r g t → isList kd ≡ true → (mostGenerators ≤ length g) × (r ≤ length t)
-ready-list kd r g t R e =
-    let f : r ≤ mostTargets = subst (λ (b : Bool). cond b r 0 ≤ mostTargets) e (R .few) in
+pub ready-list : (shape : Shape) (g t : List ℕ) → FormRoom shape g t → isList (shape .kind) ≡ true → (mostGenerators ≤ length g) × (shape .r ≤ length t)
+ready-list shape g t R e =
+    let f : shape .r ≤ mostTargets = subst (λ (b : Bool). cond b (shape .r) 0 ≤ mostTargets) e (R .few) in
     let h = R .targets in
     (R .generators, omega arith)
 
@@ -59,11 +58,16 @@ module _ (n m : ℕ) (s : List ℕ) where
   unfolding mapLines
   map-none c e h = rw (e, ended-yes s 0 h)
 
-module _ (kd : Kind) (q r n m : ℕ) (s g t : List ℕ) (e : ℕ) where
-  pub body-list : isList kd ≡ true → listLines q r s ≡ refusedBy e (take q g, take r t) → bodyOf kd q r n m s ≡ refusedBy e (take (handed kd q) g, take (handed kd r) t)
+-- the forms handed in, as they stand at the start of g and t
+abbrev pub handedIn : Shape → (g t : List ℕ) → List ℕ × List ℕ
+handedIn shape g t = (take (handed (shape .kind) (shape .q)) g, take (handed (shape .kind) (shape .r)) t)
+
+module _ (shape : Shape) (n m : ℕ) (s g t : List ℕ) (e : ℕ) where
+  pub body-list : isList (shape .kind) ≡ true → listLines (shape .q) (shape .r) s ≡ refusedBy e (take (shape .q) g, take (shape .r) t)
+      → bodyOf shape n m s ≡ refusedBy e (handedIn shape g t)
   body-list k h = rw k h
 
-  pub body-map : isList kd ≡ false → mapLines n m s ≡ refusedBy e ([], []) → bodyOf kd q r n m s ≡ refusedBy e (take (handed kd q) g, take (handed kd r) t)
+  pub body-map : isList (shape .kind) ≡ false → mapLines n m s ≡ refusedBy e ([], []) → bodyOf shape n m s ≡ refusedBy e (handedIn shape g t)
   body-map k h = rw k h
 
 -- what a list's lines that are read say of its sizes
@@ -71,16 +75,16 @@ list-few : (q r : ℕ) (s : List ℕ) (x : List ℕ × List ℕ) → listLines q
 unfolding listLines
 list-few q r s x e = ltb-false mostGenerators q (refuse-inv 4 (ltb mostGenerators q) (need 5 (listBody q r s) accepted) x e .0)
 
-pub body-few : (kd : Kind) (q r n m : ℕ) (s : List ℕ) (x : List ℕ × List ℕ) → bodyOf kd q r n m s ≡ accepted x → handed kd q ≤ mostGenerators
-body-few kd q r n m s x = go (isList kd)
+pub body-few : (shape : Shape) (n m : ℕ) (s : List ℕ) (x : List ℕ × List ℕ) → bodyOf shape n m s ≡ accepted x → handed (shape .kind) (shape .q) ≤ mostGenerators
+body-few shape n m s x = go (isList (shape .kind))
   where
-    go : (b : Bool) → cond b (listLines q r s) (mapLines n m s) ≡ accepted x → cond b q 0 ≤ mostGenerators
-    go true e = list-few q r s x e
+    go : (b : Bool) → cond b (listLines (shape .q) (shape .r) s) (mapLines n m s) ≡ accepted x → cond b (shape .q) 0 ≤ mostGenerators
+    go true e = list-few (shape .q) (shape .r) s x e
     go false e = omega arith
 
-pub body-targets : (kd : Kind) (p q r : ℕ) (z : ℕ × ℕ × ℕ) → sizes kd p q r ≡ some z → handed kd r ≤ mostTargets
-body-targets kind.Poly p q r z e = omega arith
-body-targets kind.Short p q r z e = omega arith
-body-targets kind.Circ p q r z e = omega arith
-body-targets kind.Mat p q r z e = omega arith
-body-targets kind.List p q r z e = list-targets p q r kind.List z refl e .1
+pub body-targets : (shape : Shape) (z : ℕ × ℕ × ℕ) → sizes shape ≡ some z → handed (shape .kind) (shape .r) ≤ mostTargets
+body-targets shape z e = go (isList (shape .kind)) refl
+  where
+    go : (b : Bool) → isList (shape .kind) ≡ b → cond b (shape .r) 0 ≤ mostTargets
+    go true k = list-targets shape z k e .1
+    go false k = omega arith

@@ -1,8 +1,7 @@
 -- The least number of dimensions with an entry, and its first formula.
---   Asking     == what `least` asks
---   Looking    == no number of dimensions below k has an entry
---   LeastFound == what `least` says: no entry, or the number of dimensions and the rows of the first entry in its record
---   Finishing  == w has the rows of the first entry for the least number of dimensions, at most 64
+--   Looking    == no number of dimensions below k has an entry, whatever targets have the basis b
+--   looking-start, looking-next, looking-found, looking-none   the loop of `least_entry`
+--   finishing, too-short, finished, says-above, says-beyond    what follows
 -- Assumes nothing.
 use mathlib.Core.Path.{_≡_, refl, sym, ap, ap₂, _∙_, subst}
 use mathlib.Core.Logic.{_≢_}
@@ -16,6 +15,8 @@ use lib.ListN.{length, take, drop, length-append, length-map}
 use lib.Seq.{take-append-seam, drop-append-seam, paste}
 use lib.Dec.{ltb}
 use borrow.Author.Tests.{lt-ltb, le-ltb}
+use Rattle.records.specs.lookup.Lookup.{lookup}
+use Rattle.records.specs.lookup.laws.Lookup.{record-parts}
 use Rattle.kinds.specs.Refusal.{refused, accepted, refuse}
 use Rattle.words.specs.Buffers.{filled}
 use Rattle.linear.specs.Basis.{basisOf, dim}
@@ -30,9 +31,9 @@ use Rattle.linear.specs.laws.Rank.{solution-within}
 use Rattle.linear.specs.laws.Formulae.{first-some, free}
 use Rattle.linear.specs.laws.Fewest.{least-some, fewest-entry, fewest-none, fewest-missed}
 use Rattle.bases.specs.declared.Basis.{Basis}
-use Rattle.bases.specs.Basis.{rowsOf, Holds, rows-length}
+use Rattle.bases.specs.Basis.{rowsOf, Valid, Holds, rows-length, based-dim}
 use Rattle.catalogue.specs.declared.listing.Listing.{Listing}
-use Rattle.catalogue.specs.listing.Listing.{records, flat, fitting, Listed}
+use Rattle.catalogue.specs.listing.Listing.{records, flat, fitting, Listed, ListedFrom}
 use Rattle.catalogue.specs.listing.laws.Listing.{record-length}
 use Rattle.first_formula.specs.declared.Choice.{Choice}
 use Rattle.first_formula.specs.Choice.{numbersOf, formsOf, Chose, recordOf, chose-record, formulaRecord}
@@ -40,35 +41,22 @@ use Rattle.first_formula.specs.laws.Writing.{numbers-length, written-first}
 use Rattle.bases.specs.rows.Rows.{rowOf}
 use Rattle.rank.specs.declared.fewest.Least.{Least as Answered}
 use Rattle.rank.specs.declared.fewest.Least.the-variants as answered
-use Rattle.rank.specs.fewest.Fewest.{is, above, beyond, written, ranking, Asking, Here, LeastFound, Finishing}
+use Rattle.rank.specs.fewest.Fewest.{is, above, beyond, written, ranking, Asking, Here, LeastFound, LeastFrom, Finishing}
 use Rattle.records.specs.Length.{recordLength}
 
 module _ (gens targets : List ℕ) where
-  pub record Looking (ell k : ℕ) (buffer : List ℕ) : Type 0 where
-    pub from : ell ≤ k
-    pub upto : k ≤ ell + 7
-    pub room : length buffer ≡ 128
-    pub is : leastFrom word gens targets 7 ell ≡ leastFrom word gens targets (ell + 7 - k) k
-
   -- ---- looking
-  pub looking-start : (ell : ℕ) (buffer : List ℕ) → Asking gens targets ell buffer → Looking ell ell buffer
-  looking-start ell buffer A = record { from = omega arith; upto = omega arith; room = A .room; is = ap (λ (n : ℕ). leastFrom word gens targets n ell) (let e : 7 ≡ ell + 7 - ell = omega arith in e) }
-
   step : (ell k : ℕ) → k < ell + 7 → leastFrom word gens targets (ell + 7 - k) k ≡ orElse (first (entries word gens targets k)) (leastFrom word gens targets (ell + 7 - (k + 1)) (k + 1))
   unfolding leastFrom
   step ell k h =
       ap (λ (n : ℕ). leastFrom word gens targets n k) (let e : ell + 7 - k ≡ suc (ell + 7 - (k + 1)) = omega arith in e)
       ∙ ap (λ (j : ℕ). orElse (first (entries word gens targets k)) (leastFrom word gens targets (ell + 7 - (k + 1)) j)) (let e : suc k ≡ k + 1 = omega arith in e)
 
-  pub looking-next : (ell k : ℕ) (before after last : List ℕ) (r : Listing) → Looking ell k before → k < ell + 7 → Listed gens targets k 1 before after r → r .found ≡ 0 → length last ≡ length before
-      → Looking ell (k + 1) last
-  looking-next ell k before after last r L h D z m =
-      record {
-        from = (let a = L .from in omega arith);
-        upto = omega arith;
-        room = m ∙ L .room;
-        is = L .is ∙ step ell k h ∙ ap (λ (o : Option (List ℕ)). orElse o (leastFrom word gens targets (ell + 7 - (k + 1)) (k + 1))) (empty (entries word gens targets k) refl);
-      }
+  not-here : (ell k : ℕ) (before after : List ℕ) (r : Listing) → k < ell + 7 → Listed gens targets k 1 before after r → r .found ≡ 0
+      → leastFrom word gens targets (ell + 7 - k) k ≡ leastFrom word gens targets (ell + 7 - (k + 1)) (k + 1)
+  not-here ell k before after r h D z =
+      step ell k h
+      ∙ ap (λ (o : Option (List ℕ)). orElse o (leastFrom word gens targets (ell + 7 - (k + 1)) (k + 1))) (empty (entries word gens targets k) refl)
     where
       empty : (l : List (List ℕ)) → entries word gens targets k ≡ l → first (entries word gens targets k) ≡ none
       empty [] e = ap first e
@@ -124,28 +112,29 @@ module _ (gens targets : List ℕ) where
           head : flat (take 1 (records gens targets k)) ≡ es ++ space word gens targets es
           head = unfold flat in ap (λ (x : List (List ℕ)). flat (take 1 x)) listed ∙ append-nil (es ++ space word gens targets es)
 
-  pub looking-found : (ell k : ℕ) (before after : List ℕ) (r : Listing) → Looking ell k before → ell ≡ dim word targets → ell ≤ 64 → k < ell + 7 → Listed gens targets k 1 before after r → r .found ≢ 0
+  here : (ell k : ℕ) (before after : List ℕ) (r : Listing) → ell ≡ dim word targets → ell ≤ 64 → ell ≤ k → k < ell + 7 → length before ≡ 128
+      → leastFrom word gens targets 7 ell ≡ leastFrom word gens targets (ell + 7 - k) k → Listed gens targets k 1 before after r → r .found ≢ 0
       → length after ≡ length before → Here gens targets ell k after
-  looking-found ell k before after r L d w h D n m =
+  here ell k before after r d w f h s l D n m =
       record {
         entry = F .entry;
-        least = L .is ∙ step ell k h ∙ ap (λ (o : Option (List ℕ)). orElse o (leastFrom word gens targets (ell + 7 - (k + 1)) (k + 1))) (F .is);
+        least = l ∙ step ell k h ∙ ap (λ (o : Option (List ℕ)). orElse o (leastFrom word gens targets (ell + 7 - (k + 1)) (k + 1))) (F .is);
         rows = ap (λ (b : List ℕ). take k (drop (k - ell) b)) (F .buffer) ∙ cut (F .entry) (space word gens targets (F .entry)) (drop (recordLength (dim word targets) k) before) (F .numbers ∙ ap (λ (x : ℕ). k - x) (sym d)) (F .size);
-        from = L .from;
+        from = f;
         near = omega arith;
-        room = m ∙ L .room;
+        room = m ∙ s;
       }
     where
       F : FirstEntry k before after
-      F = first-entry k before after r D n (let a = L .from in let b = L .room in omega arith)
+      F = first-entry k before after r D n (omega arith)
 
       cut : (es W rest : List ℕ) → length es ≡ k - ell → length W ≡ k → take k (drop (k - ell) ((es ++ W) ++ rest)) ≡ W
       cut es W rest a b =
           ap (λ (x : List ℕ). take k (drop (k - ell) x)) (append-assoc es W rest) ∙ ap (λ (x : ℕ). take k (drop x (es ++ (W ++ rest)))) (sym a)
           ∙ ap (take k) (drop-append-seam es (W ++ rest)) ∙ ap (λ (x : ℕ). take x (W ++ rest)) (sym b) ∙ take-append-seam W rest
 
-  pub looking-none : (ell k : ℕ) (buffer : List ℕ) → Looking ell k buffer → ell + 7 ≤ k → leastFrom word gens targets 7 ell ≡ none
-  looking-none ell k buffer L h = L .is ∙ ap (λ (n : ℕ). leastFrom word gens targets n k) (let e : ell + 7 - k ≡ 0 = omega arith in e) ∙ (unfold leastFrom in refl)
+  nowhere : (ell k : ℕ) → ell + 7 ≤ k → leastFrom word gens targets (ell + 7 - k) k ≡ none
+  nowhere ell k h = ap (λ (n : ℕ). leastFrom word gens targets n k) (let e : ell + 7 - k ≡ 0 = omega arith in e) ∙ (unfold leastFrom in refl)
 
   -- ---- finishing
   -- at the first entry of the least number of dimensions
@@ -225,6 +214,46 @@ module _ (gens targets : List ℕ) where
   pub found-here : (ell : ℕ) (r : Answered) (k : ℕ) (buffer : List ℕ) → LeastFound gens targets ell r buffer → r ≡ answered.Is k → Here gens targets ell k buffer
   found-here ell r k buffer F e = subst (λ (x : Answered). LeastFound gens targets ell x buffer) e F
 
+-- ---- the loop over the numbers of dimensions
+module _ (gens : List ℕ) (b : Basis) where
+  pub record Looking (k : ℕ) (buffer : List ℕ) : Type 0 where
+    pub from : b .len ≤ k
+    pub upto : k ≤ b .len + 7
+    pub room : length buffer ≡ 128
+    pub is : (targets : List ℕ) → Holds (basisOf word targets) b
+        → leastFrom word gens targets 7 (b .len) ≡ leastFrom word gens targets (b .len + 7 - k) k
+
+  pub looking-start : (buffer : List ℕ) → Asking gens b buffer → Looking (b .len) buffer
+  looking-start buffer A =
+      record {
+        from = omega arith;
+        upto = omega arith;
+        room = A .room;
+        is = λ targets B. ap (λ (n : ℕ). leastFrom word gens targets n (b .len)) (let e : 7 ≡ b .len + 7 - b .len = omega arith in e);
+      }
+
+  pub looking-next : (k : ℕ) (before after last : List ℕ) (r : Listing) → Looking k before → k < b .len + 7 → ListedFrom gens b k 1 before after r
+      → r .found ≡ 0 → length last ≡ length before → Looking (k + 1) last
+  looking-next k before after last r L h D z m =
+      record {
+        from = (let a = L .from in omega arith);
+        upto = omega arith;
+        room = m ∙ L .room;
+        is = λ targets B. L .is targets B ∙ not-here gens targets (b .len) k before after r h (D targets B) z;
+      }
+
+  pub looking-found : (k : ℕ) (before after : List ℕ) (r : Listing) → Looking k before → Valid b → k < b .len + 7 → ListedFrom gens b k 1 before after r
+      → r .found ≢ 0 → length after ≡ length before → LeastFrom gens b (answered.Is k) after
+  looking-found k before after r L v h D n m targets B =
+      here gens targets (b .len) k before after r (based-dim targets b B) (v .room) (L .from) h (L .room) (L .is targets B) (D targets B) n m
+
+  pub looking-none : (k : ℕ) (buffer : List ℕ) → Looking k buffer → b .len + 7 ≤ k → LeastFrom gens b answered.No buffer
+  looking-none k buffer L h targets B = L .is targets B ∙ nowhere gens targets (b .len) k h
+
 -- the part of a slice from d to d + k
-pub part-is : (d k : ℕ) (buffer : List ℕ) → take (d + k - d) (drop d buffer) ≡ take k (drop d buffer)
-part-is d k buffer = ap (λ (n : ℕ). take n (drop d buffer)) (let z : d + k - d ≡ k = omega arith in z)
+-- the rows of the first record, looked up
+pub first-rows : (ell k : ℕ) (buffer w : List ℕ) → w ≡ drop (k - ell) (lookup ell k 1 0 buffer) → ell ≤ k → (k - ell) + k ≤ length buffer
+    → w ≡ take k (drop (k - ell) buffer)
+first-rows ell k buffer w e h r =
+    e ∙ record-parts ell k 1 0 buffer (omega arith) h (omega arith) .1
+    ∙ ap (λ (n : ℕ). take k (drop n buffer)) (let z : 0 * ((k - ell) + k) + (k - ell) ≡ k - ell = omega arith in z)

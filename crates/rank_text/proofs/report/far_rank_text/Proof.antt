@@ -10,7 +10,7 @@ returns c =
     let args = c .before .before .before .before .before .before .before .before .before .before .before .args in
     let put-rank-head = c .before .before .before .before .before .before .before .before .put-rank-head in
     let if1 = c .before .before .before .before .before .if1 in
-    far-said (args .kind) (args .p) (args .q) (args .r) (args .k) (args .ell) _ true _ _ _ _ _ (if1 .taken) (put-rank-head .ensures)
+    far-said (args .shape) (args .k) (args .ell) _ true _ _ _ _ _ (if1 .taken) (put-rank-head .ensures)
     (c .before .before .put-bytes .ensures)
 
 returns-2 : tie.Need-returns-2
@@ -18,7 +18,7 @@ returns-2 c =
     let args = c .before .before .before .before .before .before .before .before .before .before .before .args in
     let put-rank-head = c .before .before .before .before .before .before .before .before .put-rank-head in
     let if1 = c .before .before .before .before .before .if1 in
-    far-said (args .kind) (args .p) (args .q) (args .r) (args .k) (args .ell) _ false _ _ _ _ _ (if1 .left) (put-rank-head .ensures)
+    far-said (args .shape) (args .k) (args .ell) _ false _ _ _ _ _ (if1 .left) (put-rank-head .ensures)
     (c .before .before .put-bytes2 .ensures)
 
 pub far-rank-text-spec : {M : Type 1} → statement M

@@ -10,7 +10,7 @@ returns c =
     let args = far .before .before .args in
     let put-bytes = c .before .before .before .before .before .before .before .before .before .before .put-bytes in
     let put-sizes = c .before .before .before .before .before .before .put-sizes in
-    head-put (args .kind) _ _ _ _ _ _ _ _ _ _ _ _ (put-bytes .ensures) (put-sizes .ensures) (c .before .before .put-field .ensures)
+    head-put (args .shape) _ _ _ _ _ _ _ _ _ (put-bytes .ensures) (put-sizes .ensures) (c .before .before .put-field .ensures)
 
 pub put-rank-head-spec : {M : Type 1} → statement M
 put-rank-head-spec =

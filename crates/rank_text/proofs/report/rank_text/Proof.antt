@@ -11,7 +11,7 @@ returns c =
     let put-rank-head = far .before .before .before .put-rank-head in
     let put-field = c .before .before .before .before .before .before .before .before .before .before .before .put-field in
     let put-bytes = c .before .before .before .before .before .before .put-bytes in
-    rank-put (args .kind) _ _ _ _ _ _ _ _ _ (args .products .now) (args .rows .now) _ _ _ _ _ (put-rank-head .ensures) (put-field .ensures)
+    rank-put (args .shape) _ _ _ _ _ _ (args .products .now) (args .rows .now) _ _ _ _ _ (put-rank-head .ensures) (put-field .ensures)
     (put-bytes .ensures) (c .before .before .put-lists .ensures)
 
 pub rank-text-spec : {M : Type 1} → statement M

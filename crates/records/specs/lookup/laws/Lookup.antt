@@ -2,15 +2,33 @@
 -- Assumes nothing.
 use mathlib.Core.Path.{_≡_, refl, sym, ap, ap₂, _∙_, subst}
 use mathlib.Core.Bool.{Bool, true, false, _&&_, cond}
-use mathlib.Core.List.{List, []}
-use Prim.Native.Nat.{ℕ, suc, _+_, _-_, _*_, _/_, _<_, _≤_}
+use mathlib.Core.List.{List, [], _∷_}
+use Prim.Native.Nat.{ℕ, zero, suc, _+_, _-_, _*_, _/_, _<_, _≤_}
 use native.Mathlib.Omega.{arith}
 use native.Mathlib.Nat.{div-lt-iff-lt-mul, le-div-iff-mul-le, suc-mul}
 use lib.ListN.{length, take, drop}
+use lib.Seq.{drop-drop}
 use lib.Dec.{ltb, leb}
 use borrow.Author.Tests.{lt-ltb, le-ltb, le-leb, lt-leb}
 use Rattle.records.specs.Length.{recordLength}
 use Rattle.records.specs.lookup.Lookup.{lookup}
+
+-- ---- a part cut in two
+take-nil : (m : ℕ) → take {A = ℕ} m [] ≡ []
+take-nil zero = refl
+take-nil (suc m) = refl
+
+cut-in : (n m s : ℕ) (l : List ℕ) → s ≡ n + m → (take n (take s l) ≡ take n l) × (drop n (take s l) ≡ take m (drop n l))
+cut-in zero m s l e = (refl, ap (λ (x : ℕ). take x l) (let z : s ≡ m = omega arith in z))
+cut-in (suc n) m zero l e = absurd (omega arith)
+cut-in (suc n) m (suc s) [] e = (refl, sym (take-nil m))
+cut-in (suc n) m (suc s) (x ∷ l) e = let p = cut-in n m s l (omega arith) in (ap (x ∷_) (p .0), p .1)
+
+pub drop-none : (xs : List ℕ) (n : ℕ) → length xs ≤ n → [] ≡ drop n xs
+drop-none [] zero h = refl
+drop-none [] (suc n) h = refl
+drop-none (x ∷ xs) zero h = absurd (omega arith)
+drop-none (x ∷ xs) (suc n) h = drop-none xs n (omega arith)
 
 module _ (ell k shown number : ℕ) (buffer : List ℕ) where
   abbrev size : ℕ
@@ -81,3 +99,12 @@ module _ (ell k shown number : ℕ) (buffer : List ℕ) where
       ∙ sym
       (is-pick ∙ ap (λ (x : Bool). pick x (leb ell k) (leb (number * size + size) (length buffer))) (lt-ltb number shown a)
       ∙ ap₂ (pick true) (le-leb ell k b) (le-leb (number * size + size) (length buffer) c))
+
+  -- its two parts, as they stand in the listing
+  pub record-parts : number < shown → ell ≤ k → number * size + size ≤ length buffer
+      → (take (k - ell) (lookup ell k shown number buffer) ≡ take (k - ell) (drop (number * size) buffer))
+      × (drop (k - ell) (lookup ell k shown number buffer) ≡ take k (drop (number * size + (k - ell)) buffer))
+  record-parts a b c =
+      let l : lookup ell k shown number buffer ≡ take size (drop (number * size) buffer) = sym (held a b c) ∙ part-is (number * size) size in
+      let p = cut-in (k - ell) k size (drop (number * size) buffer) refl in
+      (ap (take (k - ell)) l ∙ p .0, ap (drop (k - ell)) l ∙ p .1 ∙ ap (take k) (drop-drop (k - ell) (number * size) buffer))

@@ -14,8 +14,10 @@ use lib.ListN.{length, getD, length-append, List·getD-append}
 use lib.Dec.{ltb}
 use borrow.Author.Tests.{le-leb, lt-leb, eq-eqb, ne-eqb, ltb-true, ltb-false}
 use Rattle.kinds.specs.declared.Kind.{Kind}
-use Rattle.kinds.specs.declared.Kind.the-variants as kind
-use Rattle.kinds.specs.Kinds.{nameOf, same}
+use Rattle.kinds.specs.declared.Shape.{Shape}
+use Rattle.kinds.specs.Kinds.{nameOf, kind-named}
+use Rattle.kinds.specs.names.laws.Same.{same-self}
+use Rattle.kinds.specs.names.laws.Names.{Plain, name-plain}
 use Rattle.text.specs.Reading.{_>>=_}
 use Rattle.text.specs.Numeral.{digit, digits, numeral, count, mask}
 use Rattle.text.specs.Line.{LF, comma, cut, nameLine, field}
@@ -24,7 +26,7 @@ use Rattle.printing.specs.Print.{digitByte, numeralText, countText, maskText}
 use Rattle.round_trips.specs.formulae.HeadText.{fieldsText, fileHead}
 use Rattle.text.specs.laws.Numeral.{digits-cons, numeral-one, numeral-more}
 use Rattle.text.specs.laws.Line.{name-is, field-is}
-use Rattle.text.specs.heads.laws.Head.{fields-is, head-is, heads-is, kind-back}
+use Rattle.text.specs.heads.laws.Head.{fields-is, head-is, heads-is}
 use Rattle.printing.specs.laws.Digits.{below, above, digits-back}
 use Rattle.printing.specs.laws.Print.{printed-one, printed-more}
 
@@ -62,7 +64,8 @@ module _ (base : ℕ) (two : 2 ≤ base) (sixteen : base ≤ 16) where
   printed-length zero n = omega arith
   printed-length (suc f) n = go (ltb n base) (printed-length f (n / base))
     where
-      go : (t : Bool) → length (numeralText base f (n / base)) ≤ f → length (cond t (digitByte n ∷ []) (numeralText base f (n / base) ++ (digitByte (n % base) ∷ []))) ≤ suc f
+      go : (t : Bool) → length (numeralText base f (n / base)) ≤ f
+          → length (cond t (digitByte n ∷ []) (numeralText base f (n / base) ++ (digitByte (n % base) ∷ []))) ≤ suc f
       go true ih = omega arith
       go false ih = omega (arith, length-append (numeralText base f (n / base)) (digitByte (n % base) ∷ []))
 
@@ -80,8 +83,11 @@ module _ (base : ℕ) (two : 2 ≤ base) (sixteen : base ≤ 16) where
           let p = printed-more base f n m in
           let q = lead f (n / base) (above base two sixteen n m) (below base two sixteen f n h) in
           let w = lead (suc f) n (omega arith) h in
-          let l : length (numeralText base (suc f) n) ≡ length (numeralText base f (n / base)) + 1 = rw p (length-append (numeralText base f (n / base)) (digitByte (n % base) ∷ [])) in
-          numeral-more base (suc f) (numeralText base (suc f) n) (omega (arith, q, l)) (printed-length (suc f) n) (ne-eqb (getD (numeralText base (suc f) n) 0 0) 48 (w .1)) ∙ digits-back base two sixteen (suc f) n h
+          let l : length (numeralText base (suc f) n) ≡ length (numeralText base f (n / base)) + 1 = rw p
+          (length-append (numeralText base f (n / base)) (digitByte (n % base) ∷ [])) in
+          numeral-more base (suc f) (numeralText base (suc f) n) (omega (arith, q, l)) (printed-length (suc f) n)
+          (ne-eqb (getD (numeralText base (suc f) n) 0 0) 48 (w .1))
+          ∙ digits-back base two sixteen (suc f) n h
 
 -- counts and masks
 pub count-back : (n : ℕ) → n < 10000 → count (countText n) ≡ some n
@@ -117,21 +123,21 @@ unfolding numeralText
 printed-free c base zero n h = tt
 printed-free c base (suc f) n h = go (ltb n base) (printed-free c base f (n / base) h)
   where
-    go : (t : Bool) → Free c (numeralText base f (n / base)) → Free c (cond t (digitByte n ∷ []) (numeralText base f (n / base) ++ (digitByte (n % base) ∷ [])))
+    go : (t : Bool) → Free c (numeralText base f (n / base))
+        → Free c (cond t (digitByte n ∷ []) (numeralText base f (n / base) ++ (digitByte (n % base) ∷ [])))
     go true ih = (digit-free c n h, tt)
     go false ih = free-append c (numeralText base f (n / base)) (digitByte (n % base) ∷ []) ih (digit-free c (n % base) h, tt)
 
 -- ---- fixed lines
-pub same-self : (n : List ℕ) → same n n ≡ true
-same-self [] = refl
-same-self (b ∷ n) = rw (eq-eqb b b refl, same-self n)
-
 pub name-back : (n t : List ℕ) → Free LF n → nameLine n (n ++ (LF ∷ t)) ≡ some t
 name-back n t f = name-is n (n ++ (LF ∷ t)) n t (cut-first LF n t f) (same-self n)
 
 -- ---- fields
-pub field-back : (base most c n : ℕ) (t : List ℕ) → c < 48 → numeral base most (numeralText base most n) ≡ some n → field base most c (numeralText base most n ++ (c ∷ t)) ≡ some (n, t)
-field-back base most c n t l h = field-is base most c (numeralText base most n ++ (c ∷ t)) (numeralText base most n) t n (cut-first c (numeralText base most n) t (printed-free c base most n l)) h
+pub field-back : (base most c n : ℕ) (t : List ℕ) → c < 48 → numeral base most (numeralText base most n) ≡ some n
+    → field base most c (numeralText base most n ++ (c ∷ t)) ≡ some (n, t)
+field-back base most c n t l h =
+    field-is base most c (numeralText base most n ++ (c ∷ t)) (numeralText base most n) t n
+    (cut-first c (numeralText base most n) t (printed-free c base most n l)) h
 
 fields-back : (p q r k : ℕ) → p < 10000 → q < 10000 → r < 10000 → k < 10000 → countFields (fieldsText p q r k) ≡ some (p, q, r, k)
 unfolding fieldsText
@@ -154,21 +160,24 @@ fields-free p q r k =
     )
 
 -- ---- the first two lines
-name-free : (c : ℕ) (kind : Kind) → c < 97 → Free c (nameOf kind)
-name-free c kind.Poly h = ((λ e. omega arith), ((λ e. omega arith), ((λ e. omega arith), ((λ e. omega arith), tt))))
-name-free c kind.Short h = ((λ e. omega arith), ((λ e. omega arith), ((λ e. omega arith), ((λ e. omega arith), ((λ e. omega arith), tt)))))
-name-free c kind.Circ h = ((λ e. omega arith), ((λ e. omega arith), ((λ e. omega arith), ((λ e. omega arith), tt))))
-name-free c kind.Mat h = ((λ e. omega arith), ((λ e. omega arith), ((λ e. omega arith), tt)))
-name-free c kind.List h = ((λ e. omega arith), ((λ e. omega arith), ((λ e. omega arith), ((λ e. omega arith), tt))))
+plain-free : (c : ℕ) (s : List ℕ) → c < 97 → Plain s → Free c s
+plain-free c [] h p = tt
+plain-free c (b ∷ s) h p = ((λ e. omega arith), plain-free c s h (p .1))
 
-pub head-back : (kind : Kind) (p q r k : ℕ) (t : List ℕ) → p < 10000 → q < 10000 → r < 10000 → k < 10000
-    → headLines (fileHead kind p q r k t) ≡ some (record { kind = some kind; p = p; q = q; r = r; k = k }, t)
+name-free : (c : ℕ) (kind : Kind) → c < 97 → Free c (nameOf kind)
+name-free c kind h = plain-free c (nameOf kind) h (name-plain kind)
+
+pub head-back : (shape : Shape) (k : ℕ) (t : List ℕ) → shape .p < 10000 → shape .q < 10000 → shape .r < 10000 → k < 10000
+    → headLines (fileHead shape k t) ≡ some (record { kind = some (shape .kind); p = shape .p; q = shape .q; r = shape .r; k = k }, t)
 unfolding fileHead
-head-back kind p q r k t hp hq hr hk =
-    heads-is _ ((nameOf kind ++ (comma ∷ fieldsText p q r k)) ++ (LF ∷ t)) (name-back headNames _ (omega arith))
-    ∙ head-is ((nameOf kind ++ (comma ∷ fieldsText p q r k)) ++ (LF ∷ t)) (nameOf kind ++ (comma ∷ fieldsText p q r k)) t (nameOf kind) (fieldsText p q r k) p q r k
-    (cut-first LF (nameOf kind ++ (comma ∷ fieldsText p q r k)) t
-    (free-append LF (nameOf kind) (comma ∷ fieldsText p q r k) (name-free LF kind (omega arith)) ((λ e. omega arith), fields-free p q r k)))
-    (cut-first comma (nameOf kind) (fieldsText p q r k) (name-free comma kind (omega arith)))
-    (fields-back p q r k hp hq hr hk)
-    ∙ ap (λ (o : Option Kind). some (record { kind = o; p = p; q = q; r = r; k = k }, t)) (kind-back kind)
+head-back shape k t hp hq hr hk =
+    let name = nameOf (shape .kind) in
+    let fields = fieldsText (shape .p) (shape .q) (shape .r) k in
+    let line = name ++ (comma ∷ fields) in
+    heads-is _ (line ++ (LF ∷ t)) (name-back headNames _ (omega arith))
+    ∙ head-is (line ++ (LF ∷ t)) line t name fields (shape .p) (shape .q) (shape .r) k
+    (cut-first LF line t
+    (free-append LF name (comma ∷ fields) (name-free LF (shape .kind) (omega arith)) ((λ e. omega arith), fields-free (shape .p) (shape .q) (shape .r) k)))
+    (cut-first comma name fields (name-free comma (shape .kind) (omega arith)))
+    (fields-back (shape .p) (shape .q) (shape .r) k hp hq hr hk)
+    ∙ ap (λ (o : Option Kind). some (record { kind = o; p = shape .p; q = shape .q; r = shape .r; k = k }, t)) (kind-named (shape .kind))

@@ -14,12 +14,12 @@ use lib.Dec.{ltb, eqb}
 use borrow.Author.Tests.{lt-ltb, eq-eqb, eqb-true, eqb-false, ltb-false}
 use Rattle.kinds.specs.declared.Kind.{Kind}
 use Rattle.kinds.specs.Kinds.{nameOf, same, kindNamed, kinds, firstKind}
-use Rattle.kinds.specs.Sizes.{given}
+use Rattle.kinds.specs.Sizes.{shapeOf, given}
+use Rattle.kinds.specs.names.laws.Same.{same-only}
 use Rattle.kinds.specs.laws.Sizes.{given-some}
 use Rattle.text.specs.Reading.{_>>=_}
 use Rattle.text.specs.Numeral.{numeral, digits, count}
 use Rattle.text.specs.Line.{LF, comma, cut, nameLine, field, countField}
-use Rattle.text.specs.laws.Line.{same-only}
 use Rattle.text.specs.heads.Head.{Head, headNames, countFields, headLine, headLines}
 use Rattle.printing.specs.Print.{numeralText, countText}
 use Rattle.round_trips.specs.formulae.HeadText.{fieldsText, fileHead}
@@ -84,7 +84,8 @@ name-only n s t e =
     let j = given-some (same (i .0 .0) n) (i .0 .1) t (i .2) in
     cut-only LF s (i .0 .0) (i .0 .1) (i .1) ∙ ap₂ (λ (w r : List ℕ). w ++ (LF ∷ r)) (same-only (i .0 .0) n (j .0)) (j .1)
 
-pub field-only : (base most c : ℕ) (s : List ℕ) (f : ℕ × List ℕ) → 2 ≤ base → base ≤ 16 → field base most c s ≡ some f → s ≡ numeralText base most (f .0) ++ (c ∷ f .1)
+pub field-only : (base most c : ℕ) (s : List ℕ) (f : ℕ × List ℕ) → 2 ≤ base → base ≤ 16 → field base most c s ≡ some f
+    → s ≡ numeralText base most (f .0) ++ (c ∷ f .1)
 unfolding field
 field-only base most c s f h₂ h₁₆ e =
     let i = inv (cut c s) (λ g. numeral base most (g .0) >>= λ v. some (v, g .1)) f e in
@@ -107,7 +108,8 @@ fields-only s n e =
     ∙ ap (λ (w : List ℕ). countText (j .0 .0) ++ (comma ∷ w))
     (field-only 10 4 comma (j .0 .1) (l .0) (omega arith) (omega arith) (l .1)
     ∙ ap (λ (w : List ℕ). countText (l .0 .0) ++ (comma ∷ w)) (numeral-only 10 4 (m .0) (l .0 .1) (omega arith) (omega arith) (m .1))))
-    ∙ ap (λ (w : ℕ × ℕ × ℕ × ℕ). countText (w .0) ++ (comma ∷ (countText (w .1) ++ (comma ∷ (countText (w .2) ++ (comma ∷ countText (w .3))))))) (inj (i .0 .0, j .0 .0, l .0 .0, m .0) n (m .2))
+    ∙ ap (λ (w : ℕ × ℕ × ℕ × ℕ). countText (w .0) ++ (comma ∷ (countText (w .1) ++ (comma ∷ (countText (w .2) ++ (comma ∷ countText (w .3)))))))
+    (inj (i .0 .0, j .0 .0, l .0 .0, m .0) n (m .2))
 
 -- a kind's name
 pub kind-only : (s : List ℕ) (k : Kind) → kindNamed s ≡ some k → s ≡ nameOf k
@@ -122,11 +124,15 @@ kind-only s k e = go kinds e
     go [] f = absurd (let q : _≡_ {A = ℕ} 0 1 = cc in omega arith)
     go (x ∷ l) f = step x l (same (nameOf x) s) refl (go l) f
 
-line-only : (s : List ℕ) (h : Head × List ℕ) (k : Kind) → headLine s ≡ some h → h .0 .kind ≡ some k → s ≡ (nameOf k ++ (comma ∷ fieldsText (h .0 .p) (h .0 .q) (h .0 .r) (h .0 .k))) ++ (LF ∷ h .1)
+line-only : (s : List ℕ) (h : Head × List ℕ) (k : Kind) → headLine s ≡ some h → h .0 .kind ≡ some k
+    → s ≡ (nameOf k ++ (comma ∷ fieldsText (h .0 .p) (h .0 .q) (h .0 .r) (h .0 .k))) ++ (LF ∷ h .1)
 unfolding headLine
 line-only s h k e z =
-    let i = inv (cut LF s) (λ l. cut comma (l .0) >>= λ f. countFields (f .1) >>= λ n. some (record { kind = kindNamed (f .0); p = n .0; q = n .1; r = n .2; k = n .3 }, l .1)) h e in
-    let j = inv (cut comma (i .0 .0)) (λ f. countFields (f .1) >>= λ n. some (record { kind = kindNamed (f .0); p = n .0; q = n .1; r = n .2; k = n .3 }, i .0 .1)) h (i .2) in
+    let i = inv (cut LF s)
+    (λ l. cut comma (l .0) >>= λ f. countFields (f .1) >>= λ n.
+    some (record { kind = kindNamed (f .0); p = n .0; q = n .1; r = n .2; k = n .3 }, l .1)) h e in
+    let j = inv (cut comma (i .0 .0))
+    (λ f. countFields (f .1) >>= λ n. some (record { kind = kindNamed (f .0); p = n .0; q = n .1; r = n .2; k = n .3 }, i .0 .1)) h (i .2) in
     let m = inv (countFields (j .0 .1)) (λ n. some (record { kind = kindNamed (j .0 .0); p = n .0; q = n .1; r = n .2; k = n .3 }, i .0 .1)) h (j .2) in
     let g : _≡_ {A = Head × List ℕ} (record { kind = kindNamed (j .0 .0); p = m .0 .0; q = m .0 .1; r = m .0 .2; k = m .0 .3 }, i .0 .1) h = inj
     (record { kind = kindNamed (j .0 .0); p = m .0 .0; q = m .0 .1; r = m .0 .2; k = m .0 .3 }, i .0 .1) h (m .2) in
@@ -137,7 +143,8 @@ line-only s h k e z =
     ∙ ap₂ (λ (x w : List ℕ). x ++ (comma ∷ w)) y (fields-only (j .0 .1) (m .0) (m .1)))
     ∙ ap (λ (w : Head × List ℕ). (nameOf k ++ (comma ∷ fieldsText (w .0 .p) (w .0 .q) (w .0 .r) (w .0 .k))) ++ (LF ∷ w .1)) g
 
-pub head-only : (s : List ℕ) (h : Head × List ℕ) (k : Kind) → headLines s ≡ some h → h .0 .kind ≡ some k → s ≡ fileHead k (h .0 .p) (h .0 .q) (h .0 .r) (h .0 .k) (h .1)
+pub head-only : (s : List ℕ) (h : Head × List ℕ) (k : Kind) → headLines s ≡ some h → h .0 .kind ≡ some k
+    → s ≡ fileHead (shapeOf k (h .0 .p) (h .0 .q) (h .0 .r)) (h .0 .k) (h .1)
 unfolding headLines fileHead
 head-only s h k e z =
     let i = inv (nameLine headNames s) headLine h e in

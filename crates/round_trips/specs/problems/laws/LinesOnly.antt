@@ -3,14 +3,14 @@
 --   body-only   the lines under the first two, by the kind
 -- Assumes nothing.
 use Prim.Native.Nat.{ℕ, zero, suc}
-use mathlib.Core.Path.{_≡_, refl, sym, ap, _∙_}
+use mathlib.Core.Path.{_≡_, refl, ap, _∙_}
 use mathlib.Core.List.{List, [], _∷_, _++_}
 use mathlib.Core.Bool.{Bool, true, false, not, _&&_, cond}
-use mathlib.Core.Option.{Option, none, some}
+use mathlib.Core.Option.{none, some}
 use native.Mathlib.Omega.{arith}
 use lib.Dec.{eqb, ltb}
 use borrow.Author.Tests.{eqb-true}
-use Rattle.kinds.specs.declared.Kind.{Kind}
+use Rattle.kinds.specs.declared.Shape.{Shape}
 use Rattle.kinds.specs.Sizes.{given}
 use Rattle.kinds.specs.laws.Sizes.{given-some, both}
 use Rattle.kinds.specs.Refusal.{Answer, accepted, need, refuse}
@@ -38,7 +38,8 @@ role-only c (a ∷ b ∷ s) l e = go (eqb a c && eqb b comma) refl e
         let k = both (eqb a c) (eqb b comma) h in
         let x : a ≡ c = eqb-true a c (k .0) in
         let y : b ≡ comma = eqb-true b comma (k .1) in
-        ap (λ (i : ℕ). i ∷ b ∷ s) x ∙ ap (λ (i : ℕ). c ∷ i ∷ s) y ∙ ap (λ (w : List ℕ). c ∷ comma ∷ w) (field-only 16 16 LF s l (omega arith) (omega arith) f)
+        ap (λ (i : ℕ). i ∷ b ∷ s) x ∙ ap (λ (i : ℕ). c ∷ i ∷ s) y
+        ∙ ap (λ (w : List ℕ). c ∷ comma ∷ w) (field-only 16 16 LF s l (omega arith) (omega arith) f)
     go false h f = absurd (let q : _≡_ {A = ℕ} 0 1 = cc in omega arith)
 
 roles-only : (c n : ℕ) (s xs t : List ℕ) → roleLines c n s ≡ some (xs, t) → s ≡ rolesText c xs t
@@ -62,14 +63,16 @@ ended-only (b ∷ s) e = absurd (let q : _≡_ {A = ℕ} 0 1 = cc in omega arith
 pub list-only : (q r : ℕ) (s gs ts : List ℕ) → listBody q r s ≡ some (gs, ts) → s ≡ listText gs ts
 unfolding listBody listText
 list-only q r s gs ts e =
-    let i = inv (nameLine roleNames s) (λ u. roleLines generatorRole q u >>= λ g. roleLines targetRole r (g .1) >>= λ t. given (ended (t .1)) (g .0, t .0)) (gs, ts) e in
+    let i = inv (nameLine roleNames s)
+    (λ u. roleLines generatorRole q u >>= λ g. roleLines targetRole r (g .1) >>= λ t. given (ended (t .1)) (g .0, t .0)) (gs, ts) e in
     let j = inv (roleLines generatorRole q (i .0)) (λ g. roleLines targetRole r (g .1) >>= λ t. given (ended (t .1)) (g .0, t .0)) (gs, ts) (i .2) in
     let l = inv (roleLines targetRole r (j .0 .1)) (λ t. given (ended (t .1)) (j .0 .0, t .0)) (gs, ts) (j .2) in
     let g = given-some (ended (l .0 .1)) (j .0 .0, l .0 .0) (gs, ts) (l .2) in
     name-only roleNames s (i .0) (i .1)
     ∙ ap (λ (w : List ℕ). roleNames ++ (LF ∷ w))
     (roles-only generatorRole q (i .0) (j .0 .0) (j .0 .1) (j .1)
-    ∙ ap (rolesText generatorRole (j .0 .0)) (roles-only targetRole r (j .0 .1) (l .0 .0) (l .0 .1) (l .1) ∙ ap (rolesText targetRole (l .0 .0)) (ended-only (l .0 .1) (g .0))))
+    ∙ ap (rolesText generatorRole (j .0 .0))
+    (roles-only targetRole r (j .0 .1) (l .0 .0) (l .0 .1) (l .1) ∙ ap (rolesText targetRole (l .0 .0)) (ended-only (l .0 .1) (g .0))))
     ∙ ap (λ (w : List ℕ × List ℕ). roleNames ++ (LF ∷ rolesText generatorRole (w .0) (rolesText targetRole (w .1) []))) (g .1)
 
 -- ---- by the kind
@@ -92,9 +95,10 @@ none-only n m s f e =
     go true h = refl
     go false h = absurd (let q : _≡_ {A = ℕ} 0 1 = cc in omega arith)
 
-pub body-only : (kd : Kind) (q r n m : ℕ) (s : List ℕ) (f : List ℕ × List ℕ) → bodyOf kd q r n m s ≡ accepted f → s ≡ linesText kd (f .0) (f .1)
-body-only kd q r n m s f = go (isList kd)
+pub body-only : (shape : Shape) (n m : ℕ) (s : List ℕ) (f : List ℕ × List ℕ) → bodyOf shape n m s ≡ accepted f
+    → s ≡ linesText (shape .kind) (f .0) (f .1)
+body-only shape n m s f = go (isList (shape .kind))
   where
-    go : (b : Bool) → cond b (listLines q r s) (mapLines n m s) ≡ accepted f → s ≡ cond b (listText (f .0) (f .1)) []
-    go true e = lines-only q r s f e
+    go : (b : Bool) → cond b (listLines (shape .q) (shape .r) s) (mapLines n m s) ≡ accepted f → s ≡ cond b (listText (f .0) (f .1)) []
+    go true e = lines-only (shape .q) (shape .r) s f e
     go false e = none-only n m s f e

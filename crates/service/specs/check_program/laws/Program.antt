@@ -13,9 +13,10 @@ use lib.Seq.{take-append-seam}
 use lib.Dec.{ltb}
 use borrow.Author.Tests.{lt-ltb, le-ltb}
 use Rattle.kinds.specs.declared.Kind.{Kind}
-use Rattle.kinds.specs.Kinds.{nameOf, knownMap}
+use Rattle.kinds.specs.declared.Shape.{Shape}
+use Rattle.kinds.specs.Kinds.{nameOf, knownMap, name-short}
 use Rattle.kinds.specs.Limits.{mostProducts, mostTargets}
-use Rattle.kinds.specs.Sizes.{sizes}
+use Rattle.kinds.specs.Sizes.{shapeOf, sizes}
 use Rattle.kinds.specs.Refusal.{Answer, refused, accepted, need, refuse, follow}
 use Rattle.words.specs.Buffers.{filled}
 use Rattle.words.specs.Masks.{wide, zeroIn}
@@ -32,7 +33,7 @@ use Rattle.printing.specs.fields.Fields.{sizesText, fieldText}
 use Rattle.printing.specs.fields.RefusedText.{refusedName, refusedText}
 use Rattle.check_text.specs.replies.CheckTextLong.{check-text-long}
 use Rattle.printing.specs.fields.Written.{bytesIn, writtenIn}
-use Rattle.printing.specs.fields.laws.Pieces.{name-short, number-short}
+use Rattle.printing.specs.fields.laws.Pieces.{number-short}
 use Rattle.check_text.specs.CheckAnswers.{verdictOf, admittedText, replyOf, bytesOf}
 use Rattle.service.specs.Service.{checkFile}
 use Rattle.printing.specs.refusals.Pages.{checkPage, answerText}
@@ -67,17 +68,18 @@ admit-small : (named : Option Kind) (p q r k : ℕ) (lists : ℕ → Option List
 unfolding admit passed
 admit-small named p q r k lists =
     small-need 2 (knownMap named) _ (omega arith) λ kd.
-    small-need 3 (sizes kd p q r) _ (omega arith) λ z.
+    small-need 3 (sizes (shapeOf kd p q r)) _ (omega arith) λ z.
     small-need 5 (lists (z .2)) _ (omega arith) λ l.
     passed-small (wide (z .0) (l .0) || (wide (z .1) (l .1) || wide k (l .2))) (zeroIn (l .0) || zeroIn (l .1)) (ltb mostProducts k)
-    (formulaOf kd p q r (z .0) (z .1) (l .0) (l .1) (l .2))
+    (formulaOf (shapeOf kd p q r) (z .0) (z .1) (l .0) (l .1) (l .2))
 
 read-small : (s : List ℕ) (la lb lr : ℕ) → Small (formulaFile s la lb lr)
 unfolding formulaFile rest
 read-small s la lb lr =
     small-need 1 (headLines s) _ (omega arith) λ h.
     small-follow (admit (h .0 .kind) (h .0 .p) (h .0 .q) (h .0 .r) (h .0 .k) (λ t. body (h .0 .k) t (h .1))) _
-    (admit-small (h .0 .kind) (h .0 .p) (h .0 .q) (h .0 .r) (h .0 .k) (λ t. body (h .0 .k) t (h .1))) λ f. small-refuse 9 (tooShort la lb lr f) (accepted f) (omega arith) tt
+    (admit-small (h .0 .kind) (h .0 .p) (h .0 .q) (h .0 .r) (h .0 .k) (λ t. body (h .0 .k) t (h .1))) λ f.
+    small-refuse 9 (tooShort la lb lr f) (accepted f) (omega arith) tt
 
 -- ---- lengths of texts
 field-most : (n : ℕ) → length (fieldText n) ≤ 21
@@ -87,37 +89,37 @@ verdict-most : (v : Verdict) → length (verdictText v) ≤ 27
 verdict-most said.Right = omega arith
 verdict-most (said.Wrong t) = omega (arith, field-most t)
 
-sizes-most : (kd : Kind) (p q r k : ℕ) → length (sizesText kd p q r k) ≤ 89
+sizes-most : (shape : Shape) (k : ℕ) → length (sizesText shape k) ≤ 89
 unfolding sizesText
-sizes-most kd p q r k =
-    let a = nameOf kd ++ fieldText p in
-    let b = a ++ fieldText q in
-    let c = b ++ fieldText r in
+sizes-most shape k =
+    let a = nameOf (shape .kind) ++ fieldText (shape .p) in
+    let b = a ++ fieldText (shape .q) in
+    let c = b ++ fieldText (shape .r) in
     omega (
       arith,
-      name-short kd,
-      field-most p,
-      field-most q,
-      field-most r,
+      name-short (shape .kind),
+      field-most (shape .p),
+      field-most (shape .q),
+      field-most (shape .r),
       field-most k,
-      length-append (nameOf kd) (fieldText p),
-      length-append a (fieldText q),
-      length-append b (fieldText r),
+      length-append (nameOf (shape .kind)) (fieldText (shape .p)),
+      length-append a (fieldText (shape .q)),
+      length-append b (fieldText (shape .r)),
       length-append c (fieldText k),
     )
 
-pub text-most : (kd : Kind) (p q r k : ℕ) (v : Verdict) (w : ℕ) → length (checkText kd p q r k v w) ≤ 173
+pub text-most : (shape : Shape) (k : ℕ) (v : Verdict) (w : ℕ) → length (checkText shape k v w) ≤ 173
 unfolding checkText
-text-most kd p q r k v w =
-    let a = checkNames ++ sizesText kd p q r k in
+text-most shape k v w =
+    let a = checkNames ++ sizesText shape k in
     let b = a ++ verdictText v in
     let c = b ++ fieldText w in
     omega (
       arith,
-      sizes-most kd p q r k,
+      sizes-most shape k,
       verdict-most v,
       field-most w,
-      length-append checkNames (sizesText kd p q r k),
+      length-append checkNames (sizesText shape k),
       length-append a (verdictText v),
       length-append b (fieldText w),
       length-append c (LF ∷ []),
@@ -135,8 +137,8 @@ Fine (accepted t) = (35 < length t) × (length t ≤ 173)
 fine-read : (o : Answer Admitted) → Small o → Fine (follow o λ f. accepted (admittedText f))
 fine-read (refused e) h = h
 fine-read (accepted f) h = (
-  check-text-long (f .kind) (f .p) (f .q) (f .r) (length (f .firsts)) (verdictOf (verdict f .0)) (verdict f .1),
-  text-most (f .kind) (f .p) (f .q) (f .r) (length (f .firsts)) (verdictOf (verdict f .0)) (verdict f .1),
+  check-text-long (f .shape) (length (f .firsts)) (verdictOf (verdict f .0)) (verdict f .1),
+  text-most (f .shape) (length (f .firsts)) (verdictOf (verdict f .0)) (verdict f .1),
 )
 
 pub file-fine : (s : List ℕ) → Fine (checkFile s)
@@ -146,14 +148,17 @@ file-fine s = fine-read (formulaFile s mostProducts mostProducts mostTargets) (r
 -- ---- the program
 written-take : (t d : List ℕ) → length t ≤ length d → take (bytesIn t d) (writtenIn t d) ≡ t
 unfolding bytesIn writtenIn
-written-take t d h = ap (λ (b : Bool). take (cond b 0 (length t)) (cond b d (filled t d))) (le-ltb (length d) (length t) h) ∙ take-append-seam t (drop (length t) d)
+written-take t d h =
+    ap (λ (b : Bool). take (cond b 0 (length t)) (cond b d (filled t d))) (le-ltb (length d) (length t) h)
+    ∙ take-append-seam t (drop (length t) d)
 
 bytes-whole : (t d : List ℕ) → length t ≤ length d → bytesIn t d ≡ length t
 unfolding bytesIn
 bytes-whole t d h = ap (λ (b : Bool). cond b 0 (length t)) (le-ltb (length d) (length t) h)
 
 -- the two replies told apart
-pub print-text : (s d d₁ : List ℕ) (n : ℕ) → length d ≡ checkPage → n ≡ replyOf (checkFile s) d → d₁ ≡ bytesOf (checkFile s) d → 35 < n → take n d₁ ≡ answerText (checkFile s)
+pub print-text : (s d d₁ : List ℕ) (n : ℕ) → length d ≡ checkPage → n ≡ replyOf (checkFile s) d → d₁ ≡ bytesOf (checkFile s) d → 35 < n
+    → take n d₁ ≡ answerText (checkFile s)
 print-text s d d₁ n l e f h = go (checkFile s) (file-fine s) e f
   where
     go : (a : Answer (List ℕ)) → Fine a → n ≡ replyOf a d → d₁ ≡ bytesOf a d → take n d₁ ≡ answerText a
@@ -176,7 +181,8 @@ print-refusal s d d₁ d₂ n e l p q h x y = go (checkFile s) (file-fine s) p q
         let r : n ≡ length t = p ∙ ap (λ (b : Bool). cond b 9 (length t)) (le-ltb (length d) (length t) m) in
         absurd (omega (arith, g .0))
 
-pub program-long : (s d d₁ : List ℕ) (e : ℕ) → length d ≡ checkPage → mostBytes < length s → e ≡ bytesIn (refusedText 1) d → d₁ ≡ writtenIn (refusedText 1) d → take e d₁ ≡ programText s
+pub program-long : (s d d₁ : List ℕ) (e : ℕ) → length d ≡ checkPage → mostBytes < length s → e ≡ bytesIn (refusedText 1) d
+    → d₁ ≡ writtenIn (refusedText 1) d → take e d₁ ≡ programText s
 unfolding programText
 program-long s d d₁ e l h x y =
     ap₂ take x y ∙ written-take (refusedText 1) d (let k = refused-most 1 in omega arith)
@@ -193,7 +199,9 @@ bytes-most t d l = go (decLt (length d) (length t))
   where
     go : Dec (length d < length t) → cond (ltb (length d) (length t)) 0 (length t) ≤ checkPage
     go (yes h) = subst (λ (b : Bool). cond b 0 (length t) ≤ checkPage) (sym (lt-ltb (length d) (length t) h)) (omega arith)
-    go (no h) = let k : length t ≤ length d = omega arith in subst (λ (b : Bool). cond b 0 (length t) ≤ checkPage) (sym (le-ltb (length d) (length t) k)) (omega arith)
+    go (no h) =
+        let k : length t ≤ length d = omega arith in
+        subst (λ (b : Bool). cond b 0 (length t) ≤ checkPage) (sym (le-ltb (length d) (length t) k)) (omega arith)
 
 pub reply-most : (s d : List ℕ) → replyOf (checkFile s) d ≤ checkPage
 reply-most s d = go (checkFile s) (file-fine s)

@@ -2,25 +2,21 @@
 --   fields-1 .. fields-is   the four counts
 --   head-cut .. head-is     the second line
 --   heads-name .. heads-is  the first two lines
---   kind-back .. kind-no    the kind that a name is
 -- Assumes nothing.
 use Prim.Native.Nat.{ℕ, _+_, _-_}
-use mathlib.Core.Path.{_≡_, refl, ap, _∙_, subst}
+use mathlib.Core.Path.{_≡_, ap, _∙_}
 use mathlib.Core.List.{List}
-use mathlib.Core.Bool.{true, false}
 use mathlib.Core.Option.{Option, none, some}
 use lib.ListN.{length, take, drop}
 use lib.Seq.{drop-drop}
-use Rattle.kinds.specs.declared.Kind.{Kind}
-use Rattle.kinds.specs.declared.Kind.the-variants as kind
-use Rattle.kinds.specs.Kinds.{kindNamed, nameOf, same, seenKind}
+use Rattle.kinds.specs.Kinds.{kindNamed, seenKind}
 use Rattle.kinds.specs.declared.Known.{Known}
 use Rattle.text.specs.Reading.{_>>=_}
 use Rattle.text.specs.Numeral.{count}
 use Rattle.text.specs.Line.{cut, LF, comma, nameLine, countField}
 use Rattle.text.specs.heads.Head.{headNames, countFields, headLine, headLines}
 use Rattle.text.specs.heads.Views.{seenHead}
-use Rattle.text.specs.laws.Line.{read-at, same-only}
+use Rattle.text.specs.laws.Line.{read-at}
 use Rattle.text.specs.declared.heads.HeadRead.{HeadRead}
 use Rattle.text.specs.declared.heads.HeadRead.the-variants as head
 
@@ -73,18 +69,3 @@ pub head-at : (s : List ℕ) (u : ℕ) (x : HeadRead) (kind : Known) (p q r k v 
 head-at s u x kind p q r k v e h =
     read-at s u x (head.Is kind p q r k v) headLine seenHead e h
     ∙ ap (λ (t : List ℕ). some (record { kind = seenKind kind; p = p; q = q; r = r; k = k }, t)) (drop-drop v u s)
-
--- ---- the kind that a name is
-pub kind-back : (k : Kind) → kindNamed (nameOf k) ≡ some k
-kind-back kind.Poly = refl
-kind-back kind.Short = refl
-kind-back kind.Circ = refl
-kind-back kind.Mat = refl
-kind-back kind.List = refl
-
-pub kind-named : (k : Kind) (s : List ℕ) → same (nameOf k) s ≡ true → kindNamed s ≡ some k
-kind-named k s h = subst (λ (t : List ℕ). kindNamed t ≡ some k) (same-only (nameOf k) s h) (kind-back k)
-
-pub kind-no : (s : List ℕ) → same (nameOf kind.Poly) s ≡ false → same (nameOf kind.Short) s ≡ false → same (nameOf kind.Circ) s ≡ false
-    → same (nameOf kind.Mat) s ≡ false → same (nameOf kind.List) s ≡ false → kindNamed s ≡ none
-kind-no s a b c d e = rw (a, b, c, d, e)

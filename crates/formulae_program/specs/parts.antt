@@ -1,0 +1,3 @@
+-- What is printed, part by part.
+pub mod Parts
+pub mod laws

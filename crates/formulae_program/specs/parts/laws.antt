@@ -1,0 +1,2 @@
+-- The laws behind it.
+pub mod Parts

@@ -1,0 +1,3 @@
+-- What the proofs on names cite.
+pub mod Same
+pub mod Names

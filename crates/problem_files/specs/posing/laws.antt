@@ -1,0 +1,2 @@
+-- What the code of `posing` cites.
+pub mod Steps

@@ -1,3 +1,0 @@
--- The targets of a problem, counted.
-pub mod Targets
-pub mod laws
