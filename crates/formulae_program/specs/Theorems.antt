@@ -4,6 +4,7 @@
 --   input-refused    one that is refused when read is refused by the same number
 --   entry-has-lines  no entry that is shown is refused: its rows are its basis, and its part is the lines of its formulae, in order, none missing and none twice
 --                    (`FormulaeMeans`), as many as fit into 4,096 words
+--   formulae-read-enough   what the program reads of an input, at most 65,537 bytes, is answered as the whole input
 -- Assumes nothing.
 use Prim.Native.Nat.{ℕ, zero, suc, _+_, _<_, _≤_}
 use mathlib.Core.Path.{_≡_, refl, sym, ap, ap₂, _∙_}
@@ -20,7 +21,7 @@ use Rattle.problem_files.specs.posing.Posing.{ProblemFile}
 use Rattle.problem_files.specs.judging.Judged.{beyond, short, settled}
 use Rattle.problem_files.specs.laws.Accepted.{file-poses}
 use Rattle.problem_files.specs.inputs.laws.Handed.{shaped-counted, handed-few}
-use Rattle.problem_files.specs.inputs.laws.Input.{input-posed}
+use Rattle.problem_files.specs.inputs.laws.Input.{input-posed, posed-enough}
 use Rattle.problem_files.specs.declared.judging.Purpose.the-variants as purpose
 use Rattle.problems.specs.Problem.{problem}
 use Rattle.problems.specs.Theorems.{Few}
@@ -48,7 +49,7 @@ use Rattle.formulae_program.specs.parts.laws.Parts.{parts-refused, parts
 use Rattle.formulae_program.specs.FormulaeProgram.{rowsAt, entryPart, entriesPart, formulaeProgram}
 use Rattle.formulae_program.specs.laws.Shown.{EntryShown, entry-shown}
 use Rattle.formulae_program.specs.laws.Lines.{formula-lines}
-use Rattle.text.specs.Limits.{programWords}
+use Rattle.text.specs.Limits.{inputRoom, programWords}
 
 -- ---- the parts
 module _ (L : PlanListed) (F : Few (L .problem .problem)) (g t : List ℕ)
@@ -157,3 +158,10 @@ module _ (L : PlanListed) where
             printed
             ∙ ap (λ (t : List ℕ). t ++ leftText i (S .said .whole)) (formula-lines (x .generators) (x .targets) (rowsAt L i) listingRoom (S .said) (S .means) i);
       }
+
+-- ---- "in a program, also an input of more than 65,536 bytes"
+pub formulae-read-enough : (s : List ℕ) → formulaeProgram (take inputRoom s) ≡ formulaeProgram s
+unfolding formulaeProgram listedIn
+formulae-read-enough s =
+    ap (λ (o : Answer ProblemFile). answerText (follow (follow o (listedEntries listingRoom)) λ L. accepted (firstPart L ++ entriesPart L 0 (L .said .shown))))
+    (posed-enough s)

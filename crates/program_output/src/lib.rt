@@ -1,5 +1,5 @@
 // What the Catalogue, Rank and Formulae programs write to standard output of the bytes that they have read. Check's: `check_output`.
-use check_output::write_printed;
+use streams::write_printed;
 
 // Writes what the Catalogue program prints of an input.
 pub fn write_catalogue(input: &[u8]) {
@@ -25,7 +25,9 @@ pub fn write_formulae(input: &[u8]) {
     let mut i = 0;
     while formulae_program::parts::is_part(started, i) {
         let said = formulae_program::parts::part_page(started, i, &gs, &ts, &listing, &mut page);
-        write_printed(said, &page);
+        if !write_printed(said, &page) {
+            return;
+        }
         i += 1;
     }
 }

@@ -1,6 +1,7 @@
 -- What the answer on a file means, and what the exported call replies. To be read from top to bottom.
 --   CheckAnswered, check-answered   a file that is read as a formula is answered, with the verdict that is true of it
 --   CheckReplied, check-replied     the reply of `gijpsando_check` and the second string after it, told apart by the reply alone
+--   check-read-enough               what the Check program reads of an input, at most 65,537 bytes, is answered as the whole input
 -- The definitions: formulaFile (formula_files), verdict (formula_check), RightFormula and FormulaDiffers (formula_check, meaning), checkFile (Service),
 -- admittedText, replyOf and bytesOf (check_text). Assumes nothing.
 use mathlib.Core.Path.{_≡_, refl, sym, ap, _∙_, subst}
@@ -10,7 +11,7 @@ use mathlib.Core.Logic.{_⊎_, inl, inr, _↔_}
 use mathlib.Core.Option.{Option, none, some}
 use Prim.Native.Nat.{ℕ, _<_, _≤_}
 use native.Mathlib.Omega.{arith}
-use lib.ListN.{length, drop}
+use lib.ListN.{length, take, drop}
 use lib.Dec.{ltb}
 use Rattle.kinds.specs.Limits.{mostProducts, mostTargets}
 use Rattle.kinds.specs.laws.Sizes.{sizes-bounds}
@@ -28,7 +29,12 @@ use Rattle.check_text.specs.CheckAnswers.{verdictOf, admittedText, replyOf, byt
 use Rattle.check_text.specs.replies.CheckText.{checkText}
 use Rattle.check_text.specs.laws.Says.{Named, says}
 use Rattle.service.specs.Service.{checkFile}
+use Rattle.service.specs.check_program.CheckProgram.{programText}
 use Rattle.service.specs.check_program.laws.Program.{Fine, file-fine}
+use Rattle.text.specs.Limits.{inputRoom}
+use Rattle.text.specs.laws.Enough.{read-enough}
+use Rattle.printing.specs.fields.RefusedText.{refusedText}
+use Rattle.printing.specs.refusals.Pages.{answerText}
 
 -- ---- from the file to the verdict
 -- the text of a formula with its own adders and any verdict
@@ -103,3 +109,8 @@ check-replied s d = go (checkFile s) refl (file-fine s)
         by : (b : Bool) → ltb (length d) (length t) ≡ b → CheckReplied s d
         by true p = rw (q, p) (inl (omega arith, refl))
         by false p = rw (q, p) (inr (t, refl, h .0, h .1, refl, refl))
+
+-- ---- the program: "in a program, also an input of more than 65,536 bytes"
+pub check-read-enough : (s : List ℕ) → programText (take inputRoom s) ≡ programText s
+unfolding programText
+check-read-enough s = read-enough (refusedText 1) (λ t. answerText (checkFile t)) s

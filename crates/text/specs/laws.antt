@@ -1,3 +1,4 @@
 -- What the code's proofs cite.
 pub mod Numeral
 pub mod Line
+pub mod Enough

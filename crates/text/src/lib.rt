@@ -7,7 +7,7 @@ ghost use lib.ListN.{length};
 ghost use Rattle.text.specs.Numeral.{digit, numeral};
 ghost use Rattle.text.specs.Line.{till, cut, nameLine, field};
 ghost use Rattle.text.specs.Views.{seenNumber, seenCut, bytesCut, seenUsed, bytesUsed, seenField, bytesField};
-ghost use Rattle.text.specs.Limits.{mostBytes};
+ghost use Rattle.text.specs.Limits.{inputRoom};
 
 pub mod heads;
 
@@ -16,12 +16,12 @@ pub const FILE_BYTES: usize = 65536;
 
 pub const PROGRAM_WORDS: usize = 4096;
 
-// A byte more than the longest input, so that a longer one is told.
-pub const INPUT_ROOM: usize = 65537;
+// How much of an input a program reads: a byte more than the longest, so that a longer one is told (`inputRoom`).
+pub const INPUT_ROOM: usize = FILE_BYTES + 1;
 
 // Room for a program's input.
 pub fn input_room() -> [u8; INPUT_ROOM]
-    ensures { λ r. ⌜ mostBytes + 1 ≡ length r ⌝ }
+    ensures { λ r. ⌜ inputRoom ≡ length r ⌝ }
 {
     [0; INPUT_ROOM]
 }

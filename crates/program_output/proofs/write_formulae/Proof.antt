@@ -32,22 +32,22 @@ write-printed-requires c κs =
 
 add-i : tie.Need-add-i Inv-loop μ-loop
 add-i c =
-    let loop = c .before .before .before .before .before .before .before .before .before .before .loop in
-    let is-part = c .before .before .before .before .before .before .before .before .before .is-part in
-    let if1 = c .before .before .before .before .before .before .before .before .if1 in
+    let loop = c .before .before .before .before .before .before .before .before .before .before .before .loop in
+    let is-part = c .before .before .before .before .before .before .before .before .before .before .is-part in
+    let if1 = c .before .before .before .before .before .before .before .before .before .if1 in
     omega (arith, counted (loop .i) _ _ (is-part .ensures) (if1 .taken), loop .inv .1)
 
 loop-less : tie.Need-loop-less Inv-loop μ-loop
 loop-less c =
-    let loop = c .before .before .before .before .before .before .before .before .before .before .loop in
-    let is-part = c .before .before .before .before .before .before .before .before .before .is-part in
-    let if1 = c .before .before .before .before .before .before .before .before .if1 in
+    let loop = c .before .before .before .before .before .before .before .before .before .before .before .loop in
+    let is-part = c .before .before .before .before .before .before .before .before .before .before .is-part in
+    let if1 = c .before .before .before .before .before .before .before .before .before .if1 in
     omega (arith, counted (loop .i) _ _ (is-part .ensures) (if1 .taken))
 
 loop-again : tie.Need-loop-again Inv-loop μ-loop
 loop-again c =
-    let loop = c .before .before .before .before .before .before .before .before .before .before .loop in
-    let part-page2 = c .before .before .before .part-page2 in
+    let loop = c .before .before .before .before .before .before .before .before .before .before .before .loop in
+    let part-page2 = c .before .before .before .before .part-page2 in
     (part-page2 .kept .1 .1 .1 .1 .1 .0 ∙ loop .inv .0, loop .inv .1)
 
 pub write-formulae-spec : {M : Type 1} → statement M
@@ -55,4 +55,4 @@ write-formulae-spec =
     tie.close
     (tie.spec Inv-loop μ-loop (λ c κs. search needs) (λ c. search needs) (λ c. search needs) (λ c. search needs) (λ c κs. search needs) loop-holds
     (λ c κs. search needs) (λ c. search needs) (λ c. search needs) (λ c. search needs) (λ c. search needs) (λ c κs. search needs) (λ c. search needs)
-    write-printed-requires add-i loop-less loop-again (λ c. search needs))
+    write-printed-requires (λ c. search needs) add-i loop-less loop-again (λ c. search needs))

@@ -1,6 +1,7 @@
 -- What the Catalogue and Rank programs print of an input that is accepted: an answer, never a refusal, and what it means. To be read from top to bottom.
 --   CatalogueAnswered, catalogue-answered   the Catalogue's text, of an answer that lists every entry, none twice
 --   RankAnswered, rank-answered             Rank's text, of an answer that is the least number of products
+--   problem-read-enough                     what either program reads of an input, at most 65,537 bytes, is answered as the whole input
 -- So a program refuses exactly the inputs that are refused when read (`inputOf`). The definitions: inputOf (problem_files, inputs), catalogueProgram, rankProgram (programs), catalogueText (catalogue_text, report),
 -- rankAnswer (rank_text), CatalogueMeans and RankMeans (theorems, catalogue_and_rank). Assumes nothing.
 use Prim.Native.Nat.{ℕ, _+_, _-_, _*_, _<_, _≤_}
@@ -19,6 +20,7 @@ use Rattle.catalogue.specs.listing.laws.Run.{fitting-le}
 use Rattle.printing.specs.record_lines.RecordLines.{entryText, recordLines}
 use Rattle.problems.specs.Problem.{Problem, shaped}
 use Rattle.problem_files.specs.posing.Posing.{ProblemFile}
+use Rattle.problem_files.specs.declared.judging.Purpose.{Purpose}
 use Rattle.problem_files.specs.declared.judging.Purpose.the-variants as purpose
 use Rattle.catalogue.specs.Catalogue.{Catalogued}
 use Rattle.theorems.specs.catalogue_and_rank.Theorems.{CatalogueMeans, catalogue-of-means, RankMeans, rank-of-means}
@@ -27,12 +29,14 @@ use Rattle.catalogue_text.specs.report.CatalogueReports.{entriesText, entryName
 use Rattle.printing.specs.refusals.Pages.{listingRoom, answerText}
 use Rattle.catalogue_text.specs.CatalogueAnswers.{catalogueAnswer, catalogueReply}
 use Rattle.rank_text.specs.RankAnswers.{rankAnswer, rankReply}
-use Rattle.problem_files.specs.inputs.Inputs.{inputOf}
+use Rattle.problem_files.specs.inputs.Inputs.{inputFile, inputOf}
+use Rattle.problem_files.specs.inputs.laws.Input.{posed-enough}
+use Rattle.problem_files.specs.judging.Judged.{settled}
 use Rattle.programs.specs.Programs.{replyTo, problemProgram, catalogueProgram, rankProgram}
 use Rattle.programs.specs.meaning.Lines.{linesOf}
 use Rattle.programs.specs.meaning.laws.Lines.{Stands, lines-are}
 use Rattle.programs.specs.meaning.laws.Answered.{input-poses, catalogue-accepted, rank-accepted}
-use Rattle.text.specs.Limits.{programWords}
+use Rattle.text.specs.Limits.{inputRoom, programWords}
 
 pub record CatalogueAnswered (s : List ℕ) (P : ProblemFile) : Type 0 where
   -- the forms handed in pose the problem; its answer
@@ -110,3 +114,9 @@ rank-answered s P e =
           ap (λ (o : Answer ProblemFile). answerText (follow o λ Q. accepted (replyTo purpose.Rank Q))) e
           ∙ ap (rankAnswer (P .shape) (P .k) (dim word (x .targets)) (length (x .targets))) (a .1);
     }
+
+-- "in a program, also an input of more than 65,536 bytes"
+pub problem-read-enough : (a : Purpose) (s : List ℕ) → problemProgram a (take inputRoom s) ≡ problemProgram a s
+unfolding problemProgram inputFile
+problem-read-enough a s =
+    ap (λ (o : Answer ProblemFile). answerText (follow (follow o (settled a programWords programWords)) λ P. accepted (replyTo a P))) (posed-enough s)

@@ -2,11 +2,12 @@
 --   input-long, input-read   an input of too many bytes, and one that is read: the reply and both buffers
 --   posed-long, posed-read   the same where the problem is posed
 --   posed-few                the problem that an input poses has few generators and targets
+--   posed-enough             what a program reads of an input poses what the whole input does
 --   input-inv                an accepted input poses its problem, and neither 8 nor 9 applies
 -- Assumes nothing.
 use Prim.Native.Nat.{ℕ, _<_, _≤_}
 use mathlib.Core.Path.{_≡_, refl, sym, ap, ap₂, _∙_, subst}
-use mathlib.Core.Bool.{Bool, true, false}
+use mathlib.Core.Bool.{Bool, true, false, cond}
 use mathlib.Core.List.{List, []}
 use lib.ListN.{length, take}
 use lib.Dec.{ltb}
@@ -30,7 +31,8 @@ use Rattle.problem_files.specs.declared.judging.ProblemRead.the-variants
 use Rattle.problem_files.specs.declared.posing.PosedRead.{PosedRead}
 use Rattle.problem_files.specs.declared.posing.PosedRead.the-variants as posed
 use Rattle.problem_files.specs.inputs.Inputs.{posedInput, inputFile}
-use Rattle.text.specs.Limits.{mostBytes}
+use Rattle.text.specs.Limits.{mostBytes, inputRoom}
+use Rattle.text.specs.laws.Enough.{read-enough}
 
 input-as : (s : List ℕ) (b : Bool) → ltb mostBytes (length s) ≡ b → refuse 1 b (posedFile s) ≡ posedInput s
 unfolding posedInput
@@ -41,6 +43,18 @@ input-long-is s h = input-as s true (lt-ltb mostBytes (length s) h)
 
 pub input-short-is : (s : List ℕ) → length s ≤ mostBytes → posedFile s ≡ posedInput s
 input-short-is s h = input-as s false (le-ltb mostBytes (length s) h)
+
+-- what a program reads of an input poses what the whole input does
+pub posed-enough : (s : List ℕ) → posedInput (take inputRoom s) ≡ posedInput s
+unfolding posedInput
+posed-enough s = as-cond (take inputRoom s) ∙ read-enough (refused 1) posedFile s ∙ sym (as-cond s)
+  where
+    by : (b : Bool) (o : Answer ProblemFile) → refuse 1 b o ≡ cond b (refused 1) o
+    by true o = refl
+    by false o = refl
+
+    as-cond : (t : List ℕ) → refuse 1 (ltb mostBytes (length t)) (posedFile t) ≡ cond (ltb mostBytes (length t)) (refused 1) (posedFile t)
+    as-cond t = by (ltb mostBytes (length t)) (posedFile t)
 
 module _ (a : Purpose) (s gs ts g t : List ℕ) where
   pub input-long : mostBytes < length s → g ≡ zeros gs → t ≡ zeros ts → Final (inputFile a s (length gs) (length ts)) (read.Refused 1) gs ts g t
