@@ -19,7 +19,7 @@ extern "C" {
 #endif
 
 /* The numbers of the kinds. A list (4) has no formulae: it is refused by 2. */
-enum { GIJPSANDO_POLY = 0, GIJPSANDO_SHORT = 1, GIJPSANDO_CIRC = 2, GIJPSANDO_MAT = 3 };
+enum { GIJPSANDO_POLY = 0, GIJPSANDO_SHORT = 1, GIJPSANDO_CIRC = 2, GIJPSANDO_MAT = 3, GIJPSANDO_MID = 5 };
 
 /* No text that gijpsando_check writes is as short as this, and no refusal's number is above it. */
 enum { GIJPSANDO_LARGEST_REFUSAL = 35 };

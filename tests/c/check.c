@@ -33,6 +33,8 @@ static void file_case(const char *what, const char *file, size_t file_len, size_
 static const char RIGHT[] = "kind,p,q,r,k\npoly,2,2,0,3\na,b\n1,1\n2,2\n3,3\nrow\n1\n7\n2\n";
 static const char WRONG[] = "kind,p,q,r,k\npoly,2,2,0,3\na,b\n1,1\n2,2\n3,3\nrow\n1\n3\n2\n";
 static const char RIGHT_TEXT[] = "kind,p,q,r,k,verdict,output,adders\npoly,2,2,0,3,right,-,4\n";
+static const char MIDDLE[] = "kind,p,q,r,k\nmid,2,3,0,3\na,b\n2,3\n1,6\n3,2\nrow\n5\n6\n";
+static const char MIDDLE_TEXT[] = "kind,p,q,r,k,verdict,output,adders\nmid,2,3,0,3,right,-,5\n";
 static const char WRONG_TEXT[] = "kind,p,q,r,k,verdict,output,adders\npoly,2,2,0,3,wrong,1,3\n";
 
 static void files(void) {
@@ -41,9 +43,11 @@ static void files(void) {
     file_case("right, just room", RIGHT, strlen(RIGHT), n, n, RIGHT_TEXT);
     for (size_t room = 0; room < n; room++) file_case("too short", RIGHT, strlen(RIGHT), room, 9, "");
     file_case("wrong", WRONG, strlen(WRONG), 256, strlen(WRONG_TEXT), WRONG_TEXT);
+    file_case("middle product", MIDDLE, strlen(MIDDLE), 256, strlen(MIDDLE_TEXT), MIDDLE_TEXT);
     file_case("empty", "", 0, 256, 1, "");
     file_case("kind", "kind,p,q,r,k\nlist,2,2,1,3\n", 26, 256, 2, "");
     file_case("sizes", "kind,p,q,r,k\npoly,9,8,0,3\n", 26, 256, 3, "");
+    file_case("middle product of other sizes", "kind,p,q,r,k\nmid,2,4,0,3\n", 25, 256, 3, "");
     /* each beginning of the file is refused by 1 or 5, and a damaged byte never makes it right */
     for (size_t cut = 0; cut < strlen(RIGHT); cut++) file_case("cut", RIGHT, cut, 256, cut < 26 ? 1 : 5, "");
     file_case("zero factor", "kind,p,q,r,k\npoly,1,1,0,1\na,b\n0,1\nrow\n1\n", 40, 256, 7, "");
@@ -67,12 +71,18 @@ static void numbers(void) {
     numbers_case("right, more room", 0, 2, 2, 0, 3, m, 3, m, 3, right, 3, 4, 0, 0, 0, 4);
     numbers_case("wrong", 0, 2, 2, 0, 3, m, 3, m, 3, wrong, 3, 3, 0, 1, 1, 3);
     numbers_case("list", 4, 2, 2, 0, 3, m, 3, m, 3, right, 3, 3, 2, 0, 0, 0);
-    numbers_case("unknown", 5, 2, 2, 0, 3, m, 3, m, 3, right, 3, 3, 2, 0, 0, 0);
+    numbers_case("unknown", 6, 2, 2, 0, 3, m, 3, m, 3, right, 3, 3, 2, 0, 0, 0);
     numbers_case("sizes", 0, 9, 8, 0, 3, m, 3, m, 3, right, 3, 3, 3, 0, 0, 0);
     numbers_case("length", 0, 2, 2, 0, 3, m, 2, m, 3, right, 3, 3, 5, 0, 0, 0);
     numbers_case("rows", 0, 2, 2, 0, 3, m, 3, m, 3, right, 2, 3, 5, 0, 0, 0);
     numbers_case("wide row", 0, 2, 2, 0, 3, m, 3, m, 3, wide, 3, 3, 6, 0, 0, 0);
     numbers_case("zero", 0, 2, 2, 0, 3, zero, 3, m, 3, right, 3, 3, 7, 0, 0, 0);
+    const uint64_t left[3] = {2, 1, 3}, second[3] = {3, 6, 2}, middle[2] = {5, 6}, upper[2] = {5, 4};
+    numbers_case("middle product", GIJPSANDO_MID, 2, 3, 0, 3, left, 3, second, 3, middle, 2, 3, 0, 0, 0, 5);
+    numbers_case("wrong middle product", GIJPSANDO_MID, 2, 3, 0, 3, left, 3, second, 3, upper, 2, 3, 0, 1, 1, 4);
+    numbers_case("middle product of 2 by 4", GIJPSANDO_MID, 2, 4, 0, 3, left, 3, second, 3, middle, 2, 3, 3, 0, 0, 0);
+    /* 2 p - 1 would be 1 if it left 64 bits */
+    numbers_case("huge middle product", GIJPSANDO_MID, (1ull << 63) + 1, 1, 0, 3, left, 3, second, 3, middle, 2, 3, 3, 0, 0, 0);
     for (size_t room = 0; room < 3; room++) numbers_case("short reply", 0, 2, 2, 0, 3, m, 3, m, 3, right, 3, room, 9, 0, 0, 0);
 }
 

@@ -1,5 +1,5 @@
 #!/usr/bin/env python3
-"""A reference for Catalogue and Rank, written from document 01 alone.
+"""A reference for Catalogue and Rank, written from documents 01 and 02 alone.
 
 It shares nothing with the code under test.  The targets come from running the
 textbook product of check.py on unit vectors.  The entries are found in two
@@ -24,8 +24,8 @@ import sys
 sys.dont_write_bytecode = True
 from check import COUNT, LIMIT, MASK, Refused, shape, textbook, units
 
-KINDS = (b"poly", b"short", b"circ", b"mat", b"list")   # by number
-MOST = 4095                                             # generators
+KINDS = (b"poly", b"short", b"circ", b"mat", b"list", b"mid")   # by number
+MOST = 4095                                                     # generators
 BEYOND, ABOVE = "beyond", "above"
 
 
@@ -362,7 +362,8 @@ def self_test():
         least = least_by_subsets(gs, ts)
         ell, reply = rank(b"list", p, len(gs), len(ts), 0, gs, ts, [0] * 64)[:2]
         assert reply == (BEYOND if least is None else ABOVE if least > ell + 6 else least)
-    for kind, p, q, r in ((b"poly", 2, 2, 0), (b"poly", 1, 3, 0), (b"poly", 2, 3, 0), (b"short", 2, 2, 0), (b"circ", 2, 2, 0), (b"mat", 1, 2, 1)):
+    for kind, p, q, r in ((b"poly", 2, 2, 0), (b"poly", 1, 3, 0), (b"poly", 2, 3, 0), (b"short", 2, 2, 0), (b"circ", 2, 2, 0), (b"mat", 1, 2, 1),
+                          (b"mid", 1, 1, 0), (b"mid", 2, 3, 0)):
         agree(*posed(kind, p, q, r, [], []), 2)
     assert catalogue_program(b"kind,p,q,r,k\npoly,2,3,0,5\n") == (
         "kind,p,q,r,k,ell,found,shown\npoly,2,3,0,5,4,3,3\nentry,extension,basis\n"

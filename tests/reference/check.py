@@ -1,5 +1,5 @@
 #!/usr/bin/env python3
-"""A reference for the Check program, written from document 01 alone.
+"""A reference for the Check program, written from documents 01 and 02 alone.
 
 It shares nothing with the code under test: no forms, no menu, no generated
 table.  A formula is judged by running it and the textbook product side by
@@ -18,6 +18,7 @@ from itertools import product as pairs
 LIMIT = 65536                                   # bytes of an input
 COUNT = re.compile(rb"0|[1-9][0-9]{0,3}")       # decimal, up to four digits
 MASK = re.compile(rb"0|[1-9a-f][0-9a-f]{0,15}") # hexadecimal, up to sixteen
+MAPS = (b"poly", b"short", b"circ", b"mat", b"mid")
 
 
 class Refused(Exception):
@@ -45,6 +46,10 @@ def circ(a, b):
     return c
 
 
+def mid(a, b):
+    return poly(a, b)[len(a) - 1:2 * len(a) - 1]
+
+
 def mat(p, q, r, a, b):
     left = [a[q * x:q * x + q] for x in range(p)]
     right = [b[r * y:r * y + r] for y in range(q)]
@@ -55,7 +60,7 @@ def mat(p, q, r, a, b):
 def textbook(kind, p, q, r, a, b):
     if kind == b"mat":
         return mat(p, q, r, a, b)
-    return {b"poly": poly, b"short": short, b"circ": circ}[kind](a, b)
+    return {b"poly": poly, b"short": short, b"circ": circ, b"mid": mid}[kind](a, b)
 
 
 # The formula, on the same bits.
@@ -114,7 +119,7 @@ def adders(products, rows):
 
 def shape(kind, p, q, r):
     """n, m and the number of outputs; refusals 2 and 3."""
-    if kind not in (b"poly", b"short", b"circ", b"mat"):
+    if kind not in MAPS:
         raise Refused(2)
     if p == 0 or q == 0:
         raise Refused(3)
@@ -123,7 +128,7 @@ def shape(kind, p, q, r):
             raise Refused(3)
         n, m, outputs = p * q, q * r, p * r
     else:
-        if r != 0 or (kind != b"poly" and p != q):
+        if r != 0 or q != {b"poly": q, b"short": p, b"circ": p, b"mid": 2 * p - 1}[kind]:
             raise Refused(3)
         n, m, outputs = p, q, (p + q - 1 if kind == b"poly" else p)
     if n * m > 64:
@@ -197,7 +202,7 @@ def small_problems():
     for p in range(1, 10):
         for q in range(1, 10):
             for r in range(0, 10):
-                for kind in (b"poly", b"short", b"circ", b"mat"):
+                for kind in MAPS:
                     try:
                         n, m, outputs = shape(kind, p, q, r)
                     except Refused:

@@ -1,5 +1,5 @@
 #!/usr/bin/env python3
-"""A reference for the formulae of a space and for questions on selections, written from document 01 alone.
+"""A reference for the formulae of a space and for questions on selections, written from documents 01 and 02 alone.
 
 It shares nothing with the code under test.  The formulae of a space are found
 in two ways:

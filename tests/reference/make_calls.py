@@ -31,6 +31,12 @@ Call 4 asks whether the form x is a sum of the selection o, and call 5 whether
 the product with the number x is redundant in it:
 
     yes    no    refused E
+
+Call 6 turns the formula with k = x products, the masks g and t and the rows o.
+It is lent three buffers, of w modulo 100, w / 100 modulo 100 and w / 10000
+words, at most 64 each; each word holds 1000000 before the call:
+
+    formula NUMBER P Q R K :.. :.. :..    refused E :.. :.. :..
 """
 
 import os
@@ -39,13 +45,14 @@ import sys
 sys.dont_write_bytecode = True
 import make_problems
 import make_spaces
+import make_turnings
 
 
 def main(crate):
-    searches, spaces = make_problems.made(), make_spaces.made()
-    calls = searches[0] + spaces[0]
-    assert len("".join(calls)) <= 196608 and sum(len(call.split()) for call in calls) <= 65536
-    for name, lines in (("stdin", calls), ("stdout", searches[1] + spaces[1])):
+    parts = [maker.made() for maker in (make_problems, make_spaces, make_turnings)]
+    calls, replies = (sum((part[i] for part in parts), []) for i in range(2))
+    assert len("".join(calls)) <= 393216 and sum(len(call.split()) for call in calls) <= 131072
+    for name, lines in (("stdin", calls), ("stdout", replies)):
         with open(os.path.join(crate, name), "w") as out:
             out.writelines(lines)
 

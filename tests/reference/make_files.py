@@ -5,8 +5,8 @@
 
 writes the files to `data` in that directory, their names to `args`, the formula
 files first and `-` between them and the problem files, and to `stdout` each
-file's name and the replies to it: Check's to a formula file, those of
-Catalogue, Rank and Formulae to a problem file.
+file's name and the replies to it: those of Check and Turn to a formula file,
+those of Catalogue, Rank and Formulae to a problem file.
 """
 
 import glob

@@ -1,7 +1,9 @@
-"""The formula files of crates/file_values, which make_files.py writes, and Check's reply to each.
+"""The formula files of crates/file_values, which make_files.py writes, and the replies of Check and of Turn to each.
 
 Each file is made with the verdict it is meant to bring: 'right', a number t
 as ('wrong', t), or a refusal's number.  check.py must agree with all of them.
+Some are made for Turn, with its refusal or the file that it is to print; and
+whatever Turn prints must be right exactly if what it was sent is.
 Nothing is random.  A name is three digits, a short name padded with '-', and
 `.txt`: 24 bytes.
 """
@@ -10,13 +12,17 @@ import sys
 
 sys.dont_write_bytecode = True
 import check
+import turning
 
 HEAD = b"kind,p,q,r,k\n"
 
 files = []
+turns = {}                                      # of a name: what Turn is to print
 
 
-def add(name, data, want):
+def add(name, data, want, turn=None):
+    if turn is not None:
+        turns[name] = "refused %d\n" % turn if isinstance(turn, int) else turn.data().decode()
     number = len(files)
     stem = "%03d-%s" % (number, name)
     assert len(stem) <= 20, stem
@@ -74,12 +80,12 @@ def terms(kind, p, q, r):
     if kind == "mat":
         return p * q, q * r, [[(x * q + y, y * r + z) for y in range(q)]
                               for x in range(p) for z in range(r)]
-    outputs = {"poly": p + q - 1, "short": p, "circ": p}[kind]
+    outputs = {"poly": p + q - 1, "short": p, "circ": p, "mid": p}[kind]
     lists = [[] for _ in range(outputs)]
     for i in range(p):
         for j in range(q):
-            t = (i + j) % p if kind == "circ" else i + j
-            if t < outputs:
+            t = (i + j) % p if kind == "circ" else i + j - (p - 1) if kind == "mid" else i + j
+            if 0 <= t < outputs:
                 lists[t].append((i, j))
     return p, q, lists
 
@@ -488,6 +494,86 @@ def refused_8():
     eight("8-65536-bytes", padded(65536))
 
 
+# Middle products, of every verdict and with the refusals that look at the kind.
+
+def middle():
+    for n in range(1, 6):
+        add("mid-%d-%d" % (n, 2 * n - 1), schoolbook("mid", n, 2 * n - 1).data(), "right")
+    three = Formula("mid", 2, 3, 0, [(2, 3), (1, 6), (3, 2)], [5, 6])
+    six = solved("mid", 3, 5, 0, [(4, 0x07), (2, 0x0e), (1, 0x1c), (6, 0x02), (5, 0x04), (3, 0x08)])
+    add("mid-2-3-by-3", three.data(), "right")
+    add("mid-3-5-by-6", six.data(), "right")
+
+    def no(name, formula, t):
+        add(name, formula.data(), ("wrong", t))
+
+    for t in range(2):
+        no("mid-2-3-row-%d" % t, three.flip(t, t), t)
+    for t in range(3):
+        no("mid-3-5-row-%d" % t, six.flip(t, 5 - t), t)
+    no("mid-2-3-factor", three.product(0, 2, 7), 0)
+    no("mid-5-9-row-4", schoolbook("mid", 5, 9).flip(4, 0), 4)
+    no("mid-5-9-corner", schoolbook("mid", 5, 9).more([(0x10, 0x100)]).flip(2, 25), 2)
+    no("mid-none", Formula("mid", 3, 5, 0, [], [0] * 3), 0)
+    # The output one further, the lowest outputs of the full product, and the outputs backward.
+    units = [(1 << i, 1 << j) for i in range(2) for j in range(3)]
+    no("mid-one-further", Formula("mid", 2, 3, 0, units, [0x14, 0x20]), 0)
+    no("mid-lowest", Formula("mid", 2, 3, 0, units, [0x01, 0x0a]), 0)
+    no("mid-backward", Formula("mid", 2, 3, 0, units, [0x14, 0x0a]), 0)
+    no("mid-one-more", Formula("mid", 2, 3, 0, units, [0x0a, 0x34]), 1)
+
+    body = text(three.lines()[2:])
+    for name, line, e in (("2-mids", "mids,2,3,0,3", 2), ("2-mi", "mi,2,3,0,3", 2), ("2-mid-upper", "Mid,2,3,0,3", 2),
+                          ("3-mid-2-4", "mid,2,4,0,3", 3), ("3-mid-2-2", "mid,2,2,0,3", 3), ("3-mid-3-2", "mid,3,2,0,3", 3), ("3-mid-r-1", "mid,2,3,1,3", 3),
+                          ("3-mid-0-0", "mid,0,0,0,3", 3), ("3-mid-1-0", "mid,1,0,0,3", 3), ("3-mid-0-1", "mid,0,1,0,3", 3), ("3-mid-6-11", "mid,6,11,0,3", 3),
+                          ("3-mid-5000-9999", "mid,5000,9999,0,3", 3)):
+        add(name, second(line, body), e)
+    add("5-mid-rows-3", second("mid,2,3,0,3", body + b"1\n"), 5)
+    add("5-mid-rows-1", second("mid,2,3,0,3", body[:-2]), 5)
+    add("6-mid-a", three.product(2, 4, 2).data(), 6)
+    add("6-mid-b", three.product(2, 3, 8).data(), 6)
+    add("7-mid", three.product(1, 0, 6).data(), 7)
+    add("8-mid-k-65", three.more([(1, 1)] * 62).data(), 8)
+
+
+# Full products to be turned into middle products, and what is refused there.
+
+def turned():
+    def full(rows, products=((1, 1), (2, 2), (3, 3))):
+        return Formula("poly", 2, 2, 0, products, rows)
+
+    def new(products, rows):
+        return Formula("mid", 2, 3, 0, products, rows)
+
+    add("turn-right", full([1, 7, 2], [(1, 1), (3, 3), (2, 2)]).with_rows([1, 7, 4]).data(), "right", new([(2, 3), (3, 2), (1, 6)], [3, 6]))
+    add("turn-wrong", full([1, 7, 3]).data(), ("wrong", 2), new([(2, 7), (1, 6), (3, 2)], [5, 6]))
+    add("turn-repeated", full([1, 0xf, 2], [(1, 1), (2, 2), (3, 3), (3, 3)]).data(), ("wrong", 1),
+        new([(2, 3), (1, 6), (3, 2), (3, 2)], [0xd, 0xe]))
+    add("turn-zero-row", full([7, 0, 7]).data(), ("wrong", 0), new([(2, 5), (1, 5), (3, 5)], [5, 6]))
+    add("turn-1-1", Formula("poly", 1, 1, 0, [(1, 1)], [1]).data(), "right", Formula("mid", 1, 1, 0, [(1, 1)], [1]))
+    add("turn-k-0", Formula("poly", 1, 1, 0, [], [0]).data(), ("wrong", 0), Formula("mid", 1, 1, 0, [], [0]))
+    for n in (3, 4, 5):
+        add("turn-%d-%d" % (n, n), schoolbook("poly", n, n).data(), "right",
+            Formula("mid", n, 2 * n - 1, 0, [(1 << n - 1 - i, 1 << i + j) for i in range(n) for j in range(n)],
+                    [sum(1 << i * n + t for i in range(n)) for t in range(n)]))
+    add("12-row-3", full([1, 3, 2]).data(), ("wrong", 1), 12)
+    add("12-none-used", full([0, 0, 0]).data(), ("wrong", 0), 12)
+    add("12-last-unused", schoolbook("poly", 5, 5).more([(31, 31)]).data(), "right", 12)
+    add("12-not-8", full([1, 7, 2]).more([(1, 1)] * 62).data(), 8, 8)
+    add("12-not-7", full([1, 7, 2]).more([(1, 0)]).data(), 7, 7)
+    add("12-not-6", full([1, 3, 8]).data(), 6, 6)
+    add("12-not-5", full([1, 3]).data(), 5, 5)
+    # 2 and 3 stand before what the lines say
+    add("2-turn-circ", schoolbook("circ", 2, 2).data(), "right", 2)
+    add("2-turn-mid", schoolbook("mid", 2, 3).data(), "right", 2)
+    add("2-turn-circ-2-3", second("circ,2,3,0,3"), 3, 2)
+    add("2-turn-not-5", second("short,2,2,0,3", b"a,b\n"), 5, 2)
+    add("3-turn-2-3", schoolbook("poly", 2, 3).data(), "right", 3)
+    add("3-turn-not-5", second("poly,2,3,0,3", b"a,b\n"), 5, 3)
+    add("3-turn-not-12", schoolbook("poly", 3, 2).more([(1, 1)]).data(), "right", 3)
+    add("3-turn-6-6", schoolbook("poly", 6, 6).data(), "right", 3)
+
+
 def wanted(want, reply):
     lines = reply.splitlines()
     if want == "right":
@@ -500,9 +586,12 @@ def wanted(want, reply):
 def made():
     """Name, bytes and reply of each file."""
     for part in (right, wrong, refused_1, refused_2, refused_3, refused_5,
-                 refused_6, refused_7, refused_8):
+                 refused_6, refused_7, refused_8, middle, turned):
         part()
-    replies = [check.check(data) for _, _, data, _ in files]
-    for (_, name, _, want), reply in zip(files, replies):
+    checked = [check.check(data) for _, _, data, _ in files]
+    turn = [turning.turn(data) for _, _, data, _ in files]
+    for (short, name, _, want), reply, new in zip(files, checked, turn):
         assert len(name) == 24 and wanted(want, reply), (name, want, reply)
-    return [(name, data, reply) for (_, name, data, _), reply in zip(files, replies)]
+        assert new == turns.get(short, new), (name, new)
+        assert new.startswith("refused") or (want == "right") == wanted("right", check.check(new.encode())), (name, new)
+    return [(name, data, reply + new) for (_, name, data, _), reply, new in zip(files, checked, turn)]

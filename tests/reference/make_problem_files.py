@@ -4,8 +4,9 @@ Each file is asked by all three programs, Catalogue, Rank and Formulae; the
 replies come from catalogue.py and formulae.py, which share nothing with the
 code under test.  Where a file is made for a refusal, its number is written
 beside it and all three must agree, but for 8, which depends on what is asked.
-Of a row of document 000's tables the numbers of spaces and of formulae are
-written in TABLES, and Formulae's reply must have as many.
+Of a row of document 000's tables, and of middle products, the numbers of
+spaces and of formulae are written in TABLES, and Formulae's reply must have as
+many.
 The random lists come from a fixed seed.  A name is three digits, a short name
 padded with '-', and `.txt`: 24 bytes.
 """
@@ -21,13 +22,14 @@ from table_rows import listed
 
 HEAD = b"kind,p,q,r,k\n"
 
-# The spaces and the formulae of a file, in Table 1, 3 or 4 of document 000; all of them are printed.
+# The spaces and the formulae of a file, in Table 1, 3 or 4 of document 000 but for mid; all of them are printed.
 TABLES = {
     "poly-2-2-0-3": (1, 1), "poly-3-2-0-5": (3, 162), "poly-3-3-0-6": (3, 9), "poly-4-2-0-6": (4, 108), "poly-4-4-0-9": (4, 4),
     "poly-5-5-0-13": (27, 27), "poly-6-4-0-13": (9, 15), "sym-poly-6-17": (6, 54),
     "field-4-3": (3, 3), "field-8-6": (105, 147), "field-32-9": (0, 0),
     "short-2-2-0-3": (3, 10), "short-3-3-0-5": (12, 40), "sym-short-5-11": (112, 736),
     "circ-2-2-0-3": (3, 10), "circ-3-3-0-4": (3, 3), "sym-circ-5-10": (25, 25), "sym-circ-6-12": (31, 148), "sym-circ-7-13": (1, 49),
+    "mid-1-1-0-1": (1, 1), "mid-2-3-0-2": (0, 0), "mid-2-3-0-3": (1, 1), "mid-2-3-0-4": (15, 99), "mid-3-5-0-5": (0, 0), "mid-3-5-0-6": (9, 9),
 }
 
 files, checked = [], set()
@@ -127,6 +129,18 @@ def tabled():
         add("sym-%s-%d-%d" % (kind.decode(), n, k), listed(n * n, k, gs, ts), known=entries)
 
 
+# Middle products: the files that are answered, with their spaces and formulae, and those that are refused.
+
+def middle():
+    for p, q, ks in ((1, 1, (0, 1)), (2, 3, (0, 2, 3, 4, 8)), (3, 5, (0, 5, 6))):
+        for k in ks:
+            add("mid-%d-%d-0-%d" % (p, q, k), problem(b"mid", p, q, 0, k))
+    for e, name, line in ((2, "mids", b"mids,2,3,0,3"), (2, "mi", b"mi,2,3,0,3"), (3, "2-4", b"mid,2,4,0,3"), (3, "2-2", b"mid,2,2,0,3"),
+                          (3, "r-1", b"mid,2,3,1,3"), (3, "0-0", b"mid,0,0,0,0"), (3, "6-11", b"mid,6,11,0,0"), (3, "5000-9999", b"mid,5000,9999,0,0"), (4, "5-9", b"mid,5,9,0,7"),
+                          (5, "line-after", b"mid,2,3,0,3\n"), (8, "k-9", b"mid,2,3,0,9")):
+        add("%d-mid-%s" % (e, name), HEAD + line + b"\n", e)
+
+
 def counted(reply):
     """The numbers of spaces and of formulae in Formulae's reply, which leaves none out."""
     _, head, _, *lines = reply.splitlines()
@@ -140,6 +154,7 @@ def made():
     answered()
     damaged()
     tabled()
+    middle()
     every = []
     for full, name, data, refusal, known in files:
         replies = [catalogue_program(data, known), rank_program(data), formulae_program(data, known)]

@@ -13,7 +13,8 @@ from catalogue import KINDS, Refused, random_list, reduced
 from table_rows import field
 
 CATALOGUE, RANK, ENTRY = 0, 1, 2
-POLY, SHORT, CIRC, MAT, LIST = range(5)
+POLY, SHORT, CIRC, MAT, LIST, MID = range(6)
+UNKNOWN = len(KINDS), len(KINDS) + 1    # numbers of no kind
 HUGE = 2 ** 64 - 1
 calls, replies = [], []
 
@@ -25,7 +26,7 @@ def line(said, *stretches):
 def reply(call, number, p, q, r, k, w, gs, ts):
     """What is said, and the whole line."""
     before = [1000000 + i for i in range(w)]
-    kind = KINDS[number] if number < 5 else b"?"
+    kind = KINDS[number] if number < len(KINDS) else b"?"
     try:
         if call == CATALOGUE:
             ell, found, shown, after, _ = catalogue.catalogue(kind, p, q, r, k, gs, ts, before)
@@ -94,6 +95,10 @@ def limits():
         for p, q, r in ((3, 3, 3), (0, 1, 1), (1, 0, 1), (1, 1, 0), (2 ** 32, 1, 2 ** 32), (HUGE, HUGE, HUGE)):
             add(call, MAT, p, q, r, 0, 2, want="refused 3")
         add(call, MAT, 4, 1, 16, 0, 2, want="refused 4")
+        add(call, MID, 5, 9, 0, 7, 2, want="refused 4")
+        for p, q, r in ((2, 4, 0), (2, 2, 0), (3, 2, 0), (2, 3, 1), (6, 11, 0), (33, 65, 0), (0, 0, 0), (1, 0, 0), (0, 1, 0), (0, HUGE, 0),
+                        (2 ** 63, HUGE, 0), (HUGE, HUGE, 0), (2 ** 63 + 1, 1, 0), (2 ** 63 + 2, 3, 0), (HUGE, HUGE - 2, 0)):
+            add(call, MID, p, q, r, 0, 2, want="refused 3")     # the last three would do if 2 p - 1 left 64 bits
         for p, q, r in ((0, 1, 1), (65, 1, 1), (1, 0, 1), (1, 1, 0), (1, 1, 65), (HUGE, 1, 1)):
             add(call, LIST, p, q, r, 0, 2, [1], [1], "refused 3")
         for q in (4096, HUGE):
@@ -105,7 +110,7 @@ def refusals():
     """Each refusal, and two that apply at once."""
     for call in (CATALOGUE, RANK):
         many = 99           # a k that 8 refuses
-        for number in (5, 6, HUGE):
+        for number in (*UNKNOWN, HUGE):
             add(call, number, 2, 2, 0, 0, 2, want="refused 2")
             add(call, number, 0, 0, 9, many, 2, [1], [1], "refused 2")
         add(call, POLY, 9, 8, 0, many, 2, [1], [1], "refused 3")
@@ -139,12 +144,25 @@ def tables():
     add(CATALOGUE, MAT, 2, 2, 2, 7, 48, want="found 36")
 
 
+def middles():
+    """Middle products for every k; buffers with just room for one entry and for two, and a word less."""
+    for p, q, counts in ((1, 1, (0, 1, 0)), (2, 3, (0, 0, 0, 1, 15, 15, 1, 0, 0)), (3, 5, (0, 0, 0, 0, 0, 0, 9))):
+        for k, found in enumerate(counts):
+            add(CATALOGUE, MID, p, q, 0, k, 48, want="found %d" % found)
+    add(CATALOGUE, MID, 2, 3, 0, 9, 48, want="refused 8")
+    for w in (5, 6, 11, 12):
+        add(CATALOGUE, MID, 2, 3, 0, 4, w, want="found 15 shown %d" % (w // 6))
+    add(CATALOGUE, MID, 2, 3, 0, 3, 4, [1], [], "refused 5")
+    add(RANK, MID, 2, 3, 0, 3, 5, want="refused 8")
+
+
 def published():
     """Numbers of spaces in document 000 that the reference would take too long for, 0 where it has none: rows of Tables 1 and 4 with the full
-    menu, and Table 3's field of 16 elements.  No record is asked for."""
+    menu, and Table 3's field of 16 elements; and a middle product, which needs as many products as poly of its n, as the sides of a product may
+    change places.  No record is asked for."""
     for number, p, q, k, found in ((POLY, 5, 4, 12, 4113), (POLY, 5, 5, 13, 27), (POLY, 6, 4, 13, 9), (POLY, 6, 5, 14, 0), (POLY, 6, 6, 14, 0),
                                    (POLY, 7, 3, 13, 87), (POLY, 7, 4, 14, 0), (POLY, 8, 3, 14, 0),
-                                   (SHORT, 4, 4, 8, 1440), (SHORT, 5, 5, 9, 0), (CIRC, 4, 4, 8, 1440), (CIRC, 5, 5, 9, 0)):
+                                   (SHORT, 4, 4, 8, 1440), (SHORT, 5, 5, 9, 0), (CIRC, 4, 4, 8, 1440), (CIRC, 5, 5, 9, 0), (MID, 4, 7, 7, 0)):
         ell = len(reduced(catalogue.map_targets(KINDS[number], p, q, 0, p, q, p + q - 1 if number == POLY else p)))
         write([CATALOGUE, number, p, q, 0, k, 0, 0, 0, 0], line("entries %d %d 0" % (ell, found), [], []))
     gs, ts = field(4)
@@ -167,7 +185,8 @@ def ranks():
     for number, p, q, r, least, outputs in (
             (POLY, 1, 1, 0, 1, 1), (POLY, 1, 4, 0, 4, 4), (POLY, 2, 2, 0, 3, 3), (POLY, 2, 3, 0, 5, 4), (POLY, 3, 2, 0, 5, 4), (POLY, 3, 3, 0, 6, 5),
             (SHORT, 1, 1, 0, 1, 1), (SHORT, 2, 2, 0, 3, 2), (SHORT, 3, 3, 0, 5, 3), (CIRC, 1, 1, 0, 1, 1), (CIRC, 2, 2, 0, 3, 2), (CIRC, 3, 3, 0, 4, 3),
-            (MAT, 1, 1, 1, 1, 1), (MAT, 1, 2, 1, 2, 1), (MAT, 2, 1, 2, 4, 4), (MAT, 1, 2, 2, 4, 2), (MAT, 2, 2, 1, 4, 2), (MAT, 2, 2, 2, 7, 4)):
+            (MAT, 1, 1, 1, 1, 1), (MAT, 1, 2, 1, 2, 1), (MAT, 2, 1, 2, 4, 4), (MAT, 1, 2, 2, 4, 2), (MAT, 2, 2, 1, 4, 2), (MAT, 2, 2, 2, 7, 4),
+            (MID, 1, 1, 0, 1, 1), (MID, 2, 3, 0, 3, 2), (MID, 3, 5, 0, 6, 3)):
         need = least + outputs
         add(RANK, number, p, q, r, 0, need, want="rank %d" % least)
         if number != MAT or p * q * r < 8:
@@ -207,6 +226,6 @@ def lookups():
 
 def made():
     """The lines of the calls and of the replies."""
-    for make in (worked, limits, refusals, tables, published, lists, ranks, lookups):
+    for make in (worked, limits, refusals, tables, middles, published, lists, ranks, lookups):
         make()
     return calls, replies

@@ -13,7 +13,7 @@ import formulae
 from catalogue import KINDS, Refused, inside, random_list, reduced
 
 FORMULAE, SUM, REDUNDANT = 3, 4, 5
-POLY, SHORT, CIRC, MAT, LIST = range(5)
+POLY, SHORT, CIRC, MAT, LIST, MID = range(6)
 HUGE = 2 ** 64 - 1
 MOST = 4096                 # words of a buffer
 calls, replies = [], []
@@ -34,7 +34,7 @@ def shown(words):
 def reply(call, number, p, q, r, w, x, gs, ts, others):
     """What is said, and what stands behind it."""
     before = [1000000] * w
-    kind = KINDS[number] if number < 5 else b"?"
+    kind = KINDS[number] if number < len(KINDS) else b"?"
     try:
         if call == FORMULAE:
             listed, said, after = formulae.formulae(kind, p, q, r, gs, ts, others, before)
@@ -87,11 +87,11 @@ def worked():
 
 
 def tables():
-    """Document 000's numbers of formulae over all entries; mat 2,2,2; each also in a buffer with exactly enough room, and a word less."""
+    """Document 000's numbers of formulae over all entries; mat 2,2,2; middle products; each also in a buffer with exactly enough room, and a word less."""
     for number, p, q, r, k, count, total in (
             (POLY, 3, 3, 0, 6, 3, 9), (POLY, 4, 2, 0, 6, 4, 108), (POLY, 4, 4, 0, 9, 4, 4), (POLY, 4, 3, 0, 8, 33, 423), (POLY, 6, 3, 0, 11, 3, 243),
             (POLY, 3, 2, 0, 5, 3, 162), (SHORT, 2, 2, 0, 3, 3, 10), (SHORT, 3, 3, 0, 5, 12, 40), (CIRC, 2, 2, 0, 3, 3, 10), (CIRC, 3, 3, 0, 4, 3, 3),
-            (MAT, 2, 2, 2, 7, 36, None)):
+            (MAT, 2, 2, 2, 7, 36, None), (MID, 1, 1, 0, 1, 1, 1), (MID, 2, 3, 0, 3, 1, 1), (MID, 2, 3, 0, 4, 15, 99), (MID, 3, 5, 0, 6, 9, 9)):
         _, targets, found = spaces(number, p, q, r, k)
         assert len(found) == count
         sum_of_all, size = 0, k + len(targets)
@@ -127,7 +127,7 @@ def large():
 
 def damaged():
     """Rows that are no reduced basis of an entry, or nearly one."""
-    for number, p, q, r, k in ((POLY, 2, 2, 0, 3), (POLY, 2, 3, 0, 5), (POLY, 3, 3, 0, 6), (CIRC, 2, 2, 0, 3), (MAT, 1, 2, 1, 2)):
+    for number, p, q, r, k in ((POLY, 2, 2, 0, 3), (POLY, 2, 3, 0, 5), (POLY, 3, 3, 0, 6), (CIRC, 2, 2, 0, 3), (MAT, 1, 2, 1, 2), (MID, 2, 3, 0, 3)):
         generators, targets, found = spaces(number, p, q, r, k)
         width = max(generators).bit_length()
         for basis in found[-2:]:
@@ -162,11 +162,12 @@ def refusals():
             for x, others in ((0, []), (HUGE, [HUGE, HUGE])):
                 add(call, number, p, q, r, 2, x, gs, ts, others, "refused %d" % e)
 
-        for number in (5, HUGE):
+        for number in (len(KINDS), HUGE):
             refused(2, number, 2, 2, 0)
-        for number, p, q, r in ((POLY, 9, 8, 0), (POLY, 0, 1, 0), (POLY, HUGE, HUGE, 0), (SHORT, 2, 3, 0), (CIRC, 2, 2, 1), (MAT, 3, 3, 3), (LIST, 65, 1, 1), (LIST, 1, 1, 65), (LIST, 1, 0, 1)):
+        for number, p, q, r in ((POLY, 9, 8, 0), (POLY, 0, 1, 0), (POLY, HUGE, HUGE, 0), (SHORT, 2, 3, 0), (CIRC, 2, 2, 1), (MAT, 3, 3, 3),
+                                (LIST, 65, 1, 1), (LIST, 1, 1, 65), (LIST, 1, 0, 1), (MID, 2, 4, 0), (MID, 0, 0, 0), (MID, 6, 11, 0), (MID, 2 ** 63 + 1, 1, 0)):
             refused(3, number, p, q, r, [1], [1])
-        for number, p, q, r in ((POLY, 7, 6, 0), (POLY, 13, 1, 0), (SHORT, 8, 8, 0), (MAT, 4, 1, 16), (LIST, 12, 4096, 1)):
+        for number, p, q, r in ((POLY, 7, 6, 0), (POLY, 13, 1, 0), (SHORT, 8, 8, 0), (MAT, 4, 1, 16), (LIST, 12, 4096, 1), (MID, 5, 9, 0)):
             refused(4, number, p, q, r, [1], [1])
         refused(5, POLY, 2, 2, 0, [1])
         refused(5, POLY, 2, 2, 0, [], [1])
@@ -199,7 +200,7 @@ def selections():
         chosen(SUM, p, gs, ts, selection, 8, "refused 6")
     chosen(REDUNDANT, 2, [1], [0], [0], 0, "yes")               # nothing is to be spanned
     chosen(REDUNDANT, 2, [1], [0], [], 0, "refused 11")
-    for number, p, q, r, k in ((POLY, 2, 2, 0, 3), (POLY, 3, 3, 0, 6), (POLY, 4, 3, 0, 8), (MAT, 2, 2, 2, 7)):
+    for number, p, q, r, k in ((POLY, 2, 2, 0, 3), (POLY, 3, 3, 0, 6), (POLY, 4, 3, 0, 8), (MAT, 2, 2, 2, 7), (MID, 2, 3, 0, 3), (MID, 3, 5, 0, 6)):
         generators, targets, found = spaces(number, p, q, r, k)
         formula = catalogue.first_formula(generators, found[-1])
         for selection in (formula, formula[::-1] + [max(set(range(12)) - set(formula))], inside(found[0], generators), range(len(generators))[:60]):

@@ -2,14 +2,18 @@
 --   textBytes   == of the calls, as text
 --   numberWords == of their numbers
 --   lentWords   == of the longest buffer that a call is lent
+--   turnWords   == of the longest of the three that a turning is lent
 -- Assumes nothing.
 use Prim.Native.Nat.{ℕ}
 
 abbrev pub textBytes : ℕ
-textBytes = 196608
+textBytes = 393216
 
 abbrev pub numberWords : ℕ
-numberWords = 65536
+numberWords = 131072
 
 abbrev pub lentWords : ℕ
 lentWords = 4096
+
+abbrev pub turnWords : ℕ
+turnWords = 64

@@ -9,9 +9,11 @@ use libc::STDOUT_FILENO;
 mod numbers;
 mod searches;
 mod spaces;
+mod turns;
 
 // A call by its number: 0 for Catalogue, 1 for Rank, with k; 2 for the look-up of an entry, with ell, k, shown and its number for the kind's number
-// and the sizes; 3 for the formulae of a space, 4 for a form that a selection sums to, else for a product that is redundant in it.
+// and the sizes; 3 for the formulae of a space, 4 for a form that a selection sums to, 6 for the turning of a formula with k products, else for a product that
+// is redundant in a selection.
 struct Call {
     which: u64,
     number: u64,
@@ -59,8 +61,20 @@ fn lent_words() -> [u64; LENT_WORDS]
     [1000000; LENT_WORDS]
 }
 
-// One call and the end of its line, in a buffer of w words, of LENT_WORDS at most.
+// One call and the end of its line, in a buffer of w words, of LENT_WORDS at most; a turning in buffers of its own.
 fn call_one(call: Call, w: u64, gs: &[u64], ts: &[u64], others: &[u64]) {
+    if call.which == 6 {
+        let formula = turns::Formula {
+            number: call.number,
+            p: call.p,
+            q: call.q,
+            r: call.r,
+            k: call.asked,
+        };
+        turns::turn_one(formula, w, gs, ts, others);
+        io::write_all(STDOUT_FILENO, b"\n");
+        return;
+    }
     if w > LENT_WORDS as u64 {
         return;
     }

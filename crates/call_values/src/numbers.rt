@@ -7,9 +7,9 @@ ghost use Rattle.call_values.specs.Rooms.{textBytes, numberWords};
 use libc::STDOUT_FILENO;
 
 // The bytes of the calls' text, and the words of its numbers (`textBytes`, `numberWords`).
-const TEXT_BYTES: usize = 196608;
+const TEXT_BYTES: usize = 393216;
 
-const NUMBER_WORDS: usize = 65536;
+const NUMBER_WORDS: usize = 131072;
 
 // Room for a text.
 pub fn text_room() -> [u8; TEXT_BYTES]

@@ -1,5 +1,4 @@
 -- The reply of Check as text.
 pub mod CheckAnswers
-pub mod Buffers
 pub mod laws
 pub mod replies

@@ -4,7 +4,7 @@
 ghost use mathlib.Core.Path.{_≡_};
 ghost use Rattle.kinds.specs.Refusal.{accepted};
 ghost use Rattle.check_text.specs.CheckAnswers.{admittedText, replyOf, bytesOf};
-ghost use Rattle.check_text.specs.Buffers.{formulaIn, FormulaBuffers};
+ghost use Rattle.formula_check.specs.Buffers.{formulaIn, FormulaBuffers};
 use kinds::Shape;
 use kinds::Sized;
 use words::first_words;

@@ -1,11 +1,12 @@
 // Answers each file that an argument names as the programs do that it is meant for: its name, then what they print.
-// The first are formula files, for Check; behind the argument `-` stand problem files, for Catalogue, Rank and Formulae.
+// The first are formula files, for Check and Turn; behind the argument `-` stand problem files, for Catalogue, Rank and Formulae.
 use libc::STDOUT_FILENO;
 
 // What the programs write of a file's bytes.
 fn answer(input: &[u8], problem: bool) {
     if !problem {
         check_output::write_check(input);
+        turn_output::write_turn(input);
         return;
     }
     program_output::write_catalogue(input);

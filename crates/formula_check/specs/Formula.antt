@@ -6,6 +6,7 @@
 --   admit ..                          == refused by a number, 2 to 8, or the admitted formula
 --   verdict f                         == of an admitted formula: the first wrong output (none: right) and the adders
 --   check ..                          == the reply on numbers: a formula is admitted, then judged
+--   heldIn la lb lr f                 == refused by 9 where f is to be put into buffers of la, lb and lr words and one is too short
 -- Document 01: "A formula has k products, each a pair of masks, and one row per target. It may repeat a product. The reply is right, or wrong
 -- with the first output that differs for some input."
 -- The theorem that ties it to every choice of input bits is in `meaning`. Assumes nothing.
@@ -83,6 +84,13 @@ lengths k u xs ys rows = not (eqb (length xs) k) || (not (eqb (length ys) k) || 
 
 abbrev pub listsHanded : (k : ℕ) (xs ys rows : List ℕ) → ℕ → Option Lists
 listsHanded k xs ys rows u = cond (lengths k u xs ys rows) none (some (xs, ys, rows))
+
+-- refusal 9, "a lent buffer that must take the whole of an answer is too short"
+abbrev pub tooShort : (la lb lr : ℕ) → Admitted → Bool
+tooShort la lb lr f = ltb la (length (f .firsts)) || (ltb lb (length (f .seconds)) || ltb lr (length (f .rows)))
+
+abbrev pub heldIn : (la lb lr : ℕ) → Admitted → Answer Admitted
+heldIn la lb lr f = refuse 9 (tooShort la lb lr f) (accepted f)
 
 abbrev pub verdict : Admitted → Option ℕ × ℕ
 verdict f =

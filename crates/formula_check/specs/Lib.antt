@@ -2,6 +2,7 @@
 pub mod Formula
 pub mod Refusals
 pub mod Replies
+pub mod Buffers
 pub mod Theorems
 pub mod laws
 pub mod sums

@@ -1,5 +1,6 @@
 -- The laws behind Check.
 pub mod Loops
 pub mod Admitted
-pub mod Judging
+pub mod Admission
 pub mod Numbers
+pub mod Buffers

@@ -6,12 +6,14 @@
 ghost use mathlib.Core.Path.{_≡_};
 ghost use mathlib.Core.Bool.{_||_};
 ghost use lib.ListN.{length};
-ghost use Rattle.formula_check.specs.Formula.{firstWrong, formulaOf, verdict, check};
+ghost use lib.Dec.{ltb};
+ghost use Rattle.formula_check.specs.Formula.{firstWrong, formulaOf, admit, listsHanded, verdict, check};
 ghost use Rattle.formula_check.specs.Refusals.{refusalOf};
 ghost use Rattle.words.specs.Masks.{wide, zeroIn};
 ghost use Rattle.formula_check.specs.sums.Sums.{productForms};
+ghost use Rattle.kinds.specs.Kinds.{kindNumbered};
 ghost use Rattle.kinds.specs.Numbers.{replyNumbers};
-ghost use Rattle.formula_check.specs.Replies.{seenReply, checkNumbers, checkValues, Judging, Fitting};
+ghost use Rattle.formula_check.specs.Replies.{seenAdmission, seenReply, checkNumbers, checkValues, Judging, Fitting};
 ghost use Rattle.formula_check.specs.verdicts.Verdicts.{seenVerdict};
 use kinds::Known;
 use kinds::Shape;
@@ -101,13 +103,75 @@ pub fn refusal(wide: bool, zero: bool, k: usize) -> u64
     if kinds::PRODUCTS < k { 8 } else { 0 }
 }
 
+// Whether a buffer of la, lb or lr words is too short for k products and u rows.
+pub fn too_short(k: usize, u: usize, la: usize, lb: usize, lr: usize) -> bool
+    ensures { λ r. ⌜ r ≡ (ltb la k || (ltb lb k || ltb lr u)) ⌝ }
+{
+    if la < k {
+        return true;
+    }
+    if lb < k {
+        return true;
+    }
+    lr < u
+}
+
+// A formula on numbers: a refusal's number, or the kind and sizes, n and m.
+pub enum Admission {
+    Refused(u64),
+    Admitted(Shape, u64, u64),
+}
+
+// A formula on numbers and slices, admitted or refused by 2, 3 or 5 to 8: the kind by its number, its sizes, k products by their masks, and a row for each
+// output.
+pub fn admit(
+    number: u64,
+    p: u64,
+    q: u64,
+    r: u64,
+    k: u64,
+    a: &[u64],
+    b: &[u64],
+    rows: &[u64],
+) -> Admission
+    ensures { λ x. ⌜ admit (kindNumbered number) p q r k (listsHanded k (now (a .entry)) (now (b .entry)) (now (rows .entry)))
+        ≡ seenAdmission x (now (a .entry)) (now (b .entry)) (now (rows .entry)) ⌝ }
+{
+    let Known::Is(kind) = kinds::known_map(kinds::kind_numbered(number)) else {
+        return Admission::Refused(2);
+    };
+    let shape = Shape {
+        kind: kind,
+        p: p,
+        q: q,
+        r: r,
+    };
+    let Sized::Are(n, m, u) = kinds::sizes_of(shape) else {
+        return Admission::Refused(3);
+    };
+    if a.len() as u64 != k {
+        return Admission::Refused(5);
+    }
+    if b.len() as u64 != k {
+        return Admission::Refused(5);
+    }
+    if rows.len() as u64 != u {
+        return Admission::Refused(5);
+    }
+    let e = refusal(too_wide(n, m, a, b, rows), zero_factor(a, b), a.len());
+    if e != 0 {
+        return Admission::Refused(e);
+    }
+    Admission::Admitted(shape, n, m)
+}
+
 // What Check replies: a refusal's number, or the verdict and the adders.
 pub enum Reply {
     Refused(u64),
     Judged(Verdict, u64),
 }
 
-// Check of a formula on numbers and slices: the kind by its number, its sizes, k products by their masks, and a row for each output.
+// Check of a formula on numbers and slices: it is admitted, then judged.
 pub fn check(
     number: u64,
     p: u64,
@@ -121,32 +185,12 @@ pub fn check(
     ensures { λ x. ⌜ (check number p q r k (now (a .entry)) (now (b .entry)) (now (rows .entry)) ≡ seenReply x)
         × (checkNumbers x ≡ replyNumbers 3 checkValues (check number p q r k (now (a .entry)) (now (b .entry)) (now (rows .entry)))) ⌝ }
 {
-    let Known::Is(kind) = kinds::known_map(kinds::kind_numbered(number)) else {
-        return Reply::Refused(2);
-    };
-    let shape = Shape {
-        kind: kind,
-        p: p,
-        q: q,
-        r: r,
-    };
-    let Sized::Are(n, m, u) = kinds::sizes_of(shape) else {
-        return Reply::Refused(3);
-    };
-    if a.len() as u64 != k {
-        return Reply::Refused(5);
+    match admit(number, p, q, r, k, a, b, rows) {
+        Admission::Refused(e) => Reply::Refused(e),
+        Admission::Admitted(shape, n, m) => {
+            let said = judge(shape, n, m, a, b, rows);
+            let verdict = said.verdict;
+            Reply::Judged(verdict, said.adders)
+        }
     }
-    if b.len() as u64 != k {
-        return Reply::Refused(5);
-    }
-    if rows.len() as u64 != u {
-        return Reply::Refused(5);
-    }
-    let e = refusal(too_wide(n, m, a, b, rows), zero_factor(a, b), a.len());
-    if e != 0 {
-        return Reply::Refused(e);
-    }
-    let said = judge(shape, n, m, a, b, rows);
-    let verdict = said.verdict;
-    Reply::Judged(verdict, said.adders)
 }

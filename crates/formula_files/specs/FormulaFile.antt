@@ -3,25 +3,15 @@
 -- Document 01, "Refused, in this order":
 --   1. "The first two lines are not as above"
 --   2 to 8, with 5. "The remaining lines are too few, too many, out of order or misshapen": `admit` (formula_check)
---   9. "A lent buffer that must take the whole of an answer is too short"
+--   9. "A lent buffer that must take the whole of an answer is too short": `heldIn` (formula_check)
 -- Assumes nothing.
 use Prim.Native.Nat.{ℕ}
 use mathlib.Core.List.{List}
-use mathlib.Core.Bool.{Bool, _||_}
-use lib.Dec.{ltb}
-use lib.ListN.{length}
-use Rattle.kinds.specs.Refusal.{Answer, accepted, need, refuse, follow}
+use Rattle.kinds.specs.Refusal.{Answer, need, follow}
 use Rattle.kinds.specs.declared.Shape.{Shape}
 use Rattle.text.specs.heads.Head.{Head, headLines}
-use Rattle.formula_check.specs.Formula.{Admitted, passed, admit}
+use Rattle.formula_check.specs.Formula.{Admitted, passed, admit, heldIn}
 use Rattle.formula_files.specs.lines.Formula.{body}
-
--- 9, of an admitted formula
-abbrev pub tooShort : (la lb lr : ℕ) → Admitted → Bool
-tooShort la lb lr f = ltb la (length (f .firsts)) || (ltb lb (length (f .seconds)) || ltb lr (length (f .rows)))
-
-abbrev pub heldIn : (la lb lr : ℕ) → Admitted → Answer Admitted
-heldIn la lb lr f = refuse 9 (tooShort la lb lr f) (accepted f)
 
 -- 5 to 9, of the lines under the first two: k products and t rows
 abbrev pub under : (shape : Shape) (k n m t la lb lr : ℕ) → List ℕ → Answer Admitted

@@ -1,6 +1,6 @@
 -- The reply to a reading, and what the three lent buffers hold at exit.
 --   formulaReply o                  == the code's answer
---   formulaReadNumbers x            == its numbers: the refusal's, the kind's, p, q, r and k; `formulaReadValues`, the same of what is accepted
+--   formulaReadNumbers x            == its numbers: the refusal's, the kind's, p, q, r and k; `formulaValues` (formula_check), the same of what is accepted
 --   firstOf, secondOf, rowsLent o d == the buffer d after it: all 0 where the reading is refused, else filled from the start
 -- Assumes nothing.
 use Prim.Native.Nat.{ℕ}
@@ -25,9 +25,6 @@ formulaReply (accepted f) = read.Formula (f .shape) (length (f .firsts))
 abbrev pub formulaReadNumbers : Read → List ℕ
 formulaReadNumbers (read.Refused e) = refusalNumbers 5 e
 formulaReadNumbers (read.Formula shape k) = answerNumbers (numberOf (shape .kind) ∷ shape .p ∷ shape .q ∷ shape .r ∷ k ∷ [])
-
-abbrev pub formulaReadValues : Admitted → List ℕ
-formulaReadValues f = numberOf (f .shape .kind) ∷ f .shape .p ∷ f .shape .q ∷ f .shape .r ∷ length (f .firsts) ∷ []
 
 abbrev pub firstOf : Answer Admitted → List ℕ → List ℕ
 firstOf (refused e) d = zeros d

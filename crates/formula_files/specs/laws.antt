@@ -2,3 +2,6 @@
 pub mod FormulaFile
 pub mod Accepted
 pub mod Numbers
+pub mod Held
+pub mod Handed
+pub mod Roomy

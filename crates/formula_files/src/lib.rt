@@ -5,8 +5,9 @@
 ghost use mathlib.Core.Path.{_≡_};
 ghost use lib.ListN.{length};
 ghost use Rattle.formula_files.specs.FormulaFile.{formulaFile};
-ghost use Rattle.formula_files.specs.Lent.{formulaReply, formulaReadNumbers, formulaReadValues, firstOf, secondOf, rowsLent, Left, Under};
+ghost use Rattle.formula_files.specs.Lent.{formulaReply, formulaReadNumbers, firstOf, secondOf, rowsLent, Left, Under};
 ghost use Rattle.kinds.specs.Numbers.{replyNumbers};
+ghost use Rattle.formula_check.specs.Replies.{formulaValues};
 use kinds::Known;
 use kinds::Shape;
 use kinds::Sized;
@@ -88,7 +89,7 @@ pub fn read_formula(s: &[u8], a: &mut [u64], b: &mut [u64], rows: &mut [u64]) ->
         (now (b .entry)))
         × (now (rows .exit) ≡ rowsLent (formulaFile (now (s .entry)) (length (now (a .entry))) (length (now (b .entry))) (length (now (rows .entry))))
         (now (rows .entry)))
-        × (formulaReadNumbers x ≡ replyNumbers 5 formulaReadValues
+        × (formulaReadNumbers x ≡ replyNumbers 5 formulaValues
         (formulaFile (now (s .entry)) (length (now (a .entry))) (length (now (b .entry))) (length (now (rows .entry))))) ⌝ }
 {
     let got = read_whole(s, a, b, rows);

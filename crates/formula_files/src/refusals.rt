@@ -5,19 +5,6 @@ ghost use lib.Dec.{ltb};
 ghost use Rattle.formula_files.specs.refusals.Number.{number};
 ghost use Rattle.kinds.specs.Limits.{mostProducts};
 
-// Whether a buffer of la, lb or lr words is too short for k products and t rows.
-fn too_short(k: usize, t: usize, la: usize, lb: usize, lr: usize) -> bool
-    ensures { λ r. ⌜ r ≡ (ltb la k || (ltb lb k || ltb lr t)) ⌝ }
-{
-    if la < k {
-        return true;
-    }
-    if lb < k {
-        return true;
-    }
-    lr < t
-}
-
 // The refusal of a formula that is read, 6 to 9, or 0: whether a mask is too wide, whether a factor is zero, its k products and t rows, and
 // the buffers' lengths.
 pub fn refusal(wide: bool, zero: bool, k: usize, t: usize, la: usize, lb: usize, lr: usize) -> u64
@@ -27,5 +14,9 @@ pub fn refusal(wide: bool, zero: bool, k: usize, t: usize, la: usize, lb: usize,
     if e != 0 {
         return e;
     }
-    if too_short(k, t, la, lb, lr) { 9 } else { 0 }
+    if formula_check::too_short(k, t, la, lb, lr) {
+        9
+    } else {
+        0
+    }
 }

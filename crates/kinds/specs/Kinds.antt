@@ -7,7 +7,7 @@
 --   kindNamed s    == the kind that the bytes s name; each kind is the one with its name (kind-named)
 --   isList k       == whether it is the list
 --   knownMap o     == the kind, if it is known and not the list
--- Document 01: poly, short, circ, mat, list. Assumes nothing.
+-- Document 01: poly, short, circ, mat, list. Document 02: mid. Assumes nothing.
 use mathlib.Core.Path.{_≡_, refl}
 use mathlib.Core.Bool.{Bool, true, false, _&&_, cond}
 use mathlib.Core.List.{List, [], _∷_}
@@ -33,6 +33,7 @@ kindEntry kind.Short = record { number = 1; name = 115 ∷ 104 ∷ 111 ∷ 114 �
 kindEntry kind.Circ = record { number = 2; name = 99 ∷ 105 ∷ 114 ∷ 99 ∷ []; list = false }
 kindEntry kind.Mat = record { number = 3; name = 109 ∷ 97 ∷ 116 ∷ []; list = false }
 kindEntry kind.List = record { number = 4; name = 108 ∷ 105 ∷ 115 ∷ 116 ∷ []; list = true }
+kindEntry kind.Mid = record { number = 5; name = 109 ∷ 105 ∷ 100 ∷ []; list = false }
 
 abbrev pub numberOf : Kind → ℕ
 numberOf k = kindEntry k .number
@@ -49,12 +50,13 @@ name-short kind.Short = omega arith
 name-short kind.Circ = omega arith
 name-short kind.Mat = omega arith
 name-short kind.List = omega arith
+name-short kind.Mid = omega arith
 
 abbrev pub isList : Kind → Bool
 isList k = kindEntry k .list
 
 abbrev pub kinds : List Kind
-kinds = kind.Poly ∷ kind.Short ∷ kind.Circ ∷ kind.Mat ∷ kind.List ∷ []
+kinds = kind.Poly ∷ kind.Short ∷ kind.Circ ∷ kind.Mat ∷ kind.List ∷ kind.Mid ∷ []
 
 -- the first of some kinds that passes a test
 abbrev pub firstKind : (Kind → Bool) → List Kind → Option Kind
@@ -71,6 +73,7 @@ kind-numbered kind.Short = refl
 kind-numbered kind.Circ = refl
 kind-numbered kind.Mat = refl
 kind-numbered kind.List = refl
+kind-numbered kind.Mid = refl
 
 -- two byte strings are the same
 abbrev pub same : List ℕ → List ℕ → Bool
@@ -88,6 +91,7 @@ kind-named kind.Short = refl
 kind-named kind.Circ = refl
 kind-named kind.Mat = refl
 kind-named kind.List = refl
+kind-named kind.Mid = refl
 
 -- a kind that has formulae. Refusal 2: "The kind .. is unknown, or is list where a formula is sent."
 abbrev pub knownMap : Option Kind → Option Kind

@@ -8,7 +8,7 @@
 use mathlib.Core.List.{List, _∷_}
 use Prim.Native.Nat.{ℕ, _≤_}
 use lib.ListN.{replicate}
-use Rattle.kinds.specs.Refusal.{Answer, refused, accepted}
+use Rattle.kinds.specs.Refusal.{Answer, refused, accepted, RefusedOnly}
 
 abbrev pub refusalNumbers : (count e : ℕ) → List ℕ
 refusalNumbers count e = e ∷ replicate count 0
@@ -21,5 +21,4 @@ replyNumbers count values (refused e) = refusalNumbers count e
 replyNumbers count values (accepted a) = answerNumbers (values a)
 
 abbrev pub NotByZero : {A : Type 0} → Answer A → Type 0
-NotByZero (refused e) = 1 ≤ e
-NotByZero (accepted a) = Unit {0}
+NotByZero o = RefusedOnly (λ e. 1 ≤ e) o

@@ -1,5 +1,6 @@
 -- The sizes of a map: n variables a, m variables b, and the number of outputs; none where a size misfits document 01's table (refusal 3):
 -- "one that must be at least 1 is 0, n × m exceeds 64, short or circ has p unlike q, an r that must be 0 is not, or list has p or r above 64".
+-- Document 02 of mid: "another q is refused by 3".
 --   shapeOf kind p q r == the kind with its sizes
 --   sizes shape        == n, m and the number of outputs. For list, whose forms have p bits and no factors, n is p and m is 1.
 -- Assumes nothing.
@@ -39,12 +40,17 @@ matSizes p q r = given (within (p * q) (q * r)) (p * q, q * r, p * r)
 unfoldable pub listSizes : ℕ → ℕ → ℕ → Option (ℕ × ℕ × ℕ)
 listSizes p q r = given (leb 1 q && (within p 1 && within r 1)) (p, 1, r)
 
+-- mid: "n = p, m = 2n − 1 = q, r = 0, and output t below n"
+unfoldable pub midSizes : ℕ → ℕ → ℕ → Option (ℕ × ℕ × ℕ)
+midSizes p q r = given (eqb r 0 && (eqb q (2 * p - 1) && within p q)) (p, q, p)
+
 abbrev pub sizesFor : Kind → ℕ → ℕ → ℕ → Option (ℕ × ℕ × ℕ)
 sizesFor kind.Poly p q r = polySizes p q r
 sizesFor kind.Short p q r = squareSizes p q r
 sizesFor kind.Circ p q r = squareSizes p q r
 sizesFor kind.Mat p q r = matSizes p q r
 sizesFor kind.List p q r = listSizes p q r
+sizesFor kind.Mid p q r = midSizes p q r
 
 abbrev pub shapeOf : Kind → (p q r : ℕ) → Shape
 shapeOf k p q r = record { kind = k; p = p; q = q; r = r }

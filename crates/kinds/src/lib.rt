@@ -3,7 +3,7 @@
 // specs/ also has the list of refusals. The map itself: `maps`.
 ghost use mathlib.Core.Path.{_≡_};
 ghost use Rattle.kinds.specs.Kinds.{numberOf, kindNumbered, isList, knownMap, seenKind};
-ghost use Rattle.kinds.specs.Sizes.{within, polySizes, squareSizes, matSizes, listSizes, sizes, seenSizes};
+ghost use Rattle.kinds.specs.Sizes.{within, polySizes, squareSizes, matSizes, listSizes, midSizes, sizes, seenSizes};
 
 pub mod names;
 
@@ -16,13 +16,14 @@ pub const PRODUCTS: usize = 64;
 
 pub const GENERATORS: usize = 4095;
 
-// Document 01's kinds.
+// Document 01's kinds, then those of document 02.
 pub enum Kind {
     Poly,
     Short,
     Circ,
     Mat,
     List,
+    Mid,
 }
 
 pub enum Known {
@@ -40,6 +41,7 @@ pub fn number_of(kind: Kind) -> u64
         Kind::Circ => 2,
         Kind::Mat => 3,
         Kind::List => 4,
+        Kind::Mid => 5,
     }
 }
 
@@ -53,6 +55,7 @@ pub fn kind_numbered(number: u64) -> Known
         2 => Known::Is(Kind::Circ),
         3 => Known::Is(Kind::Mat),
         4 => Known::Is(Kind::List),
+        5 => Known::Is(Kind::Mid),
         _ => Known::No,
     }
 }
@@ -67,6 +70,7 @@ pub fn is_list(kind: Kind) -> bool
         Kind::Circ => false,
         Kind::Mat => false,
         Kind::List => true,
+        Kind::Mid => false,
     }
 }
 
@@ -175,6 +179,24 @@ fn list_sizes(p: u64, q: u64, r: u64) -> Sized
     }
 }
 
+// p is doubled once it is known to be small, so that nothing overflows.
+fn mid_sizes(p: u64, q: u64, r: u64) -> Sized
+    ensures { λ x. ⌜ midSizes p q r ≡ seenSizes x ⌝ }
+{
+    if r != 0 {
+        return Sized::No;
+    }
+    if !fits(p, q) {
+        return Sized::No;
+    }
+    let m = 2 * p - 1;
+    if q == m {
+        Sized::Are(p, m, p)
+    } else {
+        Sized::No
+    }
+}
+
 // The sizes of a map of that shape.
 pub fn sizes_of(shape: Shape) -> Sized
     ensures { λ x. ⌜ sizes shape ≡ seenSizes x ⌝ }
@@ -186,5 +208,6 @@ pub fn sizes_of(shape: Shape) -> Sized
         Kind::Circ => square_sizes(shape.p, shape.q, shape.r),
         Kind::Mat => mat_sizes(shape.p, shape.q, shape.r),
         Kind::List => list_sizes(shape.p, shape.q, shape.r),
+        Kind::Mid => mid_sizes(shape.p, shape.q, shape.r),
     }
 }

@@ -44,6 +44,7 @@ pub fn name_of(kind: Kind) -> Name
         Kind::Circ => spelt(b"circ"),
         Kind::Mat => spelt(b"mat"),
         Kind::List => spelt(b"list"),
+        Kind::Mid => spelt(b"mid"),
     }
 }
 

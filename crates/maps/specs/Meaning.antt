@@ -26,7 +26,7 @@ use Rattle.maps.specs.laws.Value as values
 use Rattle.maps.specs.laws.Target as targets
 use Rattle.maps.specs.laws.Generators as generators
 
--- Document 01's table of targets: of a map with n and m variables and u outputs, the form of output t computes output t.
+-- Document 01's table of targets, and document 02's mid: of a map with n and m variables and u outputs, the form of output t computes output t.
 pub target-value : (shape : Shape) (n m u : ℕ) → sizes shape ≡ some (n, m, u) → (t : ℕ) → t < u → isList (shape .kind) ≡ false → (a b : ℕ → Bool)
     → value n m (targetForm shape n m t) a b ≡ output shape a b t
 target-value = targets.target-value

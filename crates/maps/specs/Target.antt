@@ -4,7 +4,7 @@
 --   targetForm shape n m t   == the form of output t, in n and m variables
 -- Document 01: "The targets are the forms to be computed." Theorems: target-value (Meaning). Assumes nothing.
 use mathlib.Core.Bool.{Bool, false, _&&_}
-use Prim.Native.Nat.{ℕ, _+_, _*_, _/_, _%_}
+use Prim.Native.Nat.{ℕ, _+_, _-_, _*_, _/_, _%_}
 use lib.Dec.{eqb}
 use Rattle.linear.specs.Bit.{bit}
 use Rattle.kinds.specs.declared.Kind.{Kind}
@@ -23,6 +23,7 @@ pairFor kind.Short p q r t i j = eqb (i + j) t
 pairFor kind.Circ p q r t i j = eqb ((i + j) % p) t
 pairFor kind.Mat p q r t i j = eqb (i / q) (t / r) && (eqb (i % q) (j / r) && eqb (j % r) (t % r))
 pairFor kind.List p q r t i j = false
+pairFor kind.Mid p q r t i j = eqb (i + j) (p - 1 + t)
 
 abbrev pub pair : Shape → (t i j : ℕ) → Bool
 pair shape t i j = pairFor (shape .kind) (shape .p) (shape .q) (shape .r) t i j

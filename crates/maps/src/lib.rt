@@ -14,7 +14,7 @@ pub mod squares;
 
 // Whether a_i b_j is a term of output t.
 fn is_pair(shape: Shape, t: u64, i: u64, j: u64) -> bool
-    requires { ⌜ Terms shape i j ⌝ }
+    requires { ⌜ Terms shape t i j ⌝ }
     ensures { λ x. ⌜ x ≡ pair shape t i j ⌝ }
 {
     let kind = shape.kind;
@@ -32,6 +32,7 @@ fn is_pair(shape: Shape, t: u64, i: u64, j: u64) -> bool
             j % shape.r == t % shape.r
         }
         Kind::List => false,
+        Kind::Mid => i + j == shape.p - 1 + t,
     }
 }
 

@@ -19,10 +19,13 @@ pub mod pages;
 pub mod record_lines;
 pub mod refusals;
 
-// The bytes of a page for a whole reply, for Check's, and for a part of what the Formulae program prints (`replyPage`, `checkPage`, `partPage`).
+// The bytes of a page for a whole reply, for Check's, for a formula's file, and for a part of what the Formulae program prints (`replyPage`, `checkPage`,
+// `formulaPage`, `partPage`).
 pub const REPLY_PAGE: usize = 196608;
 
 pub const CHECK_PAGE: usize = 256;
+
+pub const FORMULA_PAGE: usize = 4096;
 
 pub const PART_PAGE: usize = 278528;
 

@@ -3,7 +3,7 @@ ghost use mathlib.Core.Path.{_≡_};
 ghost use lib.ListN.{length};
 ghost use Rattle.printing.specs.fields.Written.{writtenIn};
 ghost use Rattle.printing.specs.pages.Printed.{pageAnswer, seenPrinted};
-ghost use Rattle.printing.specs.refusals.Pages.{replyPage, checkPage, partPage};
+ghost use Rattle.printing.specs.refusals.Pages.{replyPage, checkPage, formulaPage, partPage};
 
 // What a call that prints on a lent page says: a refusal's number, or how many bytes are printed, from the page's start.
 pub enum Printed {
@@ -34,6 +34,13 @@ pub fn check_page() -> [u8; super::CHECK_PAGE]
     ensures { λ r. ⌜ checkPage ≡ length r ⌝ }
 {
     [0; super::CHECK_PAGE]
+}
+
+// A page for a formula's file.
+pub fn formula_page() -> [u8; super::FORMULA_PAGE]
+    ensures { λ r. ⌜ formulaPage ≡ length r ⌝ }
+{
+    [0; super::FORMULA_PAGE]
 }
 
 // A page for a part of what the Formulae program prints.

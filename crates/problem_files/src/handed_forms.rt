@@ -3,7 +3,7 @@ ghost use mathlib.Core.Path.{_≡_};
 ghost use mathlib.Core.List.{[]};
 ghost use Prim.Native.Nat.{_≤_};
 ghost use lib.ListN.{length, take};
-ghost use Rattle.problems.specs.Replies.{refusedBy};
+ghost use Rattle.kinds.specs.Refusal.{refusedBy};
 ghost use Rattle.problem_files.specs.handed_forms.ProblemLines.{handed, listLines, mapLines, bodyOf, FormRoom};
 ghost use Rattle.kinds.specs.Limits.{mostGenerators};
 use kinds::Kind;

@@ -1,5 +1,4 @@
 -- The answers of the code, in the definitions' terms, and what its steps ask.
---   refusedBy e a    == refused by e, or by none where e is 0
 --   seenPosed g t x  == the answer that x stands for, the forms standing at the start of the buffers g and t
 --   Room c u         == at most 4,095 generators, and between 1 and 64 targets
 --   Laid asked x g t == x answers what was asked, and its numbers of generators and targets are such
@@ -7,17 +6,13 @@
 -- Assumes nothing.
 use mathlib.Core.Path.{_≡_}
 use mathlib.Core.List.{List}
-use Prim.Native.Nat.{ℕ, zero, suc, _≤_}
+use Prim.Native.Nat.{ℕ, _≤_}
 use lib.ListN.{length, take}
 use Rattle.kinds.specs.Refusal.{Answer, refused, accepted}
 use Rattle.problems.specs.Problem.{Problem, problem}
 use Rattle.problems.specs.declared.Posed.{Posed}
 use Rattle.problems.specs.declared.Posed.the-variants as posed
 use Rattle.kinds.specs.Limits.{mostGenerators, mostTargets}
-
-abbrev pub refusedBy : {A : Type 0} → ℕ → A → Answer A
-refusedBy zero a = accepted a
-refusedBy (suc e) a = refused (suc e)
 
 abbrev pub seenPosed : List ℕ → List ℕ → Posed → Answer Problem
 seenPosed g t (posed.Refused e) = refused e

@@ -1,7 +1,4 @@
--- The text of a formula's file; what is printed is read back, and nothing else is accepted.
-pub mod HeadText
-pub mod BodyText
-pub mod FileText
+-- What is printed of a formula is read back, and nothing else is accepted. The text itself: formula_text.
 pub mod laws
 pub mod PrintThenRead
 pub mod AcceptedOnly

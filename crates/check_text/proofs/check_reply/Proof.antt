@@ -9,8 +9,9 @@ use Rattle.kinds.specs.Refusal.{Answer, accepted}
 use Rattle.kinds.specs.Sizes.{sizes, seenSizes}
 use Rattle.check_text.specs.replies.CheckText.{checkText}
 use Rattle.check_text.specs.CheckAnswers.{admittedText}
-use Rattle.check_text.specs.Buffers.{formulaIn}
-use Rattle.check_text.specs.laws.Replying.{in-fits, in-text, answer-short, answer-whole}
+use Rattle.formula_check.specs.Buffers.{formulaIn}
+use Rattle.formula_check.specs.laws.Buffers.{in-fits}
+use Rattle.check_text.specs.laws.Replying.{in-text, answer-short, answer-whole}
 use Rattle.check_text.proofs.check_reply.Statement.{statement}
 use Rattle.check_text.proofs.check_reply.Tie as tie
 use Rattle.check_text.proofs.check_reply.Reads as reads

@@ -6,13 +6,11 @@ use mathlib.Core.Option.{Option, some}
 use Prim.Native.Nat.{ℕ}
 use native.Mathlib.Omega.{arith}
 use lib.ListN.{length, take}
-use lib.Seq.{length-take-le}
 use lib.Dec.{ltb}
 use Rattle.kinds.specs.declared.Shape.{Shape}
 use Rattle.kinds.specs.Sizes.{sizes}
 use Rattle.kinds.specs.Refusal.{Answer, accepted}
 use Rattle.formula_check.specs.Formula.{Admitted, formulaOf, verdict}
-use Rattle.formula_check.specs.Replies.{Fitting}
 use Rattle.formula_check.specs.verdicts.Verdicts.{seenVerdict}
 use Rattle.formula_check.specs.declared.verdicts.Verdict.{Verdict}
 use Rattle.formula_check.specs.declared.verdicts.Verdict.the-variants as said
@@ -20,43 +18,22 @@ use Rattle.check_text.specs.replies.CheckText.{checkText}
 use Rattle.check_text.specs.replies.CheckTextLong.{check-text-long}
 use Rattle.printing.specs.fields.Written.{bytesIn, writtenIn}
 use Rattle.check_text.specs.CheckAnswers.{verdictOf, admittedText, replyOf, bytesOf}
-use Rattle.check_text.specs.Buffers.{sizesOr, sizesIn, formulaIn, FormulaBuffers}
+use Rattle.formula_check.specs.Buffers.{formulaIn, FormulaBuffers}
+use Rattle.formula_check.specs.laws.Buffers.{in-is, in-products}
 
 pub verdict-same : (v : Verdict) → verdictOf (seenVerdict v) ≡ v
 verdict-same said.Right = refl
 verdict-same (said.Wrong t) = refl
 
-pub sizes-in : (shape : Shape) (z : ℕ × ℕ × ℕ) → sizes shape ≡ some z → sizesIn shape ≡ z
-unfolding sizesIn
-sizes-in shape z e = ap sizesOr e
-
--- ---- the formula in the buffers, whose parts are xs, ys and zs
+-- ---- the text of the formula in the buffers, whose parts are xs, ys and zs, by the judgement that was found
 module _ (shape : Shape) (k : ℕ) (a b rows : List ℕ) (B : FormulaBuffers shape k a b rows) (n m u : ℕ) (S : sizes shape ≡ some (n, m, u))
     (xs ys zs : List ℕ) (X : xs ≡ take k a) (Y : ys ≡ take k b) (Z : zs ≡ take u rows) where
-  -- it is that of the sizes that were found
-  in-is : formulaIn shape k a b rows ≡ formulaOf shape n m xs ys zs
-  in-is =
-      ap (λ (z : ℕ × ℕ × ℕ). formulaOf shape (z .0) (z .1) (take k a) (take k b) (take (z .2) rows)) (sizes-in shape (n, m, u) S)
-      ∙ ap₂ (λ (x y : List ℕ). formulaOf shape n m x y (take u rows)) (sym X) (sym Y) ∙ ap (formulaOf shape n m xs ys) (sym Z)
-
-  products : length xs ≡ k
-  products = ap length X ∙ length-take-le k a (B .firsts)
-
-  -- and fits
-  pub in-fits : Fitting shape n m xs ys zs
-  in-fits =
-      let y = ap length Y ∙ length-take-le k b (B .seconds) in
-      let o : u ≡ B .u = ap (λ (z : ℕ × ℕ × ℕ). z .2) (sym (sizes-in shape (n, m, u) S) ∙ sizes-in shape (B .n, B .m, B .u) (B .sized)) in
-      let w = ap length Z ∙ length-take-le u rows (omega (arith, o, B .outputs)) in
-      record { sized = S ∙ ap (λ (t : ℕ). some (n, m, t)) (sym w); paired = products ∙ sym y; few = omega (arith, products, B .few) }
-
-  -- its text, by the judgement that was found
   pub in-text : (v : Verdict) (w : ℕ) → verdict (formulaOf shape n m xs ys zs) ≡ (seenVerdict v, w)
       → _≡_ {A = Answer (List ℕ)} (accepted (admittedText (formulaIn shape k a b rows))) (accepted (checkText shape k v w))
   in-text v w e =
-      ap (λ (f : Admitted). accepted (admittedText f)) in-is
+      ap (λ (f : Admitted). accepted (admittedText f)) (in-is shape k a b rows B n m u S xs ys zs X Y Z)
       ∙ ap (λ (x : Option ℕ × ℕ). accepted (checkText shape (length xs) (verdictOf (x .0)) (x .1))) e
-      ∙ ap₂ (λ (i : ℕ) (x : Verdict). accepted (checkText shape i x w)) products (verdict-same v)
+      ∙ ap₂ (λ (i : ℕ) (x : Verdict). accepted (checkText shape i x w)) (in-products shape k a b rows B n m u S xs ys zs X Y Z) (verdict-same v)
 
 -- ---- the text
 module _ (shape : Shape) (k : ℕ) (v : Verdict) (w : ℕ) (d : List ℕ) where

@@ -9,10 +9,10 @@ use mathlib.Core.Option.{some}
 use Rattle.kinds.specs.Refusal.{accepted}
 use Rattle.kinds.specs.laws.Refusal.{accepted-inj, need-inv, refuse-inv, follow-inv}
 use Rattle.text.specs.heads.Head.{Head, headLines}
-use Rattle.formula_check.specs.Formula.{Admitted, admit}
+use Rattle.formula_check.specs.Formula.{Admitted, admit, tooShort, heldIn}
 use Rattle.formula_check.specs.laws.Admitted.{AdmittedSo, admit-inv}
 use Rattle.formula_files.specs.lines.Formula.{body}
-use Rattle.formula_files.specs.FormulaFile.{tooShort, heldIn, rest, formulaFile}
+use Rattle.formula_files.specs.FormulaFile.{rest, formulaFile}
 
 pub record FileAdmitted (s : List ℕ) (la lb lr : ℕ) (f : Admitted) : Type 0 where
   pub head : Head

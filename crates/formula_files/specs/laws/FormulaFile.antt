@@ -27,11 +27,11 @@ use Rattle.text.specs.heads.Head.{Head, headLines}
 use Rattle.text.specs.heads.Views.{bytesHead}
 use Rattle.text.specs.declared.heads.HeadRead.{HeadRead}
 use Rattle.text.specs.declared.heads.HeadRead.the-variants as hd
-use Rattle.formula_check.specs.Formula.{Admitted, formulaOf, passed, admit}
+use Rattle.formula_check.specs.Formula.{Admitted, formulaOf, passed, admit, tooShort, heldIn}
 use Rattle.formula_files.specs.lines.Formula.{body}
 use Rattle.formula_files.specs.refusals.Number.{number}
 use Rattle.formula_files.specs.lines.laws.Told.{Told}
-use Rattle.formula_files.specs.FormulaFile.{tooShort, heldIn, under, rest, formulaFile}
+use Rattle.formula_files.specs.FormulaFile.{under, rest, formulaFile}
 use Rattle.formula_files.specs.Lent.{formulaReply, firstOf, secondOf, rowsLent, Left, Under}
 use Rattle.formula_files.specs.declared.Read.{Read}
 use Rattle.formula_files.specs.declared.Read.the-variants as read

@@ -4,60 +4,48 @@
 --   formula-numbered  a formula's file is never refused by 0
 -- Assumes nothing.
 use mathlib.Core.Path.{_≡_, refl, sym, ap, _∙_}
-use mathlib.Core.List.{List, [], _∷_}
-use mathlib.Core.Option.{Option, none, some}
-use Prim.Native.Nat.{ℕ, zero, suc}
+use mathlib.Core.List.{List}
+use mathlib.Core.Option.{Option}
+use Prim.Native.Nat.{ℕ}
 use native.Mathlib.Omega.{arith}
-use lib.ListN.{length}
-use Rattle.kinds.specs.Kinds.{kindNumbered, kind-numbered}
-use Rattle.kinds.specs.declared.Kind.{Kind}
-use Rattle.kinds.specs.Sizes.{shapeOf}
+use Rattle.kinds.specs.declared.Shape.{Shape}
 use Rattle.kinds.specs.Refusal.{Answer, refused, accepted}
 use Rattle.kinds.specs.Numbers.{replyNumbers, NotByZero}
-use Rattle.kinds.specs.laws.Numbers.{numbers-differ, need-numbered, refuse-numbered, follow-numbered}
+use Rattle.kinds.specs.laws.Numbers.{need-numbered, refuse-numbered, follow-numbered}
 use Rattle.text.specs.heads.Head.{headLines}
-use Rattle.formula_check.specs.Formula.{Admitted, Lists, admit}
-use Rattle.formula_check.specs.laws.Numbers.{admit-numbered}
+use Rattle.formula_check.specs.Formula.{Admitted, Lists, admit, tooShort}
+use Rattle.formula_check.specs.Replies.{formulaValues, outline}
+use Rattle.formula_check.specs.laws.Numbers.{admit-numbered, outlines-differ}
 use Rattle.formula_files.specs.lines.Formula.{body}
-use Rattle.formula_files.specs.FormulaFile.{tooShort, rest, formulaFile}
-use Rattle.formula_files.specs.Lent.{formulaReply, formulaReadNumbers, formulaReadValues}
+use Rattle.formula_files.specs.FormulaFile.{rest, formulaFile}
+use Rattle.formula_files.specs.Lent.{formulaReply, formulaReadNumbers}
 use Rattle.formula_files.specs.declared.Read.{Read}
 use Rattle.formula_files.specs.declared.Read.the-variants as read
 
-formula-numbers : (o : Answer Admitted) → formulaReadNumbers (formulaReply o) ≡ replyNumbers 5 formulaReadValues o
+formula-numbers : (o : Answer Admitted) → formulaReadNumbers (formulaReply o) ≡ replyNumbers 5 formulaValues o
 formula-numbers (refused e) = refl
 formula-numbers (accepted f) = refl
 
 -- A, B and C are what is promised of the lent buffers
 pub formula-told : {A B C : Type 0} (o : Answer Admitted) (x : Read) → (x ≡ formulaReply o) × A × B × C
-    → (x ≡ formulaReply o) × A × B × C × (formulaReadNumbers x ≡ replyNumbers 5 formulaReadValues o)
+    → (x ≡ formulaReply o) × A × B × C × (formulaReadNumbers x ≡ replyNumbers 5 formulaValues o)
 formula-told o x P = (P .0, P .1, P .2, P .3, ap formulaReadNumbers (P .0) ∙ formula-numbers o)
 
--- the reply with those numbers
-named : Option Kind → (p q r k : ℕ) → Read
-named none p q r k = read.Refused 0
-named (some kd) p q r k = read.Formula (shapeOf kd p q r) k
+-- the reply with that outline
+replyOf : Answer (Shape × ℕ) → Read
+replyOf (refused e) = read.Refused e
+replyOf (accepted (shape, k)) = read.Formula shape k
 
-from : List ℕ → Read
-from (suc e ∷ v) = read.Refused (suc e)
-from (zero ∷ n ∷ p ∷ q ∷ r ∷ k ∷ v) = named (kindNumbered n) p q r k
-from (zero ∷ n ∷ p ∷ q ∷ r ∷ []) = read.Refused 0
-from (zero ∷ n ∷ p ∷ q ∷ []) = read.Refused 0
-from (zero ∷ n ∷ p ∷ []) = read.Refused 0
-from (zero ∷ n ∷ []) = read.Refused 0
-from (zero ∷ []) = read.Refused 0
-from [] = read.Refused 0
-
-back : (o : Answer Admitted) → NotByZero o → from (formulaReadNumbers (formulaReply o)) ≡ formulaReply o
-unfolding from named
-back (refused zero) h = absurd (omega arith)
-back (refused (suc e)) h = refl
-back (accepted f) h = ap (λ (kd : Option Kind). named kd (f .shape .p) (f .shape .q) (f .shape .r) (length (f .firsts))) (kind-numbered (f .shape .kind))
+outlined : (o : Answer Admitted) → formulaReply o ≡ replyOf (outline o)
+unfolding replyOf
+outlined (refused e) = refl
+outlined (accepted f) = refl
 
 pub formula-differ : (o u : Answer Admitted) (x y : Read) → x ≡ formulaReply o → y ≡ formulaReply u → NotByZero o → NotByZero u
     → formulaReadNumbers x ≡ formulaReadNumbers y → x ≡ y
 formula-differ o u x y e f n m h =
-    e ∙ numbers-differ from (back o n) (back u m) (sym (ap formulaReadNumbers e) ∙ h ∙ ap formulaReadNumbers f) ∙ sym f
+    e ∙ outlined o ∙ ap replyOf (outlines-differ o u n m (sym (formula-numbers o) ∙ sym (ap formulaReadNumbers e) ∙ h ∙ ap formulaReadNumbers f ∙ formula-numbers u))
+    ∙ sym (outlined u) ∙ sym f
 
 pub formula-numbered : (s : List ℕ) (la lb lr : ℕ) → NotByZero (formulaFile s la lb lr)
 unfolding formulaFile rest

@@ -6,25 +6,23 @@
 --   refusal-zeros                                     every number of a refusal but the first is 0
 -- Assumes nothing.
 use mathlib.Core.Path.{_≡_, refl, sym, ap, _∙_, subst}
-use mathlib.Core.Bool.{Bool, true, false}
+use mathlib.Core.Bool.{Bool}
 use mathlib.Core.List.{List}
-use mathlib.Core.Option.{Option, none, some}
+use mathlib.Core.Option.{Option}
 use Prim.Native.Nat.{ℕ, zero, suc, _≤_}
 use lib.ListN.{replicate, getD}
-use Rattle.kinds.specs.Refusal.{Answer, refused, accepted, need, refuse, follow}
+use Rattle.kinds.specs.Refusal.{Answer, need, refuse, follow}
+use Rattle.kinds.specs.laws.Refusal.{need-only, refuse-only, follow-only}
 use Rattle.kinds.specs.Numbers.{refusalNumbers, replyNumbers, NotByZero}
 
 pub need-numbered : {A B : Type 0} (e : ℕ) (o : Option A) (f : A → Answer B) → 1 ≤ e → ((a : A) → NotByZero (f a)) → NotByZero (need e o f)
-need-numbered e none f h g = h
-need-numbered e (some a) f h g = g a
+need-numbered e o f h g = need-only (λ e. 1 ≤ e) e o f h g
 
 pub refuse-numbered : {A : Type 0} (e : ℕ) (b : Bool) (o : Answer A) → 1 ≤ e → NotByZero o → NotByZero (refuse e b o)
-refuse-numbered e true o h g = h
-refuse-numbered e false o h g = g
+refuse-numbered e b o h g = refuse-only (λ e. 1 ≤ e) e b o h g
 
 pub follow-numbered : {A B : Type 0} (o : Answer A) (f : A → Answer B) → NotByZero o → ((a : A) → NotByZero (f a)) → NotByZero (follow o f)
-follow-numbered (refused e) f h g = h
-follow-numbered (accepted a) f h g = g a
+follow-numbered o f h g = follow-only (λ e. 1 ≤ e) o f h g
 
 pub told : {A : Type 0} (count : ℕ) (values : A → List ℕ) {o s : Answer A} {numbers : List ℕ} → numbers ≡ replyNumbers count values s → o ≡ s
     → (o ≡ s) × (numbers ≡ replyNumbers count values o)

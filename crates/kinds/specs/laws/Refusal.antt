@@ -2,14 +2,17 @@
 --   need-inv     there was a value, and what f says of it is the answer
 --   refuse-inv   the test did not hold, and the rest is the answer
 --   follow-inv   the first answer was accepted, and what f says of its value is the answer
+--   need-only, refuse-only, follow-only   what holds of each step's number holds of the answer's
+--   follow-known                          the same, where what follows an answer may depend on it
+--   by-some, by-none   a refusal's number that is not 0, and 0
 --   neither      of two tests joined in one refusal that did not apply, neither holds
 -- Assumes nothing.
-use mathlib.Core.Path.{_≡_, refl}
+use mathlib.Core.Path.{_≡_, refl, subst}
 use mathlib.Core.Bool.{Bool, true, false, _||_, true≢false}
 use mathlib.Core.Option.{Option, none, some}
-use Prim.Native.Nat.{ℕ}
+use Prim.Native.Nat.{ℕ, zero, suc}
 use native.Mathlib.Omega.{arith}
-use Rattle.kinds.specs.Refusal.{Answer, refused, accepted, need, refuse, follow}
+use Rattle.kinds.specs.Refusal.{Answer, refused, accepted, need, refuse, follow, refusedBy, RefusedOnly}
 
 pub accepted-inj : {A : Type 0} (x y : A) → accepted x ≡ accepted y → x ≡ y
 accepted-inj x y e = cc
@@ -25,6 +28,36 @@ refuse-inv e false o x q = (refl, q)
 pub follow-inv : {A B : Type 0} (o : Answer A) (f : A → Answer B) (x : B) → follow o f ≡ accepted x → (a : A) × (o ≡ accepted a) × (f a ≡ accepted x)
 follow-inv (refused e) f x q = absurd (let z : _≡_ {A = ℕ} 0 1 = cc in omega arith)
 follow-inv (accepted a) f x q = (a, refl, q)
+
+-- ---- by which numbers
+module _ (P : ℕ → Type 0) where
+  pub need-only : {A B : Type 0} (e : ℕ) (o : Option A) (f : A → Answer B) → P e → ((a : A) → RefusedOnly P (f a)) → RefusedOnly P (need e o f)
+  need-only e none f h g = h
+  need-only e (some a) f h g = g a
+
+  pub refuse-only : {A : Type 0} (e : ℕ) (b : Bool) (o : Answer A) → P e → RefusedOnly P o → RefusedOnly P (refuse e b o)
+  refuse-only e true o h g = h
+  refuse-only e false o h g = g
+
+  pub follow-only : {A B : Type 0} (o : Answer A) (f : A → Answer B) → RefusedOnly P o → ((a : A) → RefusedOnly P (f a)) → RefusedOnly P (follow o f)
+  follow-only (refused e) f h g = h
+  follow-only (accepted a) f h g = g a
+
+  pub follow-known : {A B : Type 0} (o : Answer A) (f : A → Answer B) → RefusedOnly P o → ((a : A) → o ≡ accepted a → RefusedOnly P (f a))
+      → RefusedOnly P (follow o f)
+  follow-known (refused e) f h g = h
+  follow-known (accepted a) f h g = g a refl
+
+  pub refused-only : {A : Type 0} {o : Answer A} {e : ℕ} → RefusedOnly P o → o ≡ refused e → P e
+  refused-only h q = subst (RefusedOnly P) q h
+
+pub by-some : {A : Type 0} (e : ℕ) (a : A) → (e ≡ 0 → ⊥) → refusedBy e a ≡ refused e
+by-some zero a d = absurd (d refl)
+by-some (suc e) a d = refl
+
+pub by-none : {A : Type 0} (e : ℕ) (a : A) → e ≡ 0 → refusedBy e a ≡ accepted a
+by-none zero a d = refl
+by-none (suc e) a d = absurd (omega arith)
 
 pub neither : (a b : Bool) → a || b ≡ false → (a ≡ false) × (b ≡ false)
 neither true b e = absurd (true≢false e)

@@ -3,6 +3,7 @@
 --   list-bits      a list's n is its p
 --   list-outputs   a list has as many outputs as targets
 --   map-few        p, q and r are at most 64, but for list
+--   poly-some, square-some, mid-some   what sizes of poly, of short and circ, and of mid, say of p, q and r
 -- Assumes nothing.
 use mathlib.Core.Path.{_≡_, refl, sym, ap, ap₂, _∙_, subst}
 use mathlib.Core.Bool.{Bool, true, false, not, _&&_, true≢false, false≢true, and-eq-true-iff}
@@ -14,7 +15,7 @@ use native.Mathlib.Decide.{decLe}
 use lib.Dec.{leb, eqb}
 use borrow.Author.Tests.{leb-true, le-leb, lt-leb, eqb-true, eq-eqb}
 use Rattle.kinds.specs.Kinds.{isList}
-use Rattle.kinds.specs.Sizes.{given, within, polySizes, squareSizes, matSizes, listSizes, sizesFor, sizes}
+use Rattle.kinds.specs.Sizes.{given, within, polySizes, squareSizes, matSizes, listSizes, midSizes, sizesFor, sizes}
 use Rattle.kinds.specs.declared.Kind.{Kind}
 use Rattle.kinds.specs.declared.Kind.the-variants as kind
 use Rattle.kinds.specs.declared.Shape.{Shape}
@@ -108,6 +109,33 @@ mat-within p q r e =
       outputs = within-facts p r c f (let h : p * q * (q * r) ≤ 64 = W .product in omega arith);
     }
 
+-- ---- short, circ and mid: r is 0, two numbers x and y are equal, p × q is within, and the outputs are as many as the a's
+pub record Tied (x y p q r : ℕ) : Type 0 where
+  pub third : r ≡ 0
+  pub tie : x ≡ y
+  pub fits : Within p q
+
+module _ (x y p q r : ℕ) where
+  abbrev tied : Option (ℕ × ℕ × ℕ)
+  tied = given (eqb r 0 && (eqb x y && within p q)) (p, q, p)
+
+  tied-yes : eqb r 0 && (eqb x y && within p q) ≡ true → Tied x y p q r
+  tied-yes e =
+      let t = both (eqb r 0) (eqb x y && within p q) e in
+      let u = both (eqb x y) (within p q) (t .1) in
+      record { third = eqb-true r 0 (t .0); tie = eqb-true x y (u .0); fits = within-yes p q (u .1) }
+
+  tied-is : Tied x y p q r → tied ≡ some (p, q, p)
+  tied-is T =
+      given-yes (eqb r 0 && (eqb x y && within p q)) (p, q, p)
+      (ap₂ _&&_ (eq-eqb r 0 (T .third)) (ap₂ _&&_ (eq-eqb x y (T .tie)) (within-of p q (T .fits))))
+
+  tied-not : (Tied x y p q r → ⊥) → tied ≡ none
+  tied-not h = given-no (eqb r 0 && (eqb x y && within p q)) (p, q, p) (λ e. h (tied-yes e))
+
+  tied-some : (z : ℕ × ℕ × ℕ) → tied ≡ some z → Tied x y p q r × ((p, q, p) ≡ z)
+  tied-some z e = let g = given-some (eqb r 0 && (eqb x y && within p q)) (p, q, p) z e in (tied-yes (g .0), g .1)
+
 -- ---- each kind, from its tests
 module _ (p q r : ℕ) where
   pub poly-is : r ≡ 0 → within p q ≡ true → polySizes p q r ≡ some (p, q, p + q - 1)
@@ -118,15 +146,36 @@ module _ (p q r : ℕ) where
   unfolding polySizes
   poly-not h = given-no (eqb r 0 && within p q) (p, q, p + q - 1) (λ e. let t = both (eqb r 0) (within p q) e in h (eqb-true r 0 (t .0)) (t .1))
 
-  pub square-is : r ≡ 0 → p ≡ q → within p q ≡ true → squareSizes p q r ≡ some (p, q, p)
-  unfolding squareSizes
-  square-is a b c = given-yes (eqb r 0 && (eqb p q && within p q)) (p, q, p) (ap₂ _&&_ (eq-eqb r 0 a) (ap₂ _&&_ (eq-eqb p q b) c))
+  pub poly-some : (z : ℕ × ℕ × ℕ) → polySizes p q r ≡ some z → (r ≡ 0) × Within p q × ((p, q, p + q - 1) ≡ z)
+  unfolding polySizes
+  poly-some z e =
+      let g = given-some (eqb r 0 && within p q) (p, q, p + q - 1) z e in
+      let t = both (eqb r 0) (within p q) (g .0) in
+      (eqb-true r 0 (t .0), within-yes p q (t .1), g .1)
 
-  pub square-not : (r ≡ 0 → p ≡ q → within p q ≡ true → ⊥) → squareSizes p q r ≡ none
+  pub square-is : Tied p q p q r → squareSizes p q r ≡ some (p, q, p)
   unfolding squareSizes
-  square-not h =
-      given-no (eqb r 0 && (eqb p q && within p q)) (p, q, p)
-      (λ e. let t = both (eqb r 0) (eqb p q && within p q) e in let u = both (eqb p q) (within p q) (t .1) in h (eqb-true r 0 (t .0)) (eqb-true p q (u .0)) (u .1))
+  square-is T = tied-is p q p q r T
+
+  pub square-not : (Tied p q p q r → ⊥) → squareSizes p q r ≡ none
+  unfolding squareSizes
+  square-not h = tied-not p q p q r h
+
+  pub square-some : (z : ℕ × ℕ × ℕ) → squareSizes p q r ≡ some z → Tied p q p q r × ((p, q, p) ≡ z)
+  unfolding squareSizes
+  square-some z e = tied-some p q p q r z e
+
+  pub mid-is : Tied q (2 * p - 1) p q r → midSizes p q r ≡ some (p, q, p)
+  unfolding midSizes
+  mid-is T = tied-is q (2 * p - 1) p q r T
+
+  pub mid-not : (Tied q (2 * p - 1) p q r → ⊥) → midSizes p q r ≡ none
+  unfolding midSizes
+  mid-not h = tied-not q (2 * p - 1) p q r h
+
+  pub mid-some : (z : ℕ × ℕ × ℕ) → midSizes p q r ≡ some z → Tied q (2 * p - 1) p q r × ((p, q, p) ≡ z)
+  unfolding midSizes
+  mid-some z e = tied-some q (2 * p - 1) p q r z e
 
   pub mat-is : within (p * q) (q * r) ≡ true → matSizes p q r ≡ some (p * q, q * r, p * r)
   unfolding matSizes
@@ -156,23 +205,19 @@ abbrev Bounded : ℕ × ℕ × ℕ → Type 0
 Bounded z = Bounds (z .0) (z .1) (z .2)
 
 poly-bounds : (p q r : ℕ) (z : ℕ × ℕ × ℕ) → polySizes p q r ≡ some z → Bounded z
-unfolding polySizes
 poly-bounds p q r z e =
-    let g = given-some (eqb r 0 && within p q) (p, q, p + q - 1) z e in
-    let W : Within p q = within-yes p q (both (eqb r 0) (within p q) (g .0) .1) in
-    subst Bounded (g .1) (record { fits = W; some-output = omega (arith, W .first, W .second); most-outputs = sum p q W })
+    let g = poly-some p q r z e in
+    let W = g .1 in
+    subst Bounded (g .2) (record { fits = W; some-output = omega (arith, W .first, W .second); most-outputs = sum p q W })
   where
     -- of two numbers at least 1, the sum is at most 1 and the product more
     sum : (p q : ℕ) → Within p q → p + q - 1 ≤ 64
     sum zero q W = absurd (let a = W .first in omega arith)
     sum (suc p) q W = let a = W .second in let b = W .product in let c : p ≤ p * q = le-mul-of-pos-right {m = q} p (omega arith) in omega (arith, b, c, suc-mul p q)
 
-square-bounds : (p q r : ℕ) (z : ℕ × ℕ × ℕ) → squareSizes p q r ≡ some z → Bounded z
-unfolding squareSizes
-square-bounds p q r z e =
-    let g = given-some (eqb r 0 && (eqb p q && within p q)) (p, q, p) z e in
-    let W : Within p q = within-yes p q (both (eqb p q) (within p q) (both (eqb r 0) (eqb p q && within p q) (g .0) .1) .1) in
-    subst Bounded (g .1) (record { fits = W; some-output = W .first; most-outputs = W .first-most })
+tied-bounds : {x y p q r : ℕ} {z : ℕ × ℕ × ℕ} → Tied x y p q r × ((p, q, p) ≡ z) → Bounded z
+tied-bounds g =
+    let W = g .0 .fits in subst Bounded (g .1) (record { fits = W; some-output = W .first; most-outputs = W .first-most })
 
 mat-bounds : (p q r : ℕ) (z : ℕ × ℕ × ℕ) → matSizes p q r ≡ some z → Bounded z
 unfolding matSizes
@@ -191,10 +236,11 @@ list-bounds p q r z e =
 
 each-bounds : (k : Kind) (p q r : ℕ) (z : ℕ × ℕ × ℕ) → sizesFor k p q r ≡ some z → Bounded z
 each-bounds kind.Poly p q r z e = poly-bounds p q r z e
-each-bounds kind.Short p q r z e = square-bounds p q r z e
-each-bounds kind.Circ p q r z e = square-bounds p q r z e
+each-bounds kind.Short p q r z e = tied-bounds (square-some p q r z e)
+each-bounds kind.Circ p q r z e = tied-bounds (square-some p q r z e)
 each-bounds kind.Mat p q r z e = mat-bounds p q r z e
 each-bounds kind.List p q r z e = list-bounds p q r z e
+each-bounds kind.Mid p q r z e = tied-bounds (mid-some p q r z e)
 
 pub sizes-bounds : (shape : Shape) (z : ℕ × ℕ × ℕ) → sizes shape ≡ some z → Bounds (z .0) (z .1) (z .2)
 sizes-bounds shape z e = each-bounds (shape .kind) (shape .p) (shape .q) (shape .r) z e
@@ -207,6 +253,7 @@ each-list kind.Short p q r z k e = absurd (false≢true k)
 each-list kind.Circ p q r z k e = absurd (false≢true k)
 each-list kind.Mat p q r z k e = absurd (false≢true k)
 each-list kind.List p q r z k e = given-some (leb 1 q && (within p 1 && within r 1)) (p, 1, r) z e .1
+each-list kind.Mid p q r z k e = absurd (false≢true k)
 
 pub list-bits : (shape : Shape) (z : ℕ × ℕ × ℕ) → isList (shape .kind) ≡ true → sizes shape ≡ some z → shape .p ≡ z .0
 list-bits shape z k e = ap (λ (x : ℕ × ℕ × ℕ). x .0) (each-list (shape .kind) (shape .p) (shape .q) (shape .r) z k e)
@@ -220,26 +267,19 @@ pub record FewSizes (p q r : ℕ) : Type 0 where
   pub second : q ≤ 64
   pub third : r ≤ 64
 
-few-within : (p q r : ℕ) → within p q ≡ true → r ≡ 0 → FewSizes p q r
-few-within p q r e z = let W = within-yes p q e in record { first = W .first-most; second = W .second-most; third = omega arith }
-
-square-few : (p q r : ℕ) (z : ℕ × ℕ × ℕ) → squareSizes p q r ≡ some z → FewSizes p q r
-unfolding squareSizes
-square-few p q r z e =
-    let g = both (eqb r 0) (eqb p q && within p q) (given-some (eqb r 0 && (eqb p q && within p q)) (p, q, p) z e .0) in
-    few-within p q r (both (eqb p q) (within p q) (g .1) .1) (eqb-true r 0 (g .0))
+few-within : {p q r : ℕ} → Within p q → r ≡ 0 → FewSizes p q r
+few-within W z = record { first = W .first-most; second = W .second-most; third = omega arith }
 
 each-few : (k : Kind) (p q r : ℕ) (z : ℕ × ℕ × ℕ) → isList k ≡ false → sizesFor k p q r ≡ some z → FewSizes p q r
-unfolding polySizes matSizes
-each-few kind.Poly p q r z k e =
-    let g = both (eqb r 0) (within p q) (given-some (eqb r 0 && within p q) (p, q, p + q - 1) z e .0) in
-    few-within p q r (g .1) (eqb-true r 0 (g .0))
-each-few kind.Short p q r z k e = square-few p q r z e
-each-few kind.Circ p q r z k e = square-few p q r z e
+unfolding matSizes
+each-few kind.Poly p q r z k e = let g = poly-some p q r z e in few-within (g .1) (g .0)
+each-few kind.Short p q r z k e = let T = square-some p q r z e .0 in few-within (T .fits) (T .third)
+each-few kind.Circ p q r z k e = let T = square-some p q r z e .0 in few-within (T .fits) (T .third)
 each-few kind.Mat p q r z k e =
     let M : MatWithin p q r = mat-within p q r (given-some (within (p * q) (q * r)) (p * q, q * r, p * r) z e .0) in
     record { first = M .left .first-most; second = M .left .second-most; third = M .right .second-most }
 each-few kind.List p q r z k e = absurd (true≢false k)
+each-few kind.Mid p q r z k e = let T = mid-some p q r z e .0 in few-within (T .fits) (T .third)
 
 pub map-few : (shape : Shape) (z : ℕ × ℕ × ℕ) → isList (shape .kind) ≡ false → sizes shape ≡ some z → FewSizes (shape .p) (shape .q) (shape .r)
 map-few shape z k e = each-few (shape .kind) (shape .p) (shape .q) (shape .r) z k e

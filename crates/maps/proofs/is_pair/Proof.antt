@@ -1,7 +1,9 @@
 -- `maps::is_pair` meets its contract, kind by kind. Assumes nothing.
 use mathlib.Core.Path.{sym, ap, _∙_}
+use native.Mathlib.Omega.{arith}
 use borrow.Author.Needs.{needs}
 use Rattle.kinds.specs.declared.Kind.{Kind}
+use Rattle.kinds.specs.laws.Sizes.{Within}
 use Rattle.maps.specs.Target.{pairFor}
 use Rattle.maps.proofs.Pairing.{row-off, inner-off, rest-left}
 use Rattle.maps.proofs.is_pair.Statement.{statement}
@@ -83,9 +85,25 @@ returns-7 c =
     let a = c .before .before .args in
     sym (ap (λ (k : Kind). pairFor k (a .shape .p) (a .shape .q) (a .shape .r) (a .t) (a .i) (a .j)) (c .enum-told5 .given .1))
 
+returns-8 : tie.Need-returns-8
+unfolding pairFor
+returns-8 c =
+    let a = c .before .before .before .args in
+    sym (ap (λ (k : Kind). pairFor k (a .shape .p) (a .shape .q) (a .shape .r) (a .t) (a .i) (a .j)) (c .before .enum-told6 .given .1))
+
+-- p is at least 1 and at most 64 in a middle product
+middle : (c : tie.After-enum-told6) → Within (c .before .before .args .shape .p) (c .before .before .args .shape .q)
+middle c = c .before .before .pre .middle (c .enum-told6 .given .1)
+
+sub-result : tie.Need-sub-result
+sub-result c = omega (arith, middle (c .before) .first)
+
+add-result-5 : tie.Need-add-result-5
+add-result-5 c = record { fits = omega (arith, middle (c .before) .first-most, c .before .before .before .pre .asked) }
+
 pub is-pair-spec : {M : Type 1} → statement M
 is-pair-spec =
     tie.close
     (tie.spec enum-told (λ c. search needs) (λ c. search needs) (λ c. search needs) (λ c. search needs) (λ c. search needs) rem-result
-    (λ c. search needs) div-if1 div-if1-2 returns rem-if2 div-if2 returns-2 rem-result-2 rem-result-3 (λ c. search needs) returns-3 returns-4
-    returns-5 returns-6 returns-7)
+    (λ c. search needs) div-if1 div-if1-2 returns rem-if2 div-if2 returns-2 rem-result-2 rem-result-3 (λ c. search needs)
+    (λ c. search needs) (λ c. search needs) sub-result add-result-5 returns-3 returns-4 returns-5 returns-6 returns-7 returns-8)

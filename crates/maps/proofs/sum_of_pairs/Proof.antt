@@ -6,7 +6,8 @@ use native.Mathlib.Omega.{arith}
 use Rattle.forms.specs.products.Product.{formOf}
 use Rattle.maps.specs.Target.{targetForm}
 use Rattle.maps.specs.Accepted.{accepted-fits, accepted-terms}
-use Rattle.maps.proofs.Pairing.{tests, Summing, turn-set, turn-unset}
+use Rattle.forms.specs.products.laws.Product.{form-set, form-unset}
+use Rattle.maps.proofs.Pairing.{tests, Summing}
 use Rattle.maps.proofs.sum_of_pairs.Statement.{statement}
 use Rattle.maps.proofs.sum_of_pairs.Tie as tie
 
@@ -57,8 +58,8 @@ loop-again c =
       least = omega arith;
       made =
           ⊎-elim
-          (λ w. w .1 ∙ turn-set (tests (a .shape) (a .m) (a .t)) (l .s) (l .form) (l .inv .made) (sym q ∙ w .0 .taken) (omega arith))
-          (λ w. w .1 ∙ turn-unset (tests (a .shape) (a .m) (a .t)) (l .s) (l .form) (l .inv .made) (sym q ∙ w .0 .left))
+          (λ w. w .1 ∙ form-set (tests (a .shape) (a .m) (a .t)) (l .s) (l .form) (l .inv .made) (sym q ∙ w .0 .taken) (omega arith))
+          (λ w. w .1 ∙ form-unset (tests (a .shape) (a .m) (a .t)) (l .s) (l .form) (l .inv .made) (sym q ∙ w .0 .left))
           (c .if1 .came);
     }
 

@@ -16,8 +16,8 @@ use Rattle.kinds.specs.Kinds.{isList}
 use Rattle.kinds.specs.declared.Kind.{Kind}
 use Rattle.kinds.specs.declared.Kind.the-variants as kind
 use Rattle.kinds.specs.declared.Shape.{Shape}
-use Rattle.kinds.specs.Sizes.{shapeOf, sizesFor, sizes, within, polySizes, squareSizes, matSizes}
-use Rattle.kinds.specs.laws.Sizes.{given-some, MatWithin, mat-within}
+use Rattle.kinds.specs.Sizes.{shapeOf, sizesFor, sizes, within, polySizes, matSizes}
+use Rattle.kinds.specs.laws.Sizes.{given-some, square-some, mid-some, MatWithin, mat-within}
 use Rattle.forms.specs.products.laws.Product.{bit-formOf, formOf-below}
 use Rattle.maps.specs.Textbook.{sumTo, outputFor, output}
 use Rattle.maps.specs.Target.{value, pairFor, pair, targetForm}
@@ -107,16 +107,14 @@ resized c a b x y w n m u e =
 
 each-value : (k : Kind) (p q r n m u : ℕ) → sizesFor k p q r ≡ some (n, m, u) → (t : ℕ) → t < u → isList k ≡ false → (a b : ℕ → Bool)
     → value n m (targetForm (shapeOf k p q r) n m t) a b ≡ outputFor k p q r a b t
-unfolding polySizes squareSizes matSizes pairFor outputFor
+unfolding polySizes matSizes pairFor outputFor
 each-value kind.Poly p q r n m u e t l d a b =
     let g = given-some (eqb r 0 && within p q) (p, q, p + q - 1) (n, m, u) e in
     target-sum (shapeOf kind.Poly p q r) n m t a b ∙ resized (pairFor kind.Poly p q r t) a b p q (p + q - 1) n m u (g .1)
 each-value kind.Short p q r n m u e t l d a b =
-    let g = given-some (eqb r 0 && (eqb p q && within p q)) (p, q, p) (n, m, u) e in
-    target-sum (shapeOf kind.Short p q r) n m t a b ∙ resized (pairFor kind.Short p q r t) a b p q p n m u (g .1)
+    target-sum (shapeOf kind.Short p q r) n m t a b ∙ resized (pairFor kind.Short p q r t) a b p q p n m u (square-some p q r (n, m, u) e .1)
 each-value kind.Circ p q r n m u e t l d a b =
-    let g = given-some (eqb r 0 && (eqb p q && within p q)) (p, q, p) (n, m, u) e in
-    target-sum (shapeOf kind.Circ p q r) n m t a b ∙ resized (pairFor kind.Circ p q r t) a b p q p n m u (g .1)
+    target-sum (shapeOf kind.Circ p q r) n m t a b ∙ resized (pairFor kind.Circ p q r t) a b p q p n m u (square-some p q r (n, m, u) e .1)
 each-value kind.Mat p q r n m u e t l d a b =
     let g = given-some (within (p * q) (q * r)) (p * q, q * r, p * r) (n, m, u) e in
     let M : MatWithin p q r = mat-within p q r (g .0) in
@@ -125,6 +123,8 @@ each-value kind.Mat p q r n m u e t l d a b =
     ∙ resized (pairFor kind.Mat p q r t) a b (p * q) (q * r) (p * r) n m u (g .1)
     ∙ matrix-sum p q r t a b (M .left .second) (M .right .second) (omega arith)
 each-value kind.List p q r n m u e t l d a b = absurd (true≢false d)
+each-value kind.Mid p q r n m u e t l d a b =
+    target-sum (shapeOf kind.Mid p q r) n m t a b ∙ resized (pairFor kind.Mid p q r t) a b p q p n m u (mid-some p q r (n, m, u) e .1)
 
 pub target-value : (shape : Shape) (n m u : ℕ) → sizes shape ≡ some (n, m, u) → (t : ℕ) → t < u → isList (shape .kind) ≡ false → (a b : ℕ → Bool)
     → value n m (targetForm shape n m t) a b ≡ output shape a b t

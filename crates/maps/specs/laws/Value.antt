@@ -1,4 +1,4 @@
--- The value of a form: of a sum, of zero, of a product, at inputs with a single 1; forms with equal values are equal.
+-- The value of a form: of a sum, of zero, of a product, at inputs with a single 1; forms with equal coordinates, or equal values, are equal.
 -- Assumes nothing.
 use mathlib.Core.Path.{_≡_, refl, sym, ap, ap₂, _∙_}
 use mathlib.Core.Logic.{_≢_}
@@ -115,13 +115,12 @@ module _ (n m f g : ℕ) (F : f < 2 ^ (n * m)) (G : g < 2 ^ (n * m)) where
       go s (yes l) = h s l
       go s (no l) = bit-below f (n * m) s F (omega arith) ∙ sym (bit-below g (n * m) s G (omega arith))
 
+  pub forms-same : ((i j : ℕ) → i < n → j < m → bit f (i * m + j) ≡ bit g (i * m + j)) → f ≡ g
+  forms-same h = all-bits λ s l. let P = place n m s l in ap (bit f) (sym (P .same)) ∙ h (s / m) (s % m) (P .row) (P .column) ∙ ap (bit g) (P .same)
+
   pub value-equal : ((a b : ℕ) → a < 2 ^ n → b < 2 ^ m → value n m f (bit a) (bit b) ≡ value n m g (bit a) (bit b)) → f ≡ g
   value-equal h =
-      all-bits λ s l.
-      let P = place n m s l in
-      ap (bit f) (sym (P .same)) ∙ sym (value-single n m f (s / m) (s % m) (P .row) (P .column))
-      ∙ h (2 ^ (s / m)) (2 ^ (s % m)) (pow-lt (P .row)) (pow-lt (P .column))
-      ∙ value-single n m g (s / m) (s % m) (P .row) (P .column) ∙ ap (bit g) (P .same)
+      forms-same λ i j k l. sym (value-single n m f i j k l) ∙ h (2 ^ i) (2 ^ j) (pow-lt k) (pow-lt l) ∙ value-single n m g i j k l
 
   -- the first coordinate below w that differs, if the forms are not equal
   differing : (w : ℕ) → ((s : ℕ) → w ≤ s → s < n * m → bit f s ≡ bit g s) → f ≢ g → (s : ℕ) × (bit f s ≢ bit g s)

@@ -2,6 +2,7 @@
 --   listingRoom  == a program's buffer of words, before a call
 --   replyPage    == the bytes of a page for a whole reply
 --   checkPage    == the bytes of a page for Check's reply
+--   formulaPage  == the bytes of a page for a formula's file
 --   partPage     == the bytes of a page for a part of what the Formulae program prints
 --   answerText a == the text of an answer, or the line of its refusal
 -- Document 01: "The program's buffer has 4,096 words." Assumes nothing.
@@ -20,6 +21,9 @@ replyPage = 196608
 
 abbrev pub checkPage : ℕ
 checkPage = 256
+
+abbrev pub formulaPage : ℕ
+formulaPage = 4096
 
 abbrev pub partPage : ℕ
 partPage = 278528

@@ -16,7 +16,7 @@ use lib.ListN.{length, take}
 use Rattle.kinds.specs.Kinds.{kindNumbered, isList}
 use Rattle.kinds.specs.Sizes.{shapeOf, sizes}
 use Rattle.kinds.specs.laws.Sizes.{sizes-bounds, list-outputs}
-use Rattle.kinds.specs.Refusal.{Answer, accepted, need}
+use Rattle.kinds.specs.Refusal.{Answer, accepted, need, refusedBy}
 use Rattle.kinds.specs.declared.Kind.{Kind}
 use Rattle.kinds.specs.declared.Shape.{Shape}
 use Rattle.words.specs.lists.Lists.{listRefusal, mapRefusal}
@@ -25,10 +25,11 @@ use Rattle.maps.specs.Generators.{listOf, generatorForms, countOf}
 use Rattle.problems.specs.Problem.{Problem, problem, targetForms, listed, mapped, sorted, shaped, posed}
 use Rattle.problems.specs.declared.Posed.{Posed}
 use Rattle.problems.specs.declared.Posed.the-variants as reply
-use Rattle.problems.specs.Replies.{refusedBy, Laid}
-use Rattle.problems.specs.laws.Refusals.{listed-by, mapped-by, by-some, by-none, mapped-4, mapped-counted, counted}
+use Rattle.problems.specs.Replies.{Laid}
+use Rattle.problems.specs.laws.Refusals.{listed-by, mapped-by, mapped-4, mapped-counted, counted}
 use Rattle.problems.specs.laws.Taken.{listed-taken}
 use Rattle.kinds.specs.Limits.{mostGenerators}
+use Rattle.kinds.specs.laws.Refusal.{by-some, by-none}
 
 module _ (shape : Shape) (n m u : ℕ) (gs ts others g t : List ℕ) where
   abbrev made : Problem

@@ -1,26 +1,24 @@
 -- The steps of the reading, one after the other, in the definitions' terms.
 --   listed-by, mapped-by     the refusals by their number
---   by-some, by-none         a refusal's number that is not 0, and 0
 --   mapped-4, mapped-counted a map with too many generators, and with at most 4,095
 -- Assumes nothing.
 use mathlib.Core.Path.{_≡_, refl, sym, ap, _∙_}
 use mathlib.Core.Bool.{Bool, true, false, _||_, cond}
 use mathlib.Core.List.{List}
 use mathlib.Core.Option.{Option, none, some}
-use Prim.Native.Nat.{ℕ, zero, suc, _*_, _≤_}
+use Prim.Native.Nat.{ℕ, _*_, _≤_}
 use native.Mathlib.Omega.{arith}
 use lib.Dec.{ltb, leb}
 use borrow.Author.Tests.{leb-true}
 use Rattle.kinds.specs.Kinds.{kindNumbered}
 use Rattle.kinds.specs.Sizes.{sizes, given}
 use Rattle.kinds.specs.laws.Sizes.{given-some}
-use Rattle.kinds.specs.Refusal.{Answer, refused, accepted, need, refuse}
+use Rattle.kinds.specs.Refusal.{Answer, refused, accepted, need, refuse, refusedBy}
 use Rattle.kinds.specs.declared.Shape.{Shape}
 use Rattle.words.specs.Masks.{wide, zeroIn}
 use Rattle.words.specs.lists.Lists.{repeats, unlike, listRefusal, mapRefusal}
 use Rattle.maps.specs.Generators.{generatorForms, generatorCount, countOf}
 use Rattle.problems.specs.Problem.{Problem, problem, targetForms, listed, mapped}
-use Rattle.problems.specs.Replies.{refusedBy}
 use Rattle.kinds.specs.Limits.{mostGenerators}
 
 module _ (p q r : ℕ) (gs ts others : List ℕ) where
@@ -43,14 +41,6 @@ mapped-by w gs ts others P e h = go (unlike 0 0 gs ts) (wide w others) ∙ ap (�
     go true b = refl
     go false true = refl
     go false false = refl
-
-pub by-some : {A : Type 0} (e : ℕ) (a : A) → (e ≡ 0 → ⊥) → refusedBy e a ≡ refused e
-by-some zero a d = absurd (d refl)
-by-some (suc e) a d = refl
-
-pub by-none : {A : Type 0} (e : ℕ) (a : A) → e ≡ 0 → refusedBy e a ≡ accepted a
-by-none zero a d = refl
-by-none (suc e) a d = absurd (omega arith)
 
 module _ (shape : Shape) (n m u : ℕ) (gs ts others : List ℕ) where
   pub mapped-4 : countOf n m ≡ none → mapped shape n m u gs ts others ≡ refused 4

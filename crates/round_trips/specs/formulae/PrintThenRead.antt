@@ -15,7 +15,7 @@ use Rattle.formula_check.specs.Formula.{Admitted}
 use Rattle.formula_files.specs.FormulaFile.{formulaFile}
 use Rattle.formula_files.specs.Sound.{Sound, BufferRoom}
 use Rattle.formula_files.specs.laws.FormulaFile.{judged-is}
-use Rattle.round_trips.specs.formulae.FileText.{fileText}
+use Rattle.formula_text.specs.FileText.{fileText}
 use Rattle.round_trips.specs.formulae.laws.FileBack.{file-back}
 
 pub print-then-read : (f : Admitted) (la lb lr : ℕ) → Sound f → BufferRoom f la lb lr → formulaFile (fileText f) la lb lr ≡ accepted f

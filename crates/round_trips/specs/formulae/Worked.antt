@@ -12,13 +12,13 @@ use Rattle.text.specs.Numeral.{digits, numeral}
 use Rattle.text.specs.Line.{cut, nameLine, field}
 use Rattle.text.specs.heads.Head.{countFields, headLine, headLines}
 use Rattle.printing.specs.Print.{numeralText}
-use Rattle.round_trips.specs.formulae.HeadText.{fieldsText, fileHead}
+use Rattle.formula_text.specs.HeadText.{fieldsText, fileHead}
 use Rattle.formula_files.specs.lines.Formula.{productLine, products, rows, ended, body}
 use Rattle.kinds.specs.Refusal.{accepted}
 use Rattle.formula_check.specs.Formula.{Admitted, formulaOf, passed, admit}
 use Rattle.formula_files.specs.FormulaFile.{rest, formulaFile}
-use Rattle.round_trips.specs.formulae.BodyText.{productsText, rowsText, bodyText}
-use Rattle.round_trips.specs.formulae.FileText.{fileText}
+use Rattle.formula_text.specs.BodyText.{productsText, rowsText, bodyText}
+use Rattle.formula_text.specs.FileText.{fileText}
 
 -- `kind,p,q,r,k`, `poly,2,2,0,3`, `a,b`, `1,1`, `2,2`, `3,3`, `row`, `1`, `7`, `2`
 abbrev pub workedBytes : List ℕ

@@ -7,7 +7,7 @@ use mathlib.Core.Path.{_≡_, ap, _∙_}
 use mathlib.Core.List.{List}
 use Rattle.kinds.specs.Sizes.{shapeOf}
 use Rattle.kinds.specs.Refusal.{accepted}
-use Rattle.round_trips.specs.formulae.HeadText.{fileHead}
+use Rattle.formula_text.specs.HeadText.{fileHead}
 use Rattle.round_trips.specs.formulae.laws.HeadOnly.{head-only}
 use Rattle.problem_files.specs.posing.Posing.{ProblemFile}
 use Rattle.problem_files.specs.judging.laws.Judging.{settled-is}

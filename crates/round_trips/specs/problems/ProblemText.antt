@@ -19,7 +19,7 @@ use Rattle.printing.specs.Print.{maskText}
 use Rattle.kinds.specs.Kinds.{isList}
 use Rattle.problem_files.specs.list_lines.Roles.{roleNames, generatorRole, targetRole}
 use Rattle.problem_files.specs.posing.Posing.{ProblemFile}
-use Rattle.round_trips.specs.formulae.HeadText.{fileHead}
+use Rattle.formula_text.specs.HeadText.{fileHead}
 
 unfoldable pub rolesText : ℕ → List ℕ → List ℕ → List ℕ
 rolesText c [] t = t

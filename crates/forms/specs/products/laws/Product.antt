@@ -3,6 +3,7 @@
 -- productForm n m a b == the product of the sum of the a's in the mask a and the sum of the b's in the mask b, in n and m variables; of a
 -- form wider than 64 the lowest 64 coordinates
 -- bit-formOf, formOf-above, formOf-below: the coordinates of formOf w f, and that it is below 2 ^ w.
+-- form-set, form-unset: a turn of a loop that makes it, coordinate s set or not.
 -- product-coordinate: where the form fits a word, coordinate i * m + j of the product is the product of a's coordinate i and b's j.
 -- product-below: a product in n and m variables is below 2 ^ (n * m).
 -- Assumes nothing.
@@ -10,13 +11,15 @@ use mathlib.Core.Path.{_≡_, refl, sym, ap, ap₂, _∙_, subst}
 use mathlib.Core.Bool.{Bool, true, false, cond, _&&_}
 use Prim.Native.Nat.{ℕ, zero, suc, _+_, _*_, _/_, _%_, _^_, _<_, _≤_, min}
 use native.Mathlib.Decide.{decLt}
-use native.Mathlib.Nat.{le-refl, lt-of-lt-of-le, min-eq-left, min-le-left, pow-suc}
+use native.Mathlib.Nat.{le-refl, lt-of-lt-of-le, min-eq-left, min-le-left, one-mul, pow-suc}
+use native.Mathlib.Numerals.{add-one}
 use native.Mathlib.Omega.{arith}
 use lib.Arith.{digits-lt, digits-div, digits-mod}
+use lib.Bits.{bitXor, xor-shifted}
 use lib.Pow.{high, low, pow-mono}
 use Rattle.linear.specs.Bit.{bit, bitOf}
 use Rattle.linear.specs.laws.Bit.{bit-below}
-use Rattle.linear.specs.laws.Shift.{bit-mod}
+use Rattle.linear.specs.laws.Shift.{bit-mod, one-shift}
 use Rattle.forms.specs.products.Product.{formOf, term, productForm}
 
 -- ---- the coordinates of formOf
@@ -62,6 +65,20 @@ bit-formOf (suc w) f t l = go (decLt t w) (f w) refl (bit-formOf w f t)
     go (no k) s e ih =
         let q : t ≡ w = omega arith in
         ap (λ (i : ℕ). bit (cond s (2 ^ w + formOf w f) (formOf w f)) i) q ∙ at-top s ∙ sym e ∙ ap f (sym q)
+
+-- ---- a form of one coordinate more
+module _ (f : ℕ → Bool) (s form : ℕ) (e : form ≡ formOf s f) where
+  more : (b : Bool) → f s ≡ b → formOf (s + 1) f ≡ cond b (2 ^ s + formOf s f) (formOf s f)
+  unfolding formOf
+  more b q = ap (λ (w : ℕ). formOf w f) (add-one s) ∙ ap (λ (x : Bool). cond x (2 ^ s + formOf s f) (formOf s f)) q
+
+  pub form-set : f s ≡ true → s < 64 → bitXor (1 * 2 ^ s % 2 ^ 64) form ≡ formOf (s + 1) f
+  form-set q l =
+      ap₂ bitXor (one-shift s l ∙ sym (one-mul (2 ^ s))) e ∙ xor-shifted 1 s (formOf s f) (formOf-below s f)
+      ∙ ap (λ (x : ℕ). x + formOf s f) (one-mul (2 ^ s)) ∙ sym (more true q)
+
+  pub form-unset : f s ≡ false → form ≡ formOf (s + 1) f
+  form-unset q = e ∙ sym (more false q)
 
 -- ---- the product
 pub product-coordinate : (n m a b i j : ℕ) → n * m ≤ 64 → i < n → j < m → bit (productForm n m a b) (i * m + j) ≡ bit a i && bit b j

@@ -2,7 +2,7 @@
 -- they agree at every input; and the first row whose form is not the target's is found. Assumes nothing.
 use mathlib.Core.Path.{_≡_, refl, sym, ap, ap₂, _∙_, subst}
 use mathlib.Core.Logic.{_≢_, _↔_}
-use mathlib.Core.Bool.{Bool, true, false, not, _&&_, _||_, cond, true≢false}
+use mathlib.Core.Bool.{Bool, true, false, _&&_, cond}
 use mathlib.Core.List.{List, [], _∷_}
 use mathlib.Core.Option.{Option, none, some}
 use Prim.Native.Nat.{ℕ, zero, suc, _+_, _*_, _^_, _<_, _≤_}
@@ -10,30 +10,28 @@ use native.Mathlib.Nat.{add-zero, add-suc, suc-add}
 use native.Mathlib.Omega.{arith}
 use native.Mathlib.Decide.{ℕ-discrete, decLt}
 use lib.ListN.{length, getD}
-use lib.Dec.{eqb, ltb}
+use lib.Dec.{eqb}
 use lib.Bits.{xor-lt}
 use lib.Pow.{pow-pos}
-use borrow.Author.Tests.{eq-eqb, ne-eqb, eqb-true, not-false}
+use borrow.Author.Tests.{eq-eqb, ne-eqb}
 use Rattle.linear.specs.Bit.{bit, xorB}
 use Rattle.linear.specs.Word.{scaleW}
 use Rattle.kinds.specs.Kinds.{kindNumbered, isList}
 use Rattle.kinds.specs.Sizes.{shapeOf, sizes}
 use Rattle.kinds.specs.laws.Sizes.{sizes-bounds}
 use Rattle.kinds.specs.Refusal.{accepted}
-use Rattle.kinds.specs.laws.Refusal.{accepted-inj, follow-inv, neither}
-use Rattle.words.specs.Masks.{wide, zeroIn}
-use Rattle.kinds.specs.declared.Kind.{Kind}
+use Rattle.kinds.specs.laws.Refusal.{accepted-inj, follow-inv}
 use Rattle.kinds.specs.declared.Shape.{Shape}
-use Rattle.kinds.specs.declared.Kind.the-variants as kind
 use Rattle.forms.specs.products.Product.{productForm}
 use Rattle.forms.specs.products.laws.Product.{product-below}
 use Rattle.maps.specs.Textbook.{output}
 use Rattle.maps.specs.Target.{value, targetForm}
 use Rattle.maps.specs.Meaning.{target-value, target-below, value-xor, value-zero, value-product, value-equal, value-differs}
-use Rattle.formula_check.specs.Formula.{formulaOutput, firstWrong, Lists, Admitted, formulaOf, admit, lengths, listsHanded, verdict, check}
+use Rattle.formula_check.specs.Formula.{formulaOutput, firstWrong, Admitted, formulaOf, admit, listsHanded, verdict, check}
 use Rattle.formula_check.specs.sums.Sums.{productForms}
 use Rattle.forms.specs.Row.{rowForm}
-use Rattle.formula_check.specs.laws.Admitted.{admit-inv}
+use Rattle.formula_check.specs.laws.Admitted.{handed-inv, handed-fitting}
+use Rattle.formula_check.specs.laws.Admission.{check-as}
 use Rattle.formula_check.specs.meaning.Meaning.{gives, Agrees, Right, FirstDiffers, RightFormula, FormulaDiffers, Means}
 
 -- ---- a row's form
@@ -213,45 +211,41 @@ verdict-means f S h =
     (right-iff (f .shape) (f .n) (f .m) (f .firsts) (f .seconds) (f .rows) S h, wrong-iff (f .shape) (f .n) (f .m) (f .firsts) (f .seconds) (f .rows) S h)
 
 -- ---- an accepted reply
-pub lengths-inv : (k u : ℕ) (xs ys rows : List ℕ) → lengths k u xs ys rows ≡ false → (length xs ≡ k) × (length ys ≡ k) × (length rows ≡ u)
-unfolding lengths
-lengths-inv k u xs ys rows e =
-    let a = neither (not (eqb (length xs) k)) (not (eqb (length ys) k) || not (eqb (length rows) u)) e in
-    let b = neither (not (eqb (length ys) k)) (not (eqb (length rows) u)) (a .1) in
-    (eqb-true (length xs) k (not-false (eqb (length xs) k) (a .0)), eqb-true (length ys) k (not-false (eqb (length ys) k) (b .0)), eqb-true (length rows) u (not-false (eqb (length rows) u) (b .1)))
-
--- the lists that are handed in, where they have the right lengths
-handed-inv : (k u : ℕ) (xs ys rows : List ℕ) (l : Lists) → listsHanded k xs ys rows u ≡ some l → (lengths k u xs ys rows ≡ false) × ((xs, ys, rows) ≡ l)
-handed-inv k u xs ys rows l e = go (lengths k u xs ys rows) refl e
-  where
-    go : (b : Bool) → lengths k u xs ys rows ≡ b → cond b none (some (xs, ys, rows)) ≡ some l → (lengths k u xs ys rows ≡ false) × ((xs, ys, rows) ≡ l)
-    go true q h = absurd (let z : _≡_ {A = ℕ} 0 1 = cc in omega arith)
-    go false q h = (q, cc)
-
 pub check-means : (number p q r k : ℕ) (xs ys rows : List ℕ) (v : Option ℕ) (w : ℕ) → check number p q r k xs ys rows ≡ accepted (v, w) → Means number p q r k xs ys rows v w
 unfolding check
 check-means number p q r k xs ys rows v w e =
     let i = follow-inv (admit (kindNumbered number) p q r k (listsHanded k xs ys rows)) (λ f. accepted (verdict f)) (v, w) e in
-    let A = admit-inv (kindNumbered number) p q r k (listsHanded k xs ys rows) (i .0) (i .1) in
-    let kd = A .kd in
-    let shape = shapeOf kd p q r in
-    let H = handed-inv k (A .u) xs ys rows (A .l) (A .listed) in
-    let l = lengths-inv k (A .u) xs ys rows (H .0) in
-    let T : sizes shape ≡ some (A .n, A .m, length rows) = A .sized ∙ ap (λ (u : ℕ). some (A .n, A .m, u)) (sym (l .2)) in
-    let F : formulaOf shape (A .n) (A .m) xs ys rows ≡ i .0 = ap (λ (l : Lists). formulaOf shape (A .n) (A .m) (l .0) (l .1) (l .2)) (H .1) ∙ A .is in
-    let N = A .is-map in
-    let J : verdict (formulaOf shape (A .n) (A .m) xs ys rows) ≡ (v, w) = ap verdict F ∙ accepted-inj (verdict (i .0)) (v, w) (i .2) in
-    let E : firstWrong shape (A .n) (A .m) (productForms (A .n) (A .m) xs ys) rows 0 ≡ v = ap (λ (x : Option ℕ × ℕ). x .0) J in
+    let H = handed-inv number p q r k xs ys rows (i .0) (i .1) in
+    let shape = shapeOf (H .kd) p q r in
+    let J : verdict (formulaOf shape (H .n) (H .m) xs ys rows) ≡ (v, w) = ap verdict (H .is) ∙ accepted-inj (verdict (i .0)) (v, w) (i .2) in
+    let E : firstWrong shape (H .n) (H .m) (productForms (H .n) (H .m) xs ys) rows 0 ≡ v = ap (λ (x : Option ℕ × ℕ). x .0) J in
     record {
-      kd = kd;
-      n = A .n;
-      m = A .m;
-      named = A .is-named;
-      map = N;
-      sized = T;
-      products = l .0;
-      pairs = l .1;
-      right = subst (λ (o : Option ℕ). (o ≡ none) ↔ Right shape (A .n) (A .m) xs ys rows) E (right-iff shape (A .n) (A .m) xs ys rows T N);
-      wrong = λ t. subst (λ (o : Option ℕ). (o ≡ some t) ↔ FirstDiffers shape (A .n) (A .m) xs ys rows t) E (wrong-iff shape (A .n) (A .m) xs ys rows T N t);
+      kd = H .kd;
+      n = H .n;
+      m = H .m;
+      named = H .named;
+      map = H .map;
+      sized = H .sized;
+      products = H .products;
+      pairs = H .pairs;
+      right = subst (λ (o : Option ℕ). (o ≡ none) ↔ Right shape (H .n) (H .m) xs ys rows) E (right-iff shape (H .n) (H .m) xs ys rows (H .sized) (H .map));
+      wrong = λ t. subst (λ (o : Option ℕ). (o ≡ some t) ↔ FirstDiffers shape (H .n) (H .m) xs ys rows t) E (wrong-iff shape (H .n) (H .m) xs ys rows (H .sized) (H .map) t);
       cost = sym (ap (λ (x : Option ℕ × ℕ). x .1) J);
     }
+
+-- ---- an admitted formula on numbers
+module _ (number p q r k : ℕ) (xs ys rows : List ℕ) (f : Admitted) (A : admit (kindNumbered number) p q r k (listsHanded k xs ys rows) ≡ accepted f) where
+  judged : check number p q r k xs ys rows ≡ accepted (verdict f)
+  judged = check-as number p q r k xs ys rows A
+
+  said-right : (verdict f .0 ≡ none) ↔ RightFormula f
+  said-right =
+      let H = handed-inv number p q r k xs ys rows f A in
+      let map : isList (f .shape .kind) ≡ false = subst (λ (g : Admitted). isList (g .shape .kind) ≡ false) (H .is) (H .map) in
+      verdict-means f (handed-fitting number p q r k xs ys rows f H .sized) map .0
+
+  pub check-right : ((w : ℕ) × (check number p q r k xs ys rows ≡ accepted (none, w))) ↔ RightFormula f
+  check-right = (
+    λ x. said-right .0 (ap (λ (v : Option ℕ × ℕ). v .0) (accepted-inj (verdict f) (none, x .0) (sym judged ∙ x .1))),
+    λ R. (verdict f .1, judged ∙ ap (λ (v : Option ℕ). accepted (v, verdict f .1)) (said-right .1 R)),
+  )

@@ -28,6 +28,7 @@ name-plain kind.Short = omega arith
 name-plain kind.Circ = omega arith
 name-plain kind.Mat = omega arith
 name-plain kind.List = omega arith
+name-plain kind.Mid = omega arith
 
 -- ---- the kinds from number i on: they stand in the order of their numbers
 abbrev ahead : Option Kind → List Kind → List Kind
@@ -42,6 +43,7 @@ beyond x h = rw (
   ne-eqb 2 x (λ e. omega arith),
   ne-eqb 3 x (λ e. omega arith),
   ne-eqb 4 x (λ e. omega arith),
+  ne-eqb 5 x (λ e. omega arith),
 )
 
 kinds-at : (i : ℕ) → drop i kinds ≡ ahead (kindNumbered i) (drop (suc i) kinds)
@@ -51,7 +53,9 @@ kinds-at (suc zero) = refl
 kinds-at (suc (suc zero)) = refl
 kinds-at (suc (suc (suc zero))) = refl
 kinds-at (suc (suc (suc (suc zero)))) = refl
-kinds-at (suc (suc (suc (suc (suc i))))) = drop-nil i ∙ sym (ap (λ (o : Option Kind). ahead o []) (beyond (suc (suc (suc (suc (suc i))))) (omega arith)))
+kinds-at (suc (suc (suc (suc (suc zero))))) = refl
+kinds-at (suc (suc (suc (suc (suc (suc i)))))) =
+    drop-nil i ∙ sym (ap (λ (o : Option Kind). ahead o []) (beyond (suc (suc (suc (suc (suc (suc i)))))) (omega arith)))
 
 pub number-below : (i : ℕ) (k : Kind) → kindNumbered i ≡ some k → i < length kinds
 number-below i k e =

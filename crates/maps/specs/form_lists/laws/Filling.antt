@@ -1,4 +1,5 @@
 -- What a turn of each loop does, over plain lists.
+--   listOf-first                               a list that is made is its first and the rest
 --   listed-none, listed-next, listed-end       writing f 0, f 1, .. from a buffer's start
 --   copied-next, copied-end                    writing a list from a buffer's start
 -- Assumes nothing.
@@ -18,7 +19,7 @@ written out i x rest F h inv =
     ap (λ (l : List ℕ). l ++ rest) (ap (λ (k : ℕ). take k (set out i x)) (add-one i) ∙ take-suc-set out i x h)
     ∙ append-assoc (take i out) (x ∷ []) rest ∙ inv
 
-listOf-first : (f : ℕ → ℕ) (i c : ℕ) → i < c → listOf f i (c - i) ≡ f i ∷ listOf f (i + 1) (c - (i + 1))
+pub listOf-first : (f : ℕ → ℕ) (i c : ℕ) → i < c → listOf f i (c - i) ≡ f i ∷ listOf f (i + 1) (c - (i + 1))
 unfolding listOf
 listOf-first f i c h =
     let e : c - i ≡ suc (c - (i + 1)) = omega arith in

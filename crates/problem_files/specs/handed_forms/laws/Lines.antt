@@ -14,10 +14,9 @@ use lib.Dec.{ltb}
 use borrow.Author.Tests.{lt-ltb, le-ltb, ltb-false}
 use Rattle.kinds.specs.declared.Shape.{Shape}
 use Rattle.kinds.specs.Sizes.{sizes, given}
-use Rattle.kinds.specs.Refusal.{refused, accepted, need}
+use Rattle.kinds.specs.Refusal.{refused, accepted, need, refusedBy}
 use Rattle.kinds.specs.laws.Refusal.{refuse-inv}
 use Rattle.maps.specs.Generators.{countOf}
-use Rattle.problems.specs.Replies.{refusedBy}
 use Rattle.problems.specs.laws.Laying.{list-targets}
 use Rattle.formula_files.specs.lines.laws.Body.{ended-not, ended-yes}
 use Rattle.kinds.specs.Kinds.{isList}

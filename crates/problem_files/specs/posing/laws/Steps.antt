@@ -11,11 +11,10 @@ use lib.ListN.{length, take, drop}
 use Rattle.kinds.specs.declared.Kind.{Kind}
 use Rattle.kinds.specs.declared.Shape.{Shape}
 use Rattle.kinds.specs.Sizes.{shapeOf, sizes}
-use Rattle.kinds.specs.Refusal.{Answer, refused, accepted, follow}
+use Rattle.kinds.specs.Refusal.{Answer, refused, accepted, follow, refusedBy}
 use Rattle.problems.specs.Problem.{Problem, problem, shaped}
-use Rattle.problems.specs.Replies.{refusedBy, seenPosed, Laid}
+use Rattle.problems.specs.Replies.{seenPosed, Laid}
 use Rattle.problems.specs.laws.Handed.{handed-room}
-use Rattle.problems.specs.laws.Refusals.{by-some, by-none}
 use Rattle.problems.specs.declared.Posed.{Posed}
 use Rattle.problems.specs.declared.Posed.the-variants as answer
 use Rattle.text.specs.heads.Head.{Head, headLines}
@@ -27,6 +26,7 @@ use Rattle.problem_files.specs.posing.Views.{Handed, Poses}
 use Rattle.problem_files.specs.declared.posing.PosedRead.{PosedRead}
 use Rattle.problem_files.specs.declared.posing.PosedRead.the-variants as posed
 use Rattle.kinds.specs.Limits.{mostTargets}
+use Rattle.kinds.specs.laws.Refusal.{by-some, by-none}
 
 -- ---- 3 to 7, of the forms handed in
 module _ (shape : Shape) (k : ℕ) (gs ts : List ℕ) {others g t : List ℕ} {x : Posed} (l : others ≡ []) (L : Laid (shaped shape gs ts others) x g t) where

@@ -12,7 +12,7 @@ use Rattle.text.specs.Line.{LF, comma}
 use Rattle.printing.specs.Print.{maskText}
 use Rattle.round_trips.specs.formulae.laws.HeadBack.{mask-back, field-back, name-back}
 use Rattle.formula_files.specs.lines.Formula.{productLine, products, rows, body, ended, productNames, rowName}
-use Rattle.round_trips.specs.formulae.BodyText.{productsText, rowsText, bodyText}
+use Rattle.formula_text.specs.BodyText.{productsText, rowsText, bodyText}
 use Rattle.formula_files.specs.lines.laws.Loops.{product-is}
 
 product-back : (x y : ℕ) (t : List ℕ) → x < 2 ^ 64 → y < 2 ^ 64 → productLine (maskText x ++ (comma ∷ (maskText y ++ (LF ∷ t)))) ≡ some (x, y, t)

@@ -14,7 +14,7 @@ use Rattle.text.specs.Line.{LF, comma, nameLine, maskField, maskLine}
 use Rattle.printing.specs.Print.{maskText}
 use Rattle.round_trips.specs.formulae.laws.HeadOnly.{inv, inj, name-only, field-only}
 use Rattle.formula_files.specs.lines.Formula.{productLine, products, rows, body, ended, productNames, rowName}
-use Rattle.round_trips.specs.formulae.BodyText.{productsText, rowsText, bodyText}
+use Rattle.formula_text.specs.BodyText.{productsText, rowsText, bodyText}
 
 product-only : (s : List ℕ) (l : ℕ × ℕ × List ℕ) → productLine s ≡ some l → s ≡ maskText (l .0) ++ (comma ∷ (maskText (l .1) ++ (LF ∷ l .2)))
 unfolding productLine

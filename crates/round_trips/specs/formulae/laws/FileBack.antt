@@ -9,14 +9,14 @@ use native.Mathlib.Omega.{arith}
 use lib.ListN.{length}
 use Rattle.kinds.specs.laws.Sizes.{map-few}
 use Rattle.words.specs.laws.Masks.{AllBelow}
-use Rattle.round_trips.specs.formulae.HeadText.{fileHead}
+use Rattle.formula_text.specs.HeadText.{fileHead}
 use Rattle.round_trips.specs.formulae.laws.HeadBack.{head-back}
 use Rattle.kinds.specs.Refusal.{follow}
-use Rattle.formula_check.specs.Formula.{Admitted, passed}
-use Rattle.formula_files.specs.FormulaFile.{heldIn, formulaFile}
+use Rattle.formula_check.specs.Formula.{Admitted, passed, heldIn}
+use Rattle.formula_files.specs.FormulaFile.{formulaFile}
 use Rattle.formula_files.specs.Sound.{Sound}
-use Rattle.round_trips.specs.formulae.BodyText.{bodyText}
-use Rattle.round_trips.specs.formulae.FileText.{fileText}
+use Rattle.formula_text.specs.BodyText.{bodyText}
+use Rattle.formula_text.specs.FileText.{fileText}
 use Rattle.round_trips.specs.formulae.laws.BodyBack.{body-back}
 use Rattle.formula_files.specs.laws.FormulaFile.{file-rest, rest-judged}
 

@@ -23,7 +23,7 @@ use Rattle.text.specs.Numeral.{digit, digits, numeral, count, mask}
 use Rattle.text.specs.Line.{LF, comma, cut, nameLine, field}
 use Rattle.text.specs.heads.Head.{headNames, countFields, headLines}
 use Rattle.printing.specs.Print.{digitByte, numeralText, countText, maskText}
-use Rattle.round_trips.specs.formulae.HeadText.{fieldsText, fileHead}
+use Rattle.formula_text.specs.HeadText.{fieldsText, fileHead}
 use Rattle.text.specs.laws.Numeral.{digits-cons, numeral-one, numeral-more}
 use Rattle.text.specs.laws.Line.{name-is, field-is}
 use Rattle.text.specs.heads.laws.Head.{fields-is, head-is, heads-is}

@@ -22,7 +22,7 @@ use Rattle.text.specs.Numeral.{numeral, digits, count}
 use Rattle.text.specs.Line.{LF, comma, cut, nameLine, field, countField}
 use Rattle.text.specs.heads.Head.{Head, headNames, countFields, headLine, headLines}
 use Rattle.printing.specs.Print.{numeralText, countText}
-use Rattle.round_trips.specs.formulae.HeadText.{fieldsText, fileHead}
+use Rattle.formula_text.specs.HeadText.{fieldsText, fileHead}
 use Rattle.round_trips.specs.formulae.laws.Unique.{unique}
 
 -- a reading of two steps has both

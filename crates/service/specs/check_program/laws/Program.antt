@@ -1,10 +1,10 @@
 -- The Check program's text: a refusal's number is at most 9, a text has from 36 to 173 bytes, so the exported call's reply tells them apart.
 --   file-fine   a file is refused by a number of at most 9, or its text has more than 35 bytes and at most 173
 -- Assumes nothing.
-use mathlib.Core.Path.{_≡_, refl, sym, ap, ap₂, _∙_, subst}
-use mathlib.Core.Bool.{Bool, true, false, _||_, cond}
+use mathlib.Core.Path.{_≡_, sym, ap, ap₂, _∙_, subst}
+use mathlib.Core.Bool.{Bool, true, false, cond}
 use mathlib.Core.List.{List, [], _∷_, _++_}
-use mathlib.Core.Option.{Option, none, some}
+use mathlib.Core.Option.{Option}
 use Prim.Native.Nat.{ℕ, _<_, _≤_}
 use native.Mathlib.Omega.{arith}
 use native.Mathlib.Decide.{decLt}
@@ -12,20 +12,19 @@ use lib.ListN.{length, take, drop, length-append}
 use lib.Seq.{take-append-seam}
 use lib.Dec.{ltb}
 use borrow.Author.Tests.{lt-ltb, le-ltb}
-use Rattle.kinds.specs.declared.Kind.{Kind}
 use Rattle.kinds.specs.declared.Shape.{Shape}
-use Rattle.kinds.specs.Kinds.{nameOf, knownMap, name-short}
+use Rattle.kinds.specs.Kinds.{nameOf, name-short}
 use Rattle.kinds.specs.Limits.{mostProducts, mostTargets}
-use Rattle.kinds.specs.Sizes.{shapeOf, sizes}
-use Rattle.kinds.specs.Refusal.{Answer, refused, accepted, need, refuse, follow}
+use Rattle.kinds.specs.Refusal.{Answer, refused, accepted, follow, RefusedOnly}
+use Rattle.kinds.specs.laws.Refusal.{need-only, refuse-only, follow-only}
 use Rattle.words.specs.Buffers.{filled}
-use Rattle.words.specs.Masks.{wide, zeroIn}
 use Rattle.text.specs.heads.Head.{headLines}
 use Rattle.printing.specs.Print.{numberText}
 use Rattle.formula_files.specs.lines.Formula.{body}
 use Rattle.text.specs.Line.{LF}
-use Rattle.formula_files.specs.FormulaFile.{tooShort, rest, formulaFile}
-use Rattle.formula_check.specs.Formula.{Lists, Admitted, formulaOf, passed, admit, verdict}
+use Rattle.formula_files.specs.FormulaFile.{rest, formulaFile}
+use Rattle.formula_check.specs.Formula.{Lists, Admitted, admit, verdict, tooShort}
+use Rattle.formula_check.specs.laws.Numbers.{admit-only}
 use Rattle.formula_check.specs.declared.verdicts.Verdict.{Verdict}
 use Rattle.formula_check.specs.declared.verdicts.Verdict.the-variants as said
 use Rattle.check_text.specs.replies.CheckText.{checkNames, verdictText, checkText}
@@ -42,44 +41,17 @@ use Rattle.text.specs.Limits.{mostBytes}
 
 -- ---- refusals are at most 9
 abbrev Small : {A : Type 0} → Answer A → Type 0
-Small (refused e) = e ≤ 9
-Small (accepted x) = Unit {0}
-
-module _ {A B : Type 0} where
-  small-need : (e : ℕ) (o : Option A) (f : A → Answer B) → e ≤ 9 → ((a : A) → Small (f a)) → Small (need e o f)
-  small-need e none f h k = h
-  small-need e (some a) f h k = k a
-
-  small-follow : (o : Answer A) (f : A → Answer B) → Small o → ((a : A) → Small (f a)) → Small (follow o f)
-  small-follow (refused e) f h k = h
-  small-follow (accepted a) f h k = k a
-
-small-refuse : {A : Type 0} (e : ℕ) (b : Bool) (o : Answer A) → e ≤ 9 → Small o → Small (refuse e b o)
-small-refuse e true o h k = h
-small-refuse e false o h k = k
-
-passed-small : (b c d : Bool) (f : Admitted) → Small (refuse 6 b (refuse 7 c (refuse 8 d (accepted f))))
-passed-small true c d f = omega arith
-passed-small false true d f = omega arith
-passed-small false false true f = omega arith
-passed-small false false false f = tt
-
-admit-small : (named : Option Kind) (p q r k : ℕ) (lists : ℕ → Option Lists) → Small (admit named p q r k lists)
-unfolding admit passed
-admit-small named p q r k lists =
-    small-need 2 (knownMap named) _ (omega arith) λ kd.
-    small-need 3 (sizes (shapeOf kd p q r)) _ (omega arith) λ z.
-    small-need 5 (lists (z .2)) _ (omega arith) λ l.
-    passed-small (wide (z .0) (l .0) || (wide (z .1) (l .1) || wide k (l .2))) (zeroIn (l .0) || zeroIn (l .1)) (ltb mostProducts k)
-    (formulaOf (shapeOf kd p q r) (z .0) (z .1) (l .0) (l .1) (l .2))
+Small o = RefusedOnly (λ e. e ≤ 9) o
 
 read-small : (s : List ℕ) (la lb lr : ℕ) → Small (formulaFile s la lb lr)
 unfolding formulaFile rest
 read-small s la lb lr =
-    small-need 1 (headLines s) _ (omega arith) λ h.
-    small-follow (admit (h .0 .kind) (h .0 .p) (h .0 .q) (h .0 .r) (h .0 .k) (λ t. body (h .0 .k) t (h .1))) _
-    (admit-small (h .0 .kind) (h .0 .p) (h .0 .q) (h .0 .r) (h .0 .k) (λ t. body (h .0 .k) t (h .1))) λ f.
-    small-refuse 9 (tooShort la lb lr f) (accepted f) (omega arith) tt
+    let P : ℕ → Type 0 = λ e. e ≤ 9 in
+    need-only P 1 (headLines s) _ (omega arith) λ h.
+    let lists : ℕ → Option Lists = λ t. body (h .0 .k) t (h .1) in
+    follow-only P (admit (h .0 .kind) (h .0 .p) (h .0 .q) (h .0 .r) (h .0 .k) lists) _
+    (admit-only P (h .0 .kind) (h .0 .p) (h .0 .q) (h .0 .r) (h .0 .k) lists (omega arith) (omega arith) (omega arith) (omega arith) (omega arith) (omega arith)) λ f.
+    refuse-only P 9 (tooShort la lb lr f) (accepted f) (omega arith) tt
 
 -- ---- lengths of texts
 field-most : (n : ℕ) → length (fieldText n) ≤ 21

@@ -1,0 +1,6 @@
+-- What the Turn program prints of an input.
+pub mod TurnFile
+pub mod TurnProgram
+pub mod Theorems
+pub mod Worked
+pub mod laws
