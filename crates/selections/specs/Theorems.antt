@@ -4,7 +4,7 @@
 --   redundant-means yes exactly if each target is a sum of the selected generators other than j; and all of them span the targets, and j is one of them
 --   sum-numbers-told, redundant-numbers-told   two replies of the call, to whatever it is handed, are the same if their numbers are
 -- Assumes nothing.
-use mathlib.Core.Path.{_≡_, refl, sym, ap, _∙_, subst}
+use mathlib.Core.Path.{_≡_, refl, sym, ap, _∙_}
 use mathlib.Core.Logic.{_≢_, _↔_}
 use mathlib.Core.Bool.{Bool, true, false, not}
 use mathlib.Core.List.{List, [], _∷_, List·Memᴰ}
@@ -12,7 +12,7 @@ use Prim.Native.Nat.{ℕ, _<_}
 use lib.ListN.{length}
 use lib.Dec.{eqb, ltb}
 use native.Mathlib.Omega.{arith}
-use borrow.Author.Tests.{eqb-true, not-true, not-false}
+use borrow.Author.Tests.{not-true, not-false}
 use Rattle.kinds.specs.Refusal.{accepted, refuse}
 use Rattle.kinds.specs.laws.Refusal.{accepted-inj, follow-inv, refuse-inv, neither}
 use Rattle.kinds.specs.Numbers.{NotByZero}
@@ -20,6 +20,7 @@ use Rattle.kinds.specs.laws.Numbers.{refuse-numbered, follow-numbered, seen-num
 use Rattle.problems.specs.Problem.{Problem, posed}
 use Rattle.problems.specs.laws.Numbered.{posed-numbered}
 use Rattle.words.specs.lists.Lists.{repeats}
+use Rattle.words.specs.lists.laws.Standing.{stood}
 use Rattle.linear.specs.Span.{Span}
 use Rattle.linear.specs.Basis.{basisOf}
 use Rattle.linear.specs.Select.{anyOf}
@@ -28,7 +29,7 @@ use Rattle.linear.specs.Rank.{Computes}
 use Rattle.linear.specs.Word.{word}
 use Rattle.linear.specs.laws.Insert.{basisOf-reduced, basisOf-span}
 use Rattle.linear.specs.laws.Entry.{inside-yes, yes-inside}
-use Rattle.linear.specs.laws.Select.{anyOf-no, no-anyOf, anyOf-yes}
+use Rattle.linear.specs.laws.Select.{anyOf-no, no-anyOf}
 use Rattle.selections.specs.on_forms.Selected.{misfit, without, missedBy, sumAnswer, redundantAnswer, seenSaid, saidNumbers}
 use Rattle.selections.specs.on_forms.laws.Numbers.{said-differ}
 use Rattle.selections.specs.on_forms.laws.Spanning.{misfit-below}
@@ -91,9 +92,6 @@ pub record RedundantMeans (x : Problem) (sel : List ℕ) (j : ℕ) (b : Bool) : 
   pub selected : List·Memᴰ j sel
   pub exactly : (b ≡ true) ↔ Computes word (x .targets) (chosen word (x .generators) (without j sel))
 
-member : (j : ℕ) (sel : List ℕ) → anyOf (eqb j) sel ≡ true → List·Memᴰ j sel
-member j sel e = let r = anyOf-yes (eqb j) sel e in subst (λ (y : ℕ). List·Memᴰ y sel) (sym (eqb-true j (r .0) (r .2))) (r .1)
-
 pub redundant-means : (number p q r : ℕ) (gs ts sel : List ℕ) (j : ℕ) (b : Bool) → isRedundant number p q r gs ts sel j ≡ accepted b
     → (x : Problem) × (posed number p q r gs ts [] ≡ accepted x) × RedundantMeans x sel j b
 unfolding isRedundant redundantAnswer
@@ -111,7 +109,7 @@ redundant-means number p q r gs ts sel j b e =
       record {
         fits = selection-fits (length G) sel (a .0);
         spans = not-missed G T sel .0 (c .0);
-        selected = member j sel (not-false (anyOf (eqb j) sel) (d .0));
+        selected = stood j sel (not-false (anyOf (eqb j) sel) (d .0));
         exactly = (λ t. not-missed G T (without j sel) .0 (not-true (missedBy G T (without j sel)) (q ∙ t)), λ h. sym q ∙ ap not (not-missed G T (without j sel) .1 h));
       },
     )

@@ -1,6 +1,5 @@
 -- A table of weights by value. A value is a residue other than 0; a slot has 0, or a number and one, and then stands for that number's value.
---   slotFrom fuel q slots d v == from the slot q on the first that is free or has a number of the value v; 16,384 where as many as fuel are tried in vain
---   slotOf slots d v          == the slot of the value v: from its own on, where 64 are tried
+--   slotOf slots d v          == the slot of the value v, looked for from its own on; 16,384 where there is none
 --   weightOf slots d w v      == the weight of v: that of the number in its slot, 0 where that is free, 200 where there is none
 --   Slots slots d             == the slots are all there, and have numbers of d
 --   Blank ..                  == what `fill` asks: slots and weights are all 0, and s has the rows of the generators of residue 0
@@ -8,26 +7,22 @@
 -- Laws: laws/Seek, laws/Fill. Assumes nothing.
 use mathlib.Core.Path.{_≡_}
 use mathlib.Core.Logic.{_≢_}
-use mathlib.Core.Bool.{cond, _||_}
+use mathlib.Core.Bool.{cond}
 use mathlib.Core.List.{List}
-use Prim.Native.Nat.{ℕ, zero, suc, _+_, _-_, _%_, _≤_}
+use Prim.Native.Nat.{ℕ, _-_, _≤_}
 use lib.Dec.{eqb}
 use lib.ListN.{length, getD, replicate}
 use Rattle.linear.specs.Basis.{basisOf}
 use Rattle.linear.specs.Word.{word, isZero}
+use Rattle.words.specs.tables.Table.{slotFrom, tries, Numbered}
 use Rattle.residues.specs.children.Residues.{withResidue}
 use Rattle.residues.specs.children.Weighed.{Weighed}
 use Rattle.weights.specs.slots.Bucket.{bucketOf, slotCount}
 use Rattle.residues.specs.Room.{searchRoom}
 use Rattle.weights.specs.rank_rows.Stretch.{rowRoom}
 
-unfoldable pub slotFrom : ℕ → ℕ → List ℕ → List ℕ → ℕ → ℕ
-slotFrom zero q slots d v = slotCount
-slotFrom (suc fuel) q slots d v =
-    cond (isZero (getD slots q 0) || eqb (getD d (getD slots q 0 - 1) 0) v) q (slotFrom fuel ((q + 1) % slotCount) slots d v)
-
 unfoldable pub slotOf : List ℕ → List ℕ → ℕ → ℕ
-slotOf slots d v = slotFrom 64 (bucketOf v) slots d v
+slotOf slots d v = slotFrom slotCount tries (bucketOf v) slots d v
 
 unfoldable pub weightAt : List ℕ → List ℕ → ℕ → ℕ
 weightAt slots w q = cond (eqb q slotCount) 200 (cond (isZero (getD slots q 0)) 0 (getD w (getD slots q 0 - 1) 0))
@@ -37,7 +32,7 @@ weightOf slots d w v = weightAt slots w (slotOf slots d v)
 
 pub record Slots (slots d : List ℕ) : Type 0 where
   pub size : length slots ≡ slotCount
-  pub number : (q : ℕ) → getD slots q 0 ≤ length d
+  pub number : Numbered slots d
 
 pub record Blank (gens d : List ℕ) (start : ℕ) (dead s slots rows w : List ℕ) : Type 0 where
   pub alike : length gens ≡ length d

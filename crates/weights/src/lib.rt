@@ -24,20 +24,7 @@ fn seek(slots: &[u16], d: &[u64], x: u64) -> usize
     requires { ⌜ Slots (now slots) (now d) ⌝ }
     ensures { λ r. ⌜ (r ≡ slotOf (now (slots .entry)) (now (d .entry)) x) × (r ≤ slotCount) ⌝ }
 {
-    let mut q = slots::bucket(x);
-    let mut t: usize = 64;
-    while t > 0 {
-        let f = slots[q] as usize;
-        if f == 0 {
-            return q;
-        }
-        if d[f - 1] == x {
-            return q;
-        }
-        q = (q + 1) % SLOTS;
-        t -= 1;
-    }
-    SLOTS
+    words::tables::seek(slots, d, slots::bucket(x), x)
 }
 
 // The weight of the value `x`: that of the number in its slot, 0 where that is free, 200 where there is none.

@@ -3,3 +3,4 @@ pub mod Masks
 pub mod Buffers
 pub mod laws
 pub mod lists
+pub mod tables

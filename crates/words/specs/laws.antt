@@ -2,3 +2,4 @@
 pub mod Masks
 pub mod Buffers
 pub mod Scan
+pub mod Blank

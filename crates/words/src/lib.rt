@@ -1,5 +1,6 @@
 // Words of 64 bits: lent buffers of them (put, copy, clear), then tests on masks (is a bit outside, is one zero).
 // lists    lists handed in: does a form stand twice, which of refusals 4 to 7 applies, is a number outside
+// tables   numbers by value: where a value is in a table with open addressing
 // What the words mean is left to the callers.
 ghost use mathlib.Core.Path.{_≡_};
 ghost use mathlib.Core.Bool.{_||_};
@@ -10,6 +11,7 @@ ghost use lib.Dec.{eqb};
 ghost use Rattle.words.specs.Masks.{outside, wide, zeroIn};
 
 pub mod lists;
+pub mod tables;
 
 // The largest word (`largestWord`).
 pub const LARGEST: u64 = 18446744073709551615;

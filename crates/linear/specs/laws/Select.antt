@@ -27,6 +27,13 @@ module _ {A : Type 0} (p : A → Bool) where
   no-anyOf [] h = refl
   no-anyOf (y ∷ l) h = ap₂ _||_ (h y (List·Memᴰ·head refl)) (no-anyOf l (λ x m. h x (List·Memᴰ·tail m)))
 
+  pub anyOf-here : (l : List A) (x : A) → List·Memᴰ x l → p x ≡ true → anyOf p l ≡ true
+  anyOf-here l x m e = go (anyOf p l) refl
+    where
+      go : (t : Bool) → anyOf p l ≡ t → t ≡ true
+      go true q = refl
+      go false q = absurd (true≢false (sym e ∙ anyOf-no l q x m))
+
   pub only-mem : (l : List A) (x : A) → List·Memᴰ x (only p l) → List·Memᴰ x l × (p x ≡ true)
   unfolding only
   only-mem [] = λ x m. absurd (List·Memᴰ·not-nil m)

@@ -6,5 +6,4 @@ pub mod Found
 pub mod Weighed
 pub mod Handed
 pub mod Join
-pub mod Blank
 pub mod Numbers

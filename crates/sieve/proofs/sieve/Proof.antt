@@ -4,7 +4,7 @@ use native.Mathlib.Omega.{arith}
 use Rattle.residues.specs.children.Residues.{withResidue}
 use Rattle.residues.specs.laws.Held.{from-empty}
 use Rattle.residues.specs.children.laws.Numbers.{as-few, as-many}
-use Rattle.residues.specs.children.laws.Blank.{zero-length}
+use Rattle.words.specs.laws.Blank.{zero-length}
 use Rattle.sieve.specs.laws.Marks.{sieved-of}
 use Rattle.sieve.proofs.sieve.Statement.{statement}
 use Rattle.sieve.proofs.sieve.Tie as tie

@@ -8,7 +8,7 @@ use mathlib.Core.List.{List}
 use Prim.Native.Nat.{ℕ}
 use lib.ListN.{length, replicate}
 use Rattle.residues.specs.children.Found.{Fair, Found}
-use Rattle.residues.specs.children.laws.Blank.{zero-at}
+use Rattle.words.specs.laws.Blank.{zero-at}
 use Rattle.residues.specs.children.laws.Found.{met-barren}
 use Rattle.sieve.specs.dead_numbers.Dead.{FlaggedBefore}
 use Rattle.sieve.specs.Sieve.{Sieved}

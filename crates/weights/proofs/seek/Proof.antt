@@ -1,60 +1,13 @@
--- `weights::seek` meets its contract: from the slot `q` on the search gives what it gives from the value's own. Assumes nothing.
+-- `weights::seek` meets its contract: the table has `slotCount` slots and is looked through from the value's own on. Assumes nothing.
 use borrow.Author.Needs.{needs}
-use native.Mathlib.Omega.{arith}
-use Rattle.weights.specs.laws.Seek.{Seeking, seek-start, seek-more, seek-free, seek-found, seek-none}
+use Rattle.weights.specs.laws.Seek.{slot-sought}
 use Rattle.weights.proofs.seek.Statement.{statement}
 use Rattle.weights.proofs.seek.Tie as tie
 
-abbrev Inv-loop : tie.InvT-loop
-Inv-loop slots d x q₀ t₀ q t = Seeking slots d x q t
-
-abbrev μ-loop : tie.MeasureT-loop
-μ-loop slots d x q₀ t₀ q t = t
-
-loop-holds : tie.Need-loop-holds Inv-loop μ-loop
-loop-holds c =
-    let q = c .bucket in
-    let a = c .before .before .before .args in
-    seek-start (a .slots .now) (a .d .now) (a .x) (q .result) (q .ensures .0) (q .ensures .1)
-
-cast-f : tie.Need-cast-f Inv-loop μ-loop
-cast-f c = omega (arith, c .shared-slice-known3 .given (c .before .before .loop .q))
-
-returns : tie.Need-returns Inv-loop μ-loop
+returns : tie.Need-returns
 returns c =
-    let l = c .before .before .before .loop in
-    let a = c .before .before .before .before .before .before .before .args in
-    seek-free (a .slots .now) (a .d .now) (a .x) (l .q) (l .t) (l .inv) (c .before .before .loop-test .taken) (c .if1 .taken)
-
-mul-if2 : tie.Need-mul-if2 Inv-loop μ-loop
-mul-if2 c = omega (arith, c .before .before .before .before .before .before .before .pre .number (c .before .before .before .loop .q))
-
-shared-slice-read-if2 : tie.Need-shared-slice-read-if2 Inv-loop μ-loop
-shared-slice-read-if2 c =
-    let p = c .before .before .before .before .before .before .before .before .pre in
-    omega (arith, p .number (c .before .before .before .before .loop .q))
-
-returns-2 : tie.Need-returns-2 Inv-loop μ-loop
-returns-2 c =
-    let l = c .before .before .before .before .before .loop in
-    let a = c .before .before .before .before .before .before .before .before .before .args in
-    seek-found (a .slots .now) (a .d .now) (a .x) (l .q) (l .t) (l .inv) (c .before .before .before .before .loop-test .taken) (c .if2 .taken)
-
-loop-again : tie.Need-loop-again Inv-loop μ-loop
-loop-again c =
-    let l = c .before .before .before .before .before .loop in
-    let a = c .before .before .before .before .before .before .before .before .before .args in
-    seek-more (a .slots .now) (a .d .now) (a .x) (l .q) (l .t) (l .inv) (c .before .before .before .before .loop-test .taken)
-    (c .before .before .if1 .left) (c .if2 .left)
-
-returns-3 : tie.Need-returns-3 Inv-loop μ-loop
-returns-3 c =
-    let l = c .before .loop in
-    let a = c .before .before .before .before .before .args in
-    seek-none (a .slots .now) (a .d .now) (a .x) (l .q) (l .t) (l .inv) (c .loop-test .left)
+    let a = c .before .before .before .before .args in
+    slot-sought (a .slots .now) (a .d .now) (a .x) (c .before .bucket .result) (c .seek .result) (c .before .before .before .before .pre .size) (c .before .bucket .ensures .0) (c .seek .ensures)
 
 pub seek-spec : {M : Type 1} → statement M
-seek-spec =
-    tie.close
-    (tie.spec Inv-loop μ-loop (λ c κs. search needs) loop-holds (λ c. omega arith) (λ c. omega arith) cast-f returns (λ c. omega arith) mul-if2
-    shared-slice-read-if2 returns-2 (λ c. omega arith) (λ c. omega arith) (λ c. omega arith) loop-again returns-3)
+seek-spec = tie.close (tie.spec (λ c κs. search needs) (λ c κs. search needs) returns)

@@ -23,7 +23,8 @@ use Rattle.residues.specs.children.Weighed.{rankOf, Shared, Owner, Weighed}
 use Rattle.residues.specs.children.laws.Handed.{residue-mem}
 use Rattle.weights.specs.Table.{slotOf, weightOf}
 use Rattle.weights.specs.Enter.{valueRows, TableSound, From, ValuePlace}
-use Rattle.weights.specs.laws.Seek.{either, slot-below, slot-owner, weight-none, weight-number}
+use Rattle.words.specs.tables.laws.Seek.{either}
+use Rattle.weights.specs.laws.Seek.{slot-below, slot-owner, weight-none, weight-number}
 use Rattle.weights.specs.slots.Bucket.{slotCount}
 
 -- ---- rows bound a rank

@@ -19,7 +19,8 @@ use Rattle.linear.specs.laws.Span.{cast, span-weak, span-head, span-cons, span-
 use Rattle.weights.specs.rank_rows.Stretch.{stretch, StretchGrowing, StretchGrown}
 use Rattle.weights.specs.Table.{slotOf, Slots}
 use Rattle.weights.specs.Enter.{valueRows, TableSound, ValuePlace, Entering, Entered}
-use Rattle.weights.specs.laws.Seek.{either, slot-below, slot-owner, apart, slot-kept, slot-own}
+use Rattle.words.specs.tables.laws.Seek.{either, apart}
+use Rattle.weights.specs.laws.Seek.{slot-below, slot-owner, slot-kept, slot-own}
 use Rattle.residues.specs.Room.{searchRoom}
 use Rattle.weights.specs.slots.Bucket.{slotCount}
 

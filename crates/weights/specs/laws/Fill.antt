@@ -13,10 +13,10 @@ use lib.ListN.{length, getD}
 use Rattle.linear.specs.Basis.{basisOf}
 use Rattle.linear.specs.Word.{word}
 use Rattle.residues.specs.children.Residues.{withResidue}
-use Rattle.residues.specs.children.laws.Blank.{zero-at, zero-length}
+use Rattle.words.specs.laws.Blank.{zero-at, zero-length}
 use Rattle.weights.specs.Table.{Blank, TableFilled}
 use Rattle.weights.specs.Enter.{Sizes, TableSound, From, ValuePlace, Entering, Entered}
-use Rattle.weights.specs.laws.Seek.{either}
+use Rattle.words.specs.tables.laws.Seek.{either}
 use Rattle.weights.specs.laws.Enter.{sound-slots}
 use Rattle.weights.specs.laws.Bound.{full-weighed}
 use Rattle.residues.specs.Room.{searchRoom}

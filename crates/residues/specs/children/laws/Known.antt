@@ -5,8 +5,8 @@
 -- Assumes nothing.
 use mathlib.Core.Path.{_≡_, refl, sym, ap, _∙_}
 use mathlib.Core.Logic.{_≢_, _⊎_, inl, inr, ⊎-elim}
-use mathlib.Core.Bool.{Bool, true, false, _||_, true≢false, false≢true}
-use mathlib.Core.List.{List, [], _∷_, List·Memᴰ, List·Memᴰ·head, List·Memᴰ·tail, List·Memᴰ·not-nil}
+use mathlib.Core.Bool.{Bool, true, false, _||_, true≢false}
+use mathlib.Core.List.{List, List·Memᴰ}
 use Prim.Native.Nat.{ℕ, zero, suc, _<_}
 use native.Mathlib.Omega.{arith}
 use native.Mathlib.Decide.{decLt}
@@ -22,7 +22,7 @@ use Rattle.linear.specs.Walk.{Next}
 use Rattle.linear.specs.Word.{word, scaleW, isZero}
 use Rattle.linear.specs.laws.Reduce.{member}
 use Rattle.linear.specs.laws.Insert.{insert-reduced}
-use Rattle.linear.specs.laws.Select.{no-anyOf, anyOf-yes}
+use Rattle.linear.specs.laws.Select.{no-anyOf, anyOf-here, anyOf-yes}
 use Rattle.linear.specs.laws.Order.{mem-index, mem-getD}
 use Rattle.residues.specs.children.Residues.{residues, known}
 use Rattle.residues.specs.children.laws.Child.{residue-at, reduce-child, clear-zero, zero-yes}
@@ -30,16 +30,6 @@ use Rattle.residues.specs.children.laws.Child.{residue-at, reduce-child,
 isZero-of : (x : ℕ) → x ≢ 0 → isZero x ≡ false
 isZero-of zero n = absurd (n refl)
 isZero-of (suc x) n = refl
-
-any-here : (p : ℕ → Bool) (l : List ℕ) (x : ℕ) → List·Memᴰ x l → p x ≡ true → anyOf p l ≡ true
-unfolding anyOf
-any-here p [] x m e = absurd (List·Memᴰ·not-nil m)
-any-here p (y ∷ l) x m e = go (p y) refl m (λ k. any-here p l x k e)
-  where
-    go : (t : Bool) → p y ≡ t → List·Memᴰ x (y ∷ l) → (List·Memᴰ x l → anyOf p l ≡ true) → t || anyOf p l ≡ true
-    go true q m ih = refl
-    go false q (List·Memᴰ·head d) ih = absurd (false≢true (sym q ∙ ap p (sym d) ∙ e))
-    go false q (List·Memᴰ·tail k) ih = ih k
 
 pub known-zero : (h : List ℕ) (j : ℕ) → getD h j 0 ≡ 0 → true ≡ known h j
 unfolding known
@@ -51,7 +41,7 @@ known-found h j i n l k e =
     let z : i < length (take j h) = omega (arith, length-take j h) in
     sym
     (ap (λ (t : Bool). t || anyOf (eqb (getD h j 0)) (take j h)) (isZero-of (getD h j 0) n)
-    ∙ any-here (eqb (getD h j 0)) (take j h) (getD (take j h) i 0) (mem-getD (take j h) i 0 z) (eq-eqb (getD h j 0) (getD (take j h) i 0) (sym
+    ∙ anyOf-here (eqb (getD h j 0)) (take j h) (getD (take j h) i 0) (mem-getD (take j h) i 0 z) (eq-eqb (getD h j 0) (getD (take j h) i 0) (sym
     (getD-take j h i 0 l ∙ e))))
 
 pub known-none : (h : List ℕ) (j : ℕ) → getD h j 0 ≢ 0 → ((i : ℕ) → i < j → getD h i 0 ≢ getD h j 0) → false ≡ known h j

@@ -10,7 +10,7 @@ use native.Mathlib.Decide.{ℕ-discrete}
 use native.Mathlib.Omega.{arith}
 use lib.ListN.{getD, set, replicate, length-set}
 use lib.Seq.{getD-set-other}
-use Rattle.residues.specs.children.laws.Blank.{zero-at, zero-length}
+use Rattle.words.specs.laws.Blank.{zero-at, zero-length}
 use Rattle.sieve.specs.dead_numbers.Dead.{FlaggedBefore}
 use Rattle.residues.specs.Room.{searchRoom}
 

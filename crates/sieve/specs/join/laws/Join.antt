@@ -19,7 +19,7 @@ use lib.Seq.{getD-set-same, getD-set-other}
 use Rattle.residues.specs.children.Weighed.{Apart}
 use Rattle.sieve.specs.marked_numbers.Marks.{NextMarked}
 use Rattle.weights.specs.Table.{weightOf}
-use Rattle.weights.specs.laws.Seek.{either}
+use Rattle.words.specs.tables.laws.Seek.{either}
 use Rattle.sieve.specs.join.Join.{Half, Halved, Third, ThirdAsked, Joining, Join}
 use Rattle.residues.specs.Room.{searchRoom}
 

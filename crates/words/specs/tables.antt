@@ -1,0 +1,3 @@
+-- Tables of numbers by value.
+pub mod Table
+pub mod laws
