@@ -17,18 +17,31 @@ static uint64_t form(uint64_t x, uint64_t y) {
   return f;
 }
 
+/* The adders of a side: equal masks once. */
+static uint64_t side(const uint64_t *masks) {
+  uint64_t sum = 0;
+  for (int t = 0; t < K; t++) {
+    int again = 0;
+    if ((masks[t] & (masks[t] - 1)) == 0)
+      continue;
+    for (int s = t + 1; s < K; s++)
+      again |= masks[s] == masks[t];
+    if (!again)
+      sum += (uint64_t)__builtin_popcountll(masks[t]) - 1;
+  }
+  return sum;
+}
+
 /* The first output that differs, or OUTPUTS; and the adders. */
 static int plain(uint64_t *adders) {
   uint64_t product[K], target[OUTPUTS] = {0};
   int wrong = OUTPUTS;
-  *adders = 0;
+  *adders = side(a) + side(b);
   for (int i = 0; i < N; i++)
     for (int j = 0; j < N; j++)
       target[i + j] |= (uint64_t)1 << (i * N + j);
-  for (int t = 0; t < K; t++) {
+  for (int t = 0; t < K; t++)
     product[t] = form(a[t], b[t]);
-    *adders += (uint64_t)(__builtin_popcountll(a[t]) + __builtin_popcountll(b[t]) - 2);
-  }
   for (int t = OUTPUTS - 1; t >= 0; t--) {
     uint64_t sum = 0;
     for (int i = 0; i < K; i++)

@@ -34,7 +34,8 @@ size_t gijpsando_check(const uint8_t *file, size_t file_len, uint8_t *out, size_
 /*
  * Check on numbers: the kind by its number, its sizes p, q, r, and k products. a and b hold the masks of their factors, k words each, and
  * rows a row for each output, whose bit i stands for product i. The reply is 0, and then
- *   reply[0] is 0 for right and 1 for wrong, reply[1] the first output that differs for some input (0 where right), reply[2] the adders,
+ *   reply[0] is 0 for right and 1 for wrong, reply[1] the first output that differs for some input (0 where right), reply[2] the adders:
+ *   of w ones w - 1, each distinct mask of a counted once, each distinct mask of b once, and every row;
  * and the rest of reply keeps its values; or it is a refusal's number, and reply is unchanged. Fewer than 3 words are refused by 9.
  */
 uint64_t gijpsando_check_numbers(uint64_t kind, uint64_t p, uint64_t q, uint64_t r, uint64_t k, const uint64_t *a, size_t a_len,

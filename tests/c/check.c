@@ -35,6 +35,8 @@ static const char WRONG[] = "kind,p,q,r,k\npoly,2,2,0,3\na,b\n1,1\n2,2\n3,3\nrow
 static const char RIGHT_TEXT[] = "kind,p,q,r,k,verdict,output,adders\npoly,2,2,0,3,right,-,4\n";
 static const char MIDDLE[] = "kind,p,q,r,k\nmid,2,3,0,3\na,b\n2,3\n1,6\n3,2\nrow\n5\n6\n";
 static const char MIDDLE_TEXT[] = "kind,p,q,r,k,verdict,output,adders\nmid,2,3,0,3,right,-,5\n";
+static const char SHARED[] = "kind,p,q,r,k\npoly,2,2,0,2\na,b\n3,1\n3,2\nrow\n1\n2\n0\n";
+static const char SHARED_TEXT[] = "kind,p,q,r,k,verdict,output,adders\npoly,2,2,0,2,wrong,0,1\n";
 static const char WRONG_TEXT[] = "kind,p,q,r,k,verdict,output,adders\npoly,2,2,0,3,wrong,1,3\n";
 
 static void files(void) {
@@ -44,6 +46,7 @@ static void files(void) {
     for (size_t room = 0; room < n; room++) file_case("too short", RIGHT, strlen(RIGHT), room, 9, "");
     file_case("wrong", WRONG, strlen(WRONG), 256, strlen(WRONG_TEXT), WRONG_TEXT);
     file_case("middle product", MIDDLE, strlen(MIDDLE), 256, strlen(MIDDLE_TEXT), MIDDLE_TEXT);
+    file_case("one sum for two products", SHARED, strlen(SHARED), 256, strlen(SHARED_TEXT), SHARED_TEXT);
     file_case("empty", "", 0, 256, 1, "");
     file_case("kind", "kind,p,q,r,k\nlist,2,2,1,3\n", 26, 256, 2, "");
     file_case("sizes", "kind,p,q,r,k\npoly,9,8,0,3\n", 26, 256, 3, "");
@@ -83,6 +86,16 @@ static void numbers(void) {
     numbers_case("middle product of 2 by 4", GIJPSANDO_MID, 2, 4, 0, 3, left, 3, second, 3, middle, 2, 3, 3, 0, 0, 0);
     /* 2 p - 1 would be 1 if it left 64 bits */
     numbers_case("huge middle product", GIJPSANDO_MID, (1ull << 63) + 1, 1, 0, 3, left, 3, second, 3, middle, 2, 3, 3, 0, 0, 0);
+    /* equal masks of a side are one sum; a mask on both sides is two, and every row counts */
+    const uint64_t threes[4] = {3, 3, 3, 3}, units[3] = {1, 2, 3}, four_a[4] = {1, 3, 3, 3}, four_b[4] = {3, 1, 3, 2}, none[3] = {0, 0, 0};
+    const uint64_t one_two[3] = {1, 2, 0}, three_none[3] = {3, 0, 0}, equal_rows[3] = {3, 3, 3}, four_rows[3] = {0, 15, 3}, three_rows[3] = {1, 4, 2};
+    numbers_case("3,1 and 3,2", 0, 2, 2, 0, 2, threes, 2, units, 2, one_two, 3, 3, 0, 1, 0, 1);
+    numbers_case("1,3 and 2,3", 0, 2, 2, 0, 2, units, 2, threes, 2, one_two, 3, 3, 0, 1, 0, 1);
+    numbers_case("3,3 twice", 0, 2, 2, 0, 2, threes, 2, threes, 2, three_none, 3, 3, 0, 1, 0, 3);
+    numbers_case("equal rows", 0, 2, 2, 0, 2, units, 2, units, 2, equal_rows, 3, 3, 0, 1, 0, 3);
+    numbers_case("four products", 0, 2, 2, 0, 4, four_a, 4, four_b, 4, four_rows, 3, 3, 0, 1, 0, 6);
+    numbers_case("three products", 0, 2, 2, 0, 3, threes, 3, units, 3, three_rows, 3, 3, 0, 1, 0, 2);
+    numbers_case("3 on both sides", 0, 2, 2, 0, 1, threes, 1, threes, 1, none, 3, 3, 0, 1, 0, 2);
     for (size_t room = 0; room < 3; room++) numbers_case("short reply", 0, 2, 2, 0, 3, m, 3, m, 3, right, 3, room, 9, 0, 0, 0);
 }
 

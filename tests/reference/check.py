@@ -106,13 +106,20 @@ def verdict(kind, p, q, r, n, m, products, rows):
     return first_wrong(kind, p, q, r, products, rows, inputs(n), inputs(m))
 
 
+def sums(words):
+    """The adders of some words, each counted: of w ones w - 1, of none 0."""
+    return sum(max(bin(word).count("1") - 1, 0) for word in words)
+
+
 def adders(products, rows):
-    total = 0
-    for word in [f for pair in products for f in pair] + rows:
-        ones = bin(word).count("1")
-        if ones > 0:
-            total += ones - 1
-    return total
+    """Wish 2: each distinct a mask once, each distinct b mask once, every row."""
+    return (sums({a for a, _ in products}) + sums({b for _, b in products})
+            + sums(rows))
+
+
+def unshared(products, rows):
+    """Document 01: every factor and every row."""
+    return sums([f for pair in products for f in pair] + rows)
 
 
 # The file.
@@ -216,6 +223,8 @@ def self_test():
     top = "kind,p,q,r,k,verdict,output,adders\n"
     assert check(head + b"1\n7\n2\n") == top + "poly,2,2,0,3,right,-,4\n"
     assert check(head + b"1\n3\n2\n") == top + "poly,2,2,0,3,wrong,1,3\n"
+    assert adders([(3, 1), (3, 2)], [1, 2, 0]) == 1
+    assert unshared([(3, 1), (3, 2)], [1, 2, 0]) == 2
 
     dice = random.Random(1)
     compared = {True: 0, False: 0}

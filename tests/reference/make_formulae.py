@@ -4,6 +4,7 @@ Each file is made with the verdict it is meant to bring: 'right', a number t
 as ('wrong', t), or a refusal's number.  check.py must agree with all of them.
 Some are made for Turn, with its refusal or the file that it is to print; and
 whatever Turn prints must be right exactly if what it was sent is.
+Some have their adders with them, as Wish 2 counts and as document 01 does.
 Nothing is random.  A name is three digits, a short name padded with '-', and
 `.txt`: 24 bytes.
 """
@@ -18,9 +19,12 @@ HEAD = b"kind,p,q,r,k\n"
 
 files = []
 turns = {}                                      # of a name: what Turn is to print
+counts = {}                                     # of a name: its adders, shared and unshared
 
 
-def add(name, data, want, turn=None):
+def add(name, data, want, turn=None, adders=None):
+    if adders is not None:
+        counts[name] = adders
     if turn is not None:
         turns[name] = "refused %d\n" % turn if isinstance(turn, int) else turn.data().decode()
     number = len(files)
@@ -304,7 +308,7 @@ def wrong():
         n, m, lists = terms(kind, p, q, r)
         no("none-%s-%d" % (kind, len(lists)), Formula(kind, p, q, r, [], [0] * len(lists)), 0)
     full = (1 << 64) - 1
-    no("adders-8064", Formula("poly", 64, 1, 0, [(full, 1)] * 64, [full] * 64), 0)
+    no("adders-64-equal", Formula("poly", 64, 1, 0, [(full, 1)] * 64, [full] * 64), 0)
     no("adders-rows-zero", Formula("poly", 8, 8, 0, [(0xff, 0xff)] * 3, [0] * 15), 0)
 
 
@@ -574,6 +578,53 @@ def turned():
     add("3-turn-6-6", schoolbook("poly", 6, 6).data(), "right", 3)
 
 
+# Sums that are wired once: equal masks of a side, equal masks of both, equal rows, and many masks.
+
+def shared():
+    def two(name, products, rows, want, adders):
+        add("share-" + name, Formula("poly", 2, 2, 0, products, rows).data(), want, adders=adders)
+
+    two("a", [(3, 1), (3, 2)], [1, 2, 0], ("wrong", 0), (1, 2))
+    two("b", [(1, 3), (2, 3)], [1, 2, 0], ("wrong", 0), (1, 2))
+    two("both", [(3, 3), (3, 3)], [3, 0, 0], ("wrong", 0), (3, 5))
+    two("rows", [(1, 1), (2, 2)], [3, 3, 3], ("wrong", 0), (3, 3))
+    two("four", [(1, 3), (3, 1), (3, 3), (3, 2)], [0, 0xf, 3], ("wrong", 0), (6, 9))
+    two("three", [(3, 1), (3, 2), (3, 3)], [1, 4, 2], ("wrong", 0), (2, 4))
+    two("right", [(1, 1), (3, 1), (3, 2), (2, 2)], [1, 0xf, 8], "right", (4, 5))
+    two("across", [(3, 3)], [1, 1, 1], ("wrong", 0), (2, 2))
+    two("units", [(1, 1), (1, 2), (2, 1), (2, 2)], [1, 6, 8], "right", (1, 1))
+    two("karatsuba", [(1, 1), (2, 2), (3, 3)], [1, 7, 2], "right", (4, 4))
+    add("share-strassen", STRASSEN.data(), "right", adders=(18, 18))
+    add("share-mid", Formula("mid", 2, 3, 0, [(2, 3), (1, 6), (3, 2), (3, 6)], [5, 0xe]).data(), ("wrong", 1), adders=(6, 8))
+
+    def side(name, masks, adders):
+        """Masks of one side, of 16 bits, with rows 0."""
+        add("share-" + name, Formula("poly", 16, 1, 0, [(x, 1) for x in masks], [0] * 16).data(), ("wrong", 0), adders=adders)
+
+    # Of equal masks one is left, wherever they stand.
+    side("apart", [7, 3, 5, 3, 1, 7], (4, 7))
+    side("neighbours", [7, 7, 3, 3, 3, 5], (4, 8))
+    side("last-again", [3, 7, 0xf, 3], (6, 7))
+    # Masks that leave the same remainder, and the last remainders, each twice.
+    for name, masks in (("one-slot", [3 + 269 * j for j in range(32)]), ("last-slots", [269 * j - 1 - j % 2 for j in range(1, 33)])):
+        heavy = [x for x in masks if bin(x).count("1") > 1]
+        side(name, masks + masks[::-1], (check.sums(heavy), 2 * check.sums(heavy)))
+    # 64 masks of 64 bits, no two equal: the most adders that there can be.
+    full = (1 << 64) - 1
+    most = [full] + [full ^ 1 << j for j in range(63)]
+    add("share-8001", Formula("poly", 64, 1, 0, [(x, 1) for x in most], [full] * 64).data(), ("wrong", 0), adders=(8001, 8001))
+
+
+def counted(name, data, reply):
+    """The column `adders` by itself: what was asked for, and what document 01 makes of the same formula."""
+    if reply.startswith("refused"):
+        return True
+    *_, products, rows = check.read(data)
+    plain = check.unshared(products, rows)
+    column = int(reply.split(",")[-1])
+    return column <= plain and counts.get(name, (column, plain)) == (column, plain)
+
+
 def wanted(want, reply):
     lines = reply.splitlines()
     if want == "right":
@@ -586,12 +637,13 @@ def wanted(want, reply):
 def made():
     """Name, bytes and reply of each file."""
     for part in (right, wrong, refused_1, refused_2, refused_3, refused_5,
-                 refused_6, refused_7, refused_8, middle, turned):
+                 refused_6, refused_7, refused_8, middle, turned, shared):
         part()
     checked = [check.check(data) for _, _, data, _ in files]
     turn = [turning.turn(data) for _, _, data, _ in files]
-    for (short, name, _, want), reply, new in zip(files, checked, turn):
+    for (short, name, data, want), reply, new in zip(files, checked, turn):
         assert len(name) == 24 and wanted(want, reply), (name, want, reply)
+        assert counted(short, data, reply), (name, reply)
         assert new == turns.get(short, new), (name, new)
         assert new.startswith("refused") or (want == "right") == wanted("right", check.check(new.encode())), (name, new)
     return [(name, data, reply + new) for (_, name, data, _), reply, new in zip(files, checked, turn)]

@@ -1,7 +1,8 @@
 -- A formula, and what Check says of it.
 --   formulaOutput n m xs ys row k a b == what the row gives at the bits a and b; the products are the pairs of xs and ys, the first numbered k
 --   firstWrong ..                     == the first output, from t on, whose row does not give the target
---   adders xs ys rows                 == the adders of a formula
+--   adders xs ys rows                 == the adders of a formula, a sum of inputs that is wired once counted once
+--   unsharedAdders xs ys rows         == the same with nothing shared, as document 01 counts
 --   Admitted                          == a formula that is not refused: kind and sizes, n and m, its products and its rows
 --   admit ..                          == refused by a number, 2 to 8, or the admitted formula
 --   verdict f                         == of an admitted formula: the first wrong output (none: right) and the adders
@@ -24,7 +25,7 @@ use Rattle.words.specs.Masks.{wide, zeroIn}
 use Rattle.kinds.specs.declared.Kind.{Kind}
 use Rattle.kinds.specs.declared.Shape.{Shape}
 use Rattle.forms.specs.Row.{rowForm}
-use Rattle.formula_check.specs.sums.Sums.{productForms, addersOf}
+use Rattle.formula_check.specs.sums.Sums.{productForms, addersOf, sideAdders}
 use Rattle.maps.specs.Textbook.{sumTo}
 use Rattle.maps.specs.Target.{targetForm}
 use Rattle.kinds.specs.Limits.{mostProducts}
@@ -42,9 +43,12 @@ firstWrong shape n m fs [] t = none
 firstWrong shape n m fs (row ∷ rows) t =
     cond (eqb (rowForm fs row 0) (targetForm shape n m t)) (firstWrong shape n m fs rows (suc t)) (some t)
 
--- ---- adders
+-- ---- adders: Wish 2, "each distinct a mask once and each distinct b mask once; rows are counted as before"
 abbrev pub adders : (xs ys rows : List ℕ) → ℕ
-adders xs ys rows = addersOf xs + addersOf ys + addersOf rows
+adders xs ys rows = sideAdders xs + sideAdders ys + addersOf rows
+
+abbrev pub unsharedAdders : (xs ys rows : List ℕ) → ℕ
+unsharedAdders xs ys rows = addersOf xs + addersOf ys + addersOf rows
 
 -- ---- the reply
 -- the masks of the products' first factors, of their second factors, and the rows

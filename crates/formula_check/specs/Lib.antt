@@ -6,5 +6,6 @@ pub mod Buffers
 pub mod Theorems
 pub mod laws
 pub mod sums
+pub mod sides
 pub mod verdicts
 pub mod meaning

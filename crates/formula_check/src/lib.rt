@@ -20,6 +20,7 @@ use kinds::Shape;
 use kinds::Sized;
 use verdicts::Verdict;
 
+pub mod sides;
 pub mod sums;
 pub mod verdicts;
 
@@ -60,7 +61,7 @@ pub fn judge(shape: Shape, n: u64, m: u64, a: &[u64], b: &[u64], rows: &[u64]) -
     requires { ⌜ Fitting shape n m (now a) (now b) (now rows) ⌝ }
     ensures { λ x. ⌜ verdict (formulaOf shape n m (now (a .entry)) (now (b .entry)) (now (rows .entry))) ≡ (seenVerdict (x .verdict), x .adders) ⌝ }
 {
-    let adders = sums::adders_of(a) + sums::adders_of(b) + sums::adders_of(rows);
+    let adders = sides::side_adders(a) + sides::side_adders(b) + sums::adders_of(rows);
     Judgement {
         verdict: verdict_on(shape, n, m, a, b, rows),
         adders: adders,

@@ -9,8 +9,8 @@ use Rattle.kinds.specs.laws.Sizes.{sizes-bounds}
 use Rattle.formula_check.proofs.judge.Statement.{statement}
 use Rattle.formula_check.proofs.judge.Tie as tie
 
-adders-of-requires-3 : tie.Need-adders-of-requires-3
-adders-of-requires-3 c κs =
+adders-of-requires : tie.Need-adders-of-requires
+adders-of-requires c κs =
     let args = c .before .before .before .before .before .args in
     let pre = c .before .before .before .before .before .pre in
     sizes-bounds (args .shape) (args .n, args .m, length (args .rows .now)) (pre .sized) .most-outputs
@@ -18,9 +18,9 @@ adders-of-requires-3 c κs =
 returns : tie.Need-returns
 returns c =
     ap₂ (λ (v : Option ℕ) (w : ℕ). (v, w)) (c .verdict-on .ensures)
-    (omega (arith, c .before .before .before .adders-of .ensures .0, c .before .before .adders-of2 .ensures .0, c .before .adders-of3 .ensures .0))
+    (omega (arith, c .before .before .before .side-adders .ensures .0, c .before .before .side-adders2 .ensures .0, c .before .adders-of .ensures .0))
 
 pub judge-spec : {M : Type 1} → statement M
 judge-spec =
     tie.close
-    (tie.spec (λ c κs. search needs) (λ c κs. search needs) (λ c. search needs) adders-of-requires-3 (λ c. search needs) (λ c κs. search needs) returns)
+    (tie.spec (λ c κs. search needs) (λ c κs. search needs) (λ c. search needs) adders-of-requires (λ c. search needs) (λ c κs. search needs) returns)

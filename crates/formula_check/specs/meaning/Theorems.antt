@@ -1,6 +1,6 @@
 -- The theorem that a buyer would ask for: what an accepted reply of Check means. What is refused, and by which number, is the definition `check` itself.
 --   check-means   right is replied exactly if, for every a below 2 ^ n and every b below 2 ^ m, each output of the formula is the textbook output;
---                 wrong t exactly if t is the least output that differs for some a and b; the adders are those of document 01's rule
+--                 wrong t exactly if t is the least output that differs for some a and b; the adders are those of Wish 2's rule (`sums/Theorems`)
 --   verdict-means the same of the verdict on an admitted formula, whose kind is a map's and whose sizes fit
 --   check-right   right is said of an admitted formula exactly if it is right
 --   right-coefficients   a formula is right, at every input, exactly if each coefficient of each output is the map's

@@ -1,2 +1,3 @@
--- What the code's proofs cite.
+-- What the code's proofs and the theorems cite.
 pub mod Loops
+pub mod Sharing

@@ -35,7 +35,7 @@ use Rattle.rank.specs.Rank.{rankFor, rank}
 use Rattle.space_formulae.specs.spaces.Spaces as space
 use Rattle.space_formulae.specs.spaces.Spaces.{isEntry, formulaeFor, formulaeOf}
 use Rattle.formula_check.specs.Formula.{firstWrong, passed, admit, lengths, check}
-use Rattle.formula_check.specs.sums.Sums.{productForms, addersOf}
+use Rattle.formula_check.specs.sums.Sums.{productForms, addersOf, distinct}
 use Rattle.forms.specs.Row.{rowForm}
 
 pub data WorkedLine : Type 0 where
@@ -116,8 +116,8 @@ held-catalogues = (refl, refl, refl, refl, refl)
 
 -- Check's lines
 held-checks : LineHolds right × LineHolds wrongRow
-unfolding bit kindNumbered within polySizes wide zeroIn formOf productForm weight pairFor targetForm productForms rowForm firstWrong addersOf lengths
-    passed admit check
+unfolding bit kindNumbered within polySizes wide zeroIn formOf productForm weight pairFor targetForm productForms rowForm firstWrong anyOf distinct addersOf
+    lengths passed admit check
 held-checks = (refl, refl)
 
 -- Rank's lines

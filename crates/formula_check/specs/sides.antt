@@ -1,0 +1,3 @@
+-- The masks of one side.
+pub mod Sides
+pub mod laws

@@ -1,0 +1,2 @@
+-- What the code's proofs cite.
+pub mod Sides
