@@ -1,5 +1,6 @@
 // Check on numbers: a formula is admitted (refusals 2, 3 and 5 to 8), then judged: its verdict and its adders.
 // sums       the parts of a formula: the forms of its products, the sum that a row names, adders
+// sides      the adders of one side's masks, equal ones counted once
 // verdicts   what Check finds: right, or the first wrong output
 // meaning    (specs) what the reply means, for every choice of input bits
 // Reading a formula's file: `formula_files`. The reply as text: `check_text`.

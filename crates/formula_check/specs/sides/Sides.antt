@@ -1,7 +1,8 @@
 -- The masks of one side in a table by value (`words`), so that a mask is found among those after it at once.
 --   maskSlots            == the slots of the table: a prime, so that masks are spread, and above 256, so that masks of eight bits never meet
 --   maskSlot slots xs x  == the slot of the mask x, looked for from its remainder on; `maskSlots` where there is none
---   Entered xs i slots   == of the masks from i on each that has two ones or more is in its slot, if it has one, and nothing else is in any
+--   InTable slots xs x   == the mask x, if it has two ones or more and a slot, is in it
+--   Entered xs i slots   == each mask from i on is in the table, and nothing else is
 --   Entering xs i slots  == what `mask_adders` asks: mask i is there, and those after it are entered
 --   MaskAdded ..         == what it gives: what mask i adds to the adders of those after it, and the table with it
 --   Counting xs i slots s == the loop of `side_adders`: s is the adders of the masks from i on, which are entered
@@ -22,11 +23,13 @@ maskSlots = 269
 unfoldable pub maskSlot : (slots xs : List ℕ) → ℕ → ℕ
 maskSlot slots xs x = slotFrom maskSlots tries (x % maskSlots) slots xs x
 
+abbrev pub InTable : (slots xs : List ℕ) → ℕ → Type 0
+InTable slots xs x = 2 ≤ weight 64 x → maskSlot slots xs x < maskSlots → getD slots (maskSlot slots xs x) 0 ≢ 0
+
 pub record Entered (xs : List ℕ) (i : ℕ) (slots : List ℕ) : Type 0 where
   pub whole : length slots ≡ maskSlots
   pub numbers : (q f : ℕ) → getD slots q 0 ≡ suc f → (i ≤ f) × (f < length xs)
-  pub each : (j : ℕ) → i ≤ j → j < length xs → 2 ≤ weight 64 (getD xs j 0) → maskSlot slots xs (getD xs j 0) < maskSlots
-      → getD slots (maskSlot slots xs (getD xs j 0)) 0 ≢ 0
+  pub each : (j : ℕ) → i ≤ j → j < length xs → InTable slots xs (getD xs j 0)
 
 pub record Entering (xs : List ℕ) (i : ℕ) (slots : List ℕ) : Type 0 where
   pub there : i < length xs

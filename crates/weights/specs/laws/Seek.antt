@@ -7,23 +7,20 @@
 --   weight-none, weight-free, weight-number                   the weight by the slot
 --   read-none, read-free, read-number                         the same as `weight_of` gives it
 -- Assumes nothing.
-use mathlib.Core.Path.{_≡_, refl, sym, ap, _∙_, subst}
+use mathlib.Core.Path.{_≡_, sym, ap, _∙_, subst}
 use mathlib.Core.Logic.{_≢_}
-use mathlib.Core.Bool.{Bool, false, cond}
+use mathlib.Core.Bool.{Bool, cond}
 use mathlib.Core.List.{List}
-use Prim.Native.Nat.{ℕ, zero, suc, _-_, _<_, _≤_}
+use Prim.Native.Nat.{ℕ, suc, _-_, _<_, _≤_}
 use native.Mathlib.Omega.{arith}
 use lib.ListN.{length, getD, set}
 use borrow.Author.Tests.{eq-eqb, ne-eqb}
 use Rattle.linear.specs.Word.{isZero}
 use Rattle.weights.specs.slots.Bucket.{bucketOf, slotCount}
+use Rattle.residues.specs.children.laws.Known.{isZero-of}
 use Rattle.words.specs.tables.Table.{slotFrom, tries}
 use Rattle.words.specs.tables.laws.Seek as table
 use Rattle.weights.specs.Table.{slotOf, weightAt, weightOf}
-
-zero-of : (x : ℕ) → x ≢ 0 → isZero x ≡ false
-zero-of zero n = absurd (n refl)
-zero-of (suc x) n = refl
 
 bucket-below : (v : ℕ) → bucketOf v < slotCount
 unfolding bucketOf
@@ -70,7 +67,7 @@ module _ (slots d w : List ℕ) (v q : ℕ) (e : slotOf slots d v ≡ q) where
   weight-free n z = slot-of n ∙ ap (λ (b : Bool). cond b 0 (getD w (getD slots q 0 - 1) 0)) (ap isZero z)
 
   pub weight-number : q ≢ slotCount → getD slots q 0 ≢ 0 → weightOf slots d w v ≡ getD w (getD slots q 0 - 1) 0
-  weight-number n z = slot-of n ∙ ap (λ (b : Bool). cond b 0 (getD w (getD slots q 0 - 1) 0)) (zero-of (getD slots q 0) z)
+  weight-number n z = slot-of n ∙ ap (λ (b : Bool). cond b 0 (getD w (getD slots q 0 - 1) 0)) (isZero-of (getD slots q 0) z)
 
 -- what `weight_of` gives, by what it finds
 module _ (slots d w : List ℕ) (v q : ℕ) (e : q ≡ slotOf slots d v) (few : (n : ℕ) → getD w n 0 ≤ 255) where

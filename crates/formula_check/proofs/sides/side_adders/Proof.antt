@@ -17,15 +17,23 @@ loop-holds : tie.Need-loop-holds Inv-loop μ-loop
 loop-holds c = counting-start _ _ refl
 
 mask-adders-requires : tie.Need-mask-adders-requires Inv-loop μ-loop
-mask-adders-requires c κs = let l = c .before .before .loop in counting-entering _ (l .i) (l .slots) (l .sum) (l .inv) (c .before .loop-test .taken) (c .before .before .before .before .pre)
+mask-adders-requires c κs =
+    let l = c .before .before .loop in
+    let few = c .before .before .before .before .pre in
+    counting-entering _ (l .i) (l .slots) (l .sum) (l .inv) (c .before .loop-test .taken) few
 
 add-sum : tie.Need-add-sum Inv-loop μ-loop
-add-sum c = let l = c .before .before .before .before .loop in let p = c .before .before .before .before .before .before .pre in let m = l .inv .most in let a = c .before .mask-adders .ensures .most in omega arith
+add-sum c =
+    let few = c .before .before .before .before .before .before .pre in
+    let m = c .before .before .before .before .loop .inv .most in
+    let a = c .before .mask-adders .ensures .most in
+    omega arith
 
 loop-again : tie.Need-loop-again Inv-loop μ-loop
 loop-again c =
     let l = c .before .before .before .before .loop in
-    counting-next _ (l .i) (l .slots) (l .sum) (l .inv) (c .before .before .before .loop-test .taken) _ (c .before .mask-adders .result) (c .before .mask-adders .ensures)
+    let r = c .before .mask-adders in
+    counting-next _ (l .i) (l .slots) (l .sum) (l .inv) (c .before .before .before .loop-test .taken) _ (r .result) (r .ensures)
 
 returns : tie.Need-returns Inv-loop μ-loop
 returns c = let l = c .before .loop in counting-end _ (l .i) (l .slots) (l .sum) (l .inv) (c .loop-test .left) (c .before .before .before .pre)

@@ -24,7 +24,7 @@ use Rattle.forms.specs.Weight.{weight}
 use Rattle.formula_check.specs.sums.Sums.{sideAdders}
 use Rattle.formula_check.specs.sums.laws.Loops.{weight-most}
 use Rattle.formula_check.specs.sums.laws.Sharing.{sides-known, sides-new, sides-light, sides-end}
-use Rattle.formula_check.specs.sides.Sides.{maskSlots, maskSlot, Entered, Entering, MaskAdded, Counting}
+use Rattle.formula_check.specs.sides.Sides.{maskSlots, maskSlot, InTable, Entered, Entering, MaskAdded, Counting}
 
 pub numbered : (xs : List ℕ) (i : ℕ) (slots : List ℕ) → Entered xs i slots → Numbered slots xs
 numbered xs i slots E q = at (getD slots q 0) refl
@@ -66,14 +66,12 @@ module _ (xs : List ℕ) (i : ℕ) (slots : List ℕ) (G : Entering xs i slots) 
   stands = anyOf (eqb x) (drop (i + 1) xs)
 
   -- the table as it is has mask i too
-  lower : (2 ≤ weight 64 x → slot < maskSlots → getD slots slot 0 ≢ 0) → Entered xs i slots
+  lower : InTable slots xs x → Entered xs i slots
   lower h =
       record {
         whole = G .after .whole;
         numbers = λ q f e. let n = G .after .numbers q f e in (omega arith, n .1);
-        each = λ j a b. either i j
-            (λ e. subst (λ (k : ℕ). 2 ≤ weight 64 (getD xs k 0) → maskSlot slots xs (getD xs k 0) < maskSlots → getD slots (maskSlot slots xs (getD xs k 0)) 0 ≢ 0)
-            (sym e) h)
+        each = λ j a b. either i j (λ e. subst (λ (k : ℕ). InTable slots xs (getD xs k 0)) (sym e) h)
             (λ n. G .after .each j (omega arith) b);
       }
 
@@ -127,8 +125,7 @@ module _ (xs : List ℕ) (i : ℕ) (slots : List ℕ) (G : Entering xs i slots) 
         ap (λ (k : ℕ). getD slots′ k 0) (own slots slot (i + 1) z xs x within l (ap (λ (k : ℕ). getD xs k 0) (let e : i + 1 - 1 ≡ i = omega arith in e)) refl)
         ∙ getD-set-same slots slot (i + 1) 0 within
 
-    others : (j : ℕ) → i + 1 ≤ j → j < length xs → 2 ≤ weight 64 (getD xs j 0) → maskSlot slots′ xs (getD xs j 0) < maskSlots
-        → getD slots′ (maskSlot slots′ xs (getD xs j 0)) 0 ≢ 0
+    others : (j : ℕ) → i + 1 ≤ j → j < length xs → InTable slots′ xs (getD xs j 0)
     others j a b w k =
         let used = G .after .each j a b w in
         let stays = kept slots slot (i + 1) z xs (getD xs j 0) used in
@@ -148,9 +145,7 @@ module _ (xs : List ℕ) (i : ℕ) (slots : List ℕ) (G : Entering xs i slots) 
         (record {
           whole = length-set slots slot (i + 1) ∙ G .after .whole;
           numbers = numbers′;
-          each = λ j a b. either i j
-              (λ e. subst (λ (k : ℕ). 2 ≤ weight 64 (getD xs k 0) → maskSlot slots′ xs (getD xs k 0) < maskSlots
-              → getD slots′ (maskSlot slots′ xs (getD xs k 0)) 0 ≢ 0) (sym e) (λ g m y. let o = mine in omega arith))
+          each = λ j a b. either i j (λ e. subst (λ (k : ℕ). InTable slots′ xs (getD xs k 0)) (sym e) (λ g m y. let o = mine in omega arith))
               (λ n. others j (omega arith) b);
         })
 

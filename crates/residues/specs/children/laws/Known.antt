@@ -1,5 +1,6 @@
 -- What a known number is.
 --   known-zero, known-found, known-none   by what stands in the residues
+--   isZero-of                             a number that is not 0
 --   known-ne                              the residue of a number that is not known is not 0
 --   known-yes, known-no                   at a space with these residues: a known number brings in nothing, or what an earlier one does; any other is next
 -- Assumes nothing.
@@ -27,7 +28,7 @@ use Rattle.linear.specs.laws.Order.{mem-index, mem-getD}
 use Rattle.residues.specs.children.Residues.{residues, known}
 use Rattle.residues.specs.children.laws.Child.{residue-at, reduce-child, clear-zero, zero-yes}
 
-isZero-of : (x : ℕ) → x ≢ 0 → isZero x ≡ false
+pub isZero-of : (x : ℕ) → x ≢ 0 → isZero x ≡ false
 isZero-of zero n = absurd (n refl)
 isZero-of (suc x) n = refl
 

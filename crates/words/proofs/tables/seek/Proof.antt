@@ -39,8 +39,10 @@ loop-again : tie.Need-loop-again Inv-loop μ-loop
 loop-again c =
     let l = c .before .before .before .before .before .before .loop in
     let a = c .before .before .before .before .before .before .before .before .before .args in
-    seek-more (a .slots .now) (a .d .now) (a .from) (a .x) (l .q) (l .t) (l .inv) (c .before .before .before .before .before .loop-test .taken) (c .before .before .before .if1 .left) (c .before .if2 .left) (c .after .result)
-    (c .after .ensures)
+    let more = c .before .before .before .before .before .loop-test .taken in
+    let used = c .before .before .before .if1 .left in
+    let other = c .before .if2 .left in
+    seek-more (a .slots .now) (a .d .now) (a .from) (a .x) (l .q) (l .t) (l .inv) more used other (c .after .result) (c .after .ensures)
 
 returns-3 : tie.Need-returns-3 Inv-loop μ-loop
 returns-3 c =

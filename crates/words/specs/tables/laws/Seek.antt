@@ -158,4 +158,5 @@ module _ (slots d : List ℕ) (from x : ℕ) where
   pub seek-none : (q t : ℕ) → Seeking q t → t ≤ 0
       → (length slots ≡ slotFrom (length slots) tries from slots d x) × (length slots ≤ length slots)
   seek-none q t S l =
-      (sym (step-out (length slots) slots d x q) ∙ ap (λ (k : ℕ). slotFrom (length slots) k q slots d x) (let e : 0 ≡ t = omega arith in e) ∙ S .same, omega arith)
+      let e : 0 ≡ t = omega arith in
+      (sym (step-out (length slots) slots d x q) ∙ ap (λ (k : ℕ). slotFrom (length slots) k q slots d x) e ∙ S .same, omega arith)
