@@ -1,7 +1,7 @@
 // Reduced bases of forms: the struct `Basis`, by value, with reduction, membership, insertion of a row, and the basis of some forms.
 // insertion   a new row among the rows of a reduced basis
 // spans       tests on spans: is a target missed, is a generator wanted, does a generator complete a space, are there rows enough
-// rows        which products sum to a form: the rows of a formula
+// rows        the products of a formula reduced once, and by them which sum to a form: the rows of the formula
 // The theory (one reduced basis for each space) is in `linear`.
 ghost use mathlib.Core.Path.{_≡_};
 ghost use mathlib.Core.List.{[]};

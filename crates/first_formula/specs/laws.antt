@@ -1,3 +1,4 @@
 -- The laws behind the first formula.
 pub mod Choosing
+pub mod Marking
 pub mod Writing

@@ -1,14 +1,16 @@
-// Chosen generators: the first formula of a space, its rows, and its record in a buffer. All formulae of a space: `space_formulae`.
+// Chosen generators: of those marked a part that is independent, the first formula of a space, its rows, and its record in a buffer.
+// All formulae of a space: `space_formulae`.
 ghost use mathlib.Core.Path.{_≡_};
 ghost use mathlib.Core.List.{[], map};
 ghost use Prim.Native.Nat.{_+_, _<_, _≤_};
 ghost use lib.ListN.{length};
 ghost use lib.Seq.{paste};
 ghost use Rattle.linear.specs.Word.{word};
+ghost use Rattle.linear.specs.Greedy.{greedy};
 ghost use Rattle.linear.specs.Extension.{extension};
 ghost use Rattle.bases.specs.rows.Rows.{rowOf};
-ghost use Rattle.first_formula.specs.Choice.{Whole, Chose, recordOf, Added};
-ghost use Rattle.kinds.specs.Limits.{mostProducts};
+ghost use Rattle.first_formula.specs.Choice.{Whole, Chose, Solves, formsOf, recordOf, Added, marked, MarkedInside};
+ghost use Rattle.kinds.specs.Limits.{mostProducts, mostGenerators};
 use bases::Basis;
 
 // Some generators: their numbers, ascending, their forms, and how many they are.
@@ -35,10 +37,11 @@ pub fn add(c: Choice, j: usize, g: u64) -> Choice
     }
 }
 
-// The first formula of the space with the rows `w`: of the generators in order each that is inside and not yet spanned.
-pub fn first_formula(gens: &[u64], w: &[u64]) -> Choice
-    requires { ⌜ length (extension word (now gens) [] (now w)) ≤ mostProducts ⌝ }
-    ensures { λ r. ⌜ Chose (now (gens .entry)) (extension word (now (gens .entry)) [] (now (w .entry))) r ⌝ }
+// Of the marked generators in order each that is not in the span of those taken before it.
+pub fn choose(gens: &[u64], marks: &[u8]) -> Choice
+    requires { ⌜ length (now gens) ≤ length (now marks) ⌝ }
+    ensures { λ r. ⌜ Chose (now (gens .entry))
+        (greedy word (now (gens .entry)) (marked (now (marks .entry))) [] (length (now (gens .entry))) 0) r ⌝ }
 {
     let n = gens.len();
     let mut b = Basis::empty();
@@ -50,33 +53,66 @@ pub fn first_formula(gens: &[u64], w: &[u64]) -> Choice
     let mut i = 0;
     while i < n {
         let g = gens[i];
-        if bases::spans::is_wanted(w, b, g) {
-            c = add(c, i, g);
-            b = b.insert(g);
+        if marks[i] != 1 {
+            i += 1;
+        } else if b.contains(g) {
             i += 1;
         } else {
+            b = b.insert(g);
+            c = add(c, i, g);
             i += 1;
         }
     }
     c
 }
 
-// A row for every target, from place `at` on.
+// A mark for every generator: 1 if it is inside the space with the rows `w`, else 0.
+fn mark_inside(gens: &[u64], w: &[u64], marks: &mut [u8])
+    requires { ⌜ length (now gens) ≤ length (now marks) ⌝ }
+    ensures { λ _. ⌜ MarkedInside (now (gens .entry)) (now (w .entry)) (now (marks .exit)) ⌝ }
+{
+    let mut i = 0;
+    while i < gens.len() {
+        if forms::reduce_rows(w, gens[i]) == 0 {
+            marks[i] = 1;
+            i += 1;
+        } else {
+            marks[i] = 0;
+            i += 1;
+        }
+    }
+}
+
+// The first formula of the space with the rows `w`: of the generators in order each that is inside and not yet spanned.
+pub fn first_formula(gens: &[u64], w: &[u64]) -> Choice
+    requires { ⌜ length (now gens) ≤ mostGenerators ⌝ }
+    ensures { λ r. ⌜ Chose (now (gens .entry)) (extension word (now (gens .entry)) [] (now (w .entry))) r ⌝ }
+{
+    let mut marks = [0u8; kinds::GENERATORS];
+    mark_inside(gens, w, &mut marks);
+    choose(gens, &marks)
+}
+
+// A row for every target, from place `at` on. The products are reduced once.
 fn put_rows(products: &[u64], targets: &[u64], out: &mut [u64], at: usize)
-    requires { ⌜ (length (now products) ≤ mostProducts) × (at + length (now targets) ≤ length (now out)) ⌝ }
+    requires { ⌜ (length (now products) ≤ mostProducts) × (at + length (now targets) ≤ length (now out)) × Solves (now products) (now targets) ⌝ }
     ensures { λ _. ⌜ now (out .exit) ≡ paste (now (out .entry)) at (map (rowOf (now (products .entry))) (now (targets .entry)))
         (length (now (targets .entry))) ⌝ }
 {
+    let n = products.len();
+    let e = bases::rows::echelon_of(products);
+    let rows = e.rows;
+    let masks = e.masks;
     let mut i = 0;
     while i < targets.len() {
-        out[at + i] = bases::rows::row_of(products, targets[i]);
+        out[at + i] = bases::rows::rest_of(&rows[..n], &masks[..n], targets[i]).mask;
         i += 1;
     }
 }
 
 // The formula's record, from place `at` on: the numbers of its products, then a row for every target.
 pub fn write_formula(c: Choice, targets: &[u64], out: &mut [u64], at: usize)
-    requires { ⌜ (Whole c) × (at + (c .len + length (now targets)) ≤ length (now out)) ⌝ }
+    requires { ⌜ (Whole c) × (at + (c .len + length (now targets)) ≤ length (now out)) × Solves (formsOf c) (now targets) ⌝ }
     ensures { λ _. ⌜ now (out .exit) ≡ paste (now (out .entry)) at (recordOf c (now (targets .entry))) (c .len + length (now (targets .entry))) ⌝ }
 {
     let n = c.len;

@@ -5,6 +5,7 @@ use mathlib.Core.Path.{_≡_, refl}
 use mathlib.Core.List.{[], _∷_, _++_}
 use Rattle.linear.specs.Bit.{bit, digitsOf, top}
 use Rattle.linear.specs.Basis.{clear, reduce, norm, place, insert, inserts, basisOf, dim}
+use Rattle.linear.specs.Coefficients.{coefficient, coefficients}
 use Rattle.linear.specs.Order.{risingLists}
 use Rattle.linear.specs.Select.{anyOf, only, firstOfEach}
 use Rattle.linear.specs.Formulae.{formulae}
@@ -15,7 +16,7 @@ use Rattle.words.specs.Masks.{wide, zeroIn}
 use Rattle.words.specs.lists.Lists.{repeats}
 use Rattle.problems.specs.Problem.{listed, shaped, posed}
 use Rattle.catalogue.specs.listing.Listing.{records, flat, fitting}
-use Rattle.bases.specs.rows.Rows.{rowOf}
+use Rattle.bases.specs.rows.Rows.{maskOf, rowOf}
 use Rattle.first_formula.specs.Choice.{formulaRecord}
 use Rattle.records.specs.lookup.Lookup.{lookup}
 use Rattle.catalogue.specs.Catalogue.{entryListing, catalogueOf, catalogue}
@@ -50,9 +51,9 @@ pub worked-formulae : formulaeProgram ((107 ∷ 105 ∷ 110 ∷ 100 ∷ 44 ∷ 1
     ++ (48 ∷ 44 ∷ 49 ∷ 44 ∷ 48 ∷ 32 ∷ 50 ∷ 44 ∷ 50 ∷ 10 ∷ [])
     ++ (48 ∷ 44 ∷ 50 ∷ 44 ∷ 49 ∷ 32 ∷ 50 ∷ 44 ∷ 50 ∷ 10 ∷ [])
 unfolding bit digitsOf top clear reduce norm place insert inserts basisOf dim risingLists anyOf only firstOfEach sameVec sameBasis inside generator
-    chosen generatorsIn fits space entries formulae rowOf formulaRecord kindNumbered within listSizes wide zeroIn repeats listed shaped posed records flat
-    fitting entryListing catalogueOf catalogue numeralText sizesText spacedText innerText listsText entryText recordLines countsText formulaText cut
-    field nameLine digits numeral countFields headLine headLines ended roleLine roleLines listBody listLines settled posedLines posedFile
-    isEntry spaces.formulaeListing formulaeFor formulaeOf formulaeText entryFormulae posedInput inputFile listedIn lookup formulaeHead entriesPart
-    formulaeProgram
+    chosen generatorsIn fits space entries formulae coefficient coefficients maskOf rowOf formulaRecord kindNumbered within listSizes wide zeroIn
+    repeats listed shaped posed records flat fitting entryListing catalogueOf catalogue numeralText sizesText spacedText innerText listsText entryText
+    recordLines countsText formulaText cut field nameLine digits numeral countFields headLine headLines ended roleLine roleLines listBody listLines
+    settled posedLines posedFile isEntry spaces.formulaeListing formulaeFor formulaeOf formulaeText entryFormulae posedInput inputFile listedIn lookup
+    formulaeHead entriesPart formulaeProgram
 worked-formulae = refl

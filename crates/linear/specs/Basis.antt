@@ -7,9 +7,11 @@
 --   basisOf xs   == the reduced basis of the span of xs
 --   dim xs       == the dimension of the span of xs (of the targets: document 01's ℓ)
 --   Reduced B    == the rows of B are reduced
+--   Echelon B    == each row of B is 0, or has 1 at its lead and every later row 0 there
 -- Document 01: "the k rows of its reduced basis: leading bits descending, the leading bit of a row set in no other row."
--- Laws: laws/Reduce, laws/Insert, laws/Dimension. Assumes nothing.
+-- Laws: laws/Reduce, laws/Echelon, laws/Insert, laws/Dimension. Assumes nothing.
 use mathlib.Core.Path.{_≡_}
+use mathlib.Core.Logic.{_⊎_}
 use mathlib.Core.Bool.{cond}
 use mathlib.Core.List.{List, [], _∷_, List·Memᴰ}
 use Prim.Native.Nat.{ℕ, _<_}
@@ -18,7 +20,7 @@ use lib.Dec.{ltb}
 use Rattle.linear.specs.Space.{Field, Space}
 
 module _ (S : Space) where
-  open Space S using (fld, Vec, add, scale, coord, lead, isNul)
+  open Space S using (fld, Vec, nul, add, scale, coord, lead, isNul)
   open Field fld using (𝟘, 𝟙, neg, inv)
 
   unfoldable pub clear : Vec → Vec → Vec
@@ -57,3 +59,8 @@ module _ (S : Space) where
   abbrev pub Reduced : List Vec → Type 0
   Reduced [] = Unit {0}
   Reduced (b ∷ B) = (coord b (lead b) ≡ 𝟙) × ((x : Vec) → List·Memᴰ x B → lead x < lead b) × Zeroed b B × Reduced B
+
+  -- What reduction asks of rows: leads of their own, in any order, and rows that are 0 between them.
+  abbrev pub Echelon : List Vec → Type 0
+  Echelon [] = Unit {0}
+  Echelon (b ∷ B) = ((b ≡ nul) ⊎ ((coord b (lead b) ≡ 𝟙) × ((x : Vec) → List·Memᴰ x B → coord x (lead b) ≡ 𝟘))) × Echelon B

@@ -2,10 +2,13 @@
 pub mod Space
 pub mod Span
 pub mod Basis
+pub mod Coefficients
 pub mod Order
 pub mod Select
 pub mod Entry
+pub mod Greedy
 pub mod Extension
+pub mod Part
 pub mod Walk
 pub mod Share
 pub mod Heavy

@@ -4,6 +4,8 @@
 --   entry-solves, solution-listed, spaces-once, space-once, entry-space, entries-in-order, extension-shape, extension-first, extension-greedy, entries-few
 --                                                            the catalogue: none missing, none twice
 --   no-fewer, computed-exactly, least-is-rank                what the catalogue says of the fewest products
+--   one-combination, part-shape, part-spanning, part-dictionary-first, part-any-order
+--                                                            the one sum over independent vectors; the part of a selection that may be used for it
 --   formulae-exactly                                         the formulae of a space
 --   rank-formula, rank-exactly, rank-above, rank-beyond      what Rank says: never one product too many, and when it says no number
 -- Assumes nothing.
@@ -14,11 +16,13 @@ use Prim.Native.Nat.{ℕ, suc, _+_, _-_, _*_, _^_, _<_, _≤_}
 use native.Mathlib.Omega.{arith}
 use lib.ListN.{length}
 use Rattle.linear.specs.Space.{Space}
-use Rattle.linear.specs.Span.{Span, SameSpan, Independent}
+use Rattle.linear.specs.Span.{combination, Span, SameSpan, Independent}
 use Rattle.linear.specs.Basis.{reduce, insert, basisOf, Reduced, dim}
 use Rattle.linear.specs.Order.{Before, Rising, risingLists, Ordered, factorial}
 use Rattle.linear.specs.Select.{Once}
-use Rattle.linear.specs.Entry.{Solution, SolutionSpace, space, entries}
+use Rattle.linear.specs.Coefficients.{coefficients}
+use Rattle.linear.specs.Part.{part}
+use Rattle.linear.specs.Entry.{chosen, Solution, SolutionSpace, space, entries}
 use Rattle.linear.specs.Rank.{Chosen, Computes, Rank}
 use Rattle.linear.specs.Formulae.{formula, above, beyond, formulae, fewest, Formula, RankFormula}
 use Rattle.linear.specs.laws.Reduce.{member}
@@ -30,6 +34,8 @@ use Rattle.linear.specs.laws.Count.{rising-count, entries-count}
 use Rattle.linear.specs.laws.Entry.{entries-sound, entries-shape, entries-once, entries-ordered}
 use Rattle.linear.specs.Extension.{extension}
 use Rattle.linear.specs.laws.Extension.{entries-complete, entries-first, entries-greedy}
+use Rattle.linear.specs.laws.Coefficients.{coefficients-sum, coefficients-only}
+use Rattle.linear.specs.laws.Part.{part-rising, part-selected, part-independent, part-spans, part-first, part-members}
 use Rattle.linear.specs.laws.Spaces.{space-of-solution, space-listed}
 use Rattle.linear.specs.laws.Rank.{solution-from, chosen-from, no-entry, rank-is}
 use Rattle.linear.specs.laws.Formulae.{formulae-are}
@@ -82,6 +88,35 @@ rising-in-order n m = rising-ordered n 0 m
 
 pub rising-number : (n m : ℕ) → factorial m * length (risingLists n 0 m) ≤ n ^ m
 rising-number n m = rising-count n 0 m
+
+-- ---- sums of selected generators
+module _ (S : Space) (gens : List (S .Vec)) where
+  open Space S using (fld, Vec)
+
+  -- A combination of independent vectors has one list of coefficients.
+  pub one-combination : (xs : List Vec) (v : Vec) → Independent S xs → Span S xs v
+      → (combination S (coefficients S xs v) xs ≡ v)
+      × ((cs : List (fld .K)) → length cs ≡ length xs → combination S cs xs ≡ v → cs ≡ coefficients S xs v)
+  one-combination xs v i s = (coefficients-sum S xs v s, λ cs l e. coefficients-only S xs v i cs l e)
+
+  -- The part of a selection is of its numbers, ascending, and independent;
+  pub part-shape : (sel : List ℕ)
+      → Rising 0 (length gens) (part S gens sel) × ((e : ℕ) → List·Memᴰ e (part S gens sel) → List·Memᴰ e sel) × Independent S (chosen S gens (part S gens sel))
+  part-shape sel = (part-rising S gens sel, part-selected S gens sel, part-independent S gens sel)
+
+  -- it spans what the selection spans,
+  pub part-spanning : (sel : List ℕ) → ((e : ℕ) → List·Memᴰ e sel → e < length gens) → SameSpan S (chosen S gens (part S gens sel)) (chosen S gens sel)
+  part-spanning = part-spans S gens
+
+  -- no other such part stands before it in a dictionary,
+  pub part-dictionary-first : (sel fs : List ℕ) → ((e : ℕ) → List·Memᴰ e sel → e < length gens) → Rising 0 (length gens) fs
+      → ((e : ℕ) → List·Memᴰ e fs → List·Memᴰ e sel) → Independent S (chosen S gens fs) → SameSpan S (chosen S gens fs) (chosen S gens sel)
+      → (part S gens sel ≡ fs) ⊎ Before (part S gens sel) fs
+  part-dictionary-first = part-first S gens
+
+  -- and the order of the selected numbers plays no part.
+  pub part-any-order : (sel sel′ : List ℕ) → ((e : ℕ) → List·Memᴰ e sel ↔ List·Memᴰ e sel′) → part S gens sel ≡ part S gens sel′
+  part-any-order = part-members S gens
 
 module _ (S : Space) (gens targets : List (S .Vec)) where
   open Space S using (Vec)

@@ -20,7 +20,6 @@ use Rattle.kinds.specs.laws.Numbers.{refuse-numbered, follow-numbered, seen-num
 use Rattle.problems.specs.Problem.{Problem, posed}
 use Rattle.problems.specs.laws.Numbered.{posed-numbered}
 use Rattle.words.specs.lists.Lists.{repeats}
-use Rattle.words.specs.lists.laws.Standing.{stood}
 use Rattle.linear.specs.Span.{Span}
 use Rattle.linear.specs.Basis.{basisOf}
 use Rattle.linear.specs.Select.{anyOf}
@@ -29,7 +28,7 @@ use Rattle.linear.specs.Rank.{Computes}
 use Rattle.linear.specs.Word.{word}
 use Rattle.linear.specs.laws.Insert.{basisOf-reduced, basisOf-span}
 use Rattle.linear.specs.laws.Entry.{inside-yes, yes-inside}
-use Rattle.linear.specs.laws.Select.{anyOf-no, no-anyOf}
+use Rattle.linear.specs.laws.Select.{anyOf-no, no-anyOf, stood}
 use Rattle.selections.specs.on_forms.Selected.{misfit, without, missedBy, sumAnswer, redundantAnswer, seenSaid, saidNumbers}
 use Rattle.selections.specs.on_forms.laws.Numbers.{said-differ}
 use Rattle.selections.specs.on_forms.laws.Spanning.{misfit-below}

@@ -1,7 +1,8 @@
 -- The loop over the numbers of a node.
 -- Going == the records so far are written, and those to come, written, give the final state.
--- going-leaf: no number is missing. going-skip, going-down: one number more, passed or taken. going-full, going-stop, going-end: the limit is reached; the
--- space can't be completed; all numbers are done. node-down: what the child's node is.
+-- node-leaf, going-leaf: no number is missing; what is asked to keep the formula is met, and its record is the only one. going-skip, going-down: one number
+-- more, passed or taken. going-full, going-stop, going-end: the limit is reached; the space can't be completed; all numbers are done. node-down: what the
+-- child's node is.
 -- Assumes nothing.
 use mathlib.Core.Path.{_≡_, refl, sym, ap, ap₂, _∙_, subst}
 use mathlib.Core.Logic.{_≢_}
@@ -10,28 +11,50 @@ use mathlib.Core.List.{List, [], _∷_, _++_}
 use Prim.Native.Nat.{ℕ, _+_, _-_, _<_, _≤_}
 use native.Mathlib.Omega.{arith}
 use lib.ListN.{length, getD, length-append}
-use Rattle.linear.specs.Basis.{Reduced, insert}
+use Rattle.linear.specs.Basis.{Reduced, insert, inserts, basisOf, dim}
 use Rattle.linear.specs.Entry.{inside, generator, chosen}
+use Rattle.linear.specs.Span.{Span}
 use Rattle.linear.specs.Spread.{completes, Inner}
 use Rattle.linear.specs.Word.{word}
-use Rattle.linear.specs.laws.Extension.{chosen-append}
-use Rattle.linear.specs.laws.Spread.{inner-down, spread-leaf, spread-none, spread-end, spread-skip, spread-down}
+use Rattle.linear.specs.laws.Extension.{chosen-append, inserts-append}
+use Rattle.linear.specs.laws.Independent.{independent-dim}
+use Rattle.linear.specs.laws.Insert.{basisOf-span}
+use Rattle.linear.specs.laws.Spread.{inner-down, full-is, spread-leaf, spread-none, spread-end, spread-skip, spread-down}
 use Rattle.bases.specs.Basis.{rowsOf, Valid, Holds}
 use Rattle.bases.specs.declared.Basis.{Basis}
 use Rattle.first_formula.specs.declared.Choice.{Choice}
-use Rattle.first_formula.specs.Choice.{numbersOf, recordOf, formulaRecord, chose-record, Added}
-use Rattle.first_formula.specs.laws.Writing.{numbers-length}
+use Rattle.first_formula.specs.Choice.{numbersOf, formsOf, recordOf, formulaRecord, chose-record, Added}
+use Rattle.first_formula.specs.laws.Writing.{numbers-length, forms-length}
 use Rattle.records.specs.declared.Tally.{Tally}
 use Rattle.records.specs.Records.{State, note, run}
 use Rattle.records.specs.Keep.{stateOf}
 use Rattle.records.specs.laws.Ahead.{Ahead, ahead-as, ahead-past, ahead-full, ahead-none}
 use Rattle.space_formulae.specs.enumeration.Spread.{formulaeFrom, Branch}
+use Rattle.space_formulae.specs.formula_records.Keep.{FormulaKeeping}
 
 abbrev pub Going : (gens w targets C p : List ℕ) (missing limit : ℕ) (final : State) (size j : ℕ) (t : Tally) (out : List ℕ) → Type 0
 Going gens w targets C p missing limit final size j t out = Ahead limit final size (formulaeFrom gens w targets C p (length gens - j) j missing) (stateOf t out)
 
--- no number is missing
-pub going-leaf : (gens w targets : List ℕ) (start missing : ℕ) (b : Basis) (c : Choice) (t : Tally) (limit : ℕ) (out : List ℕ) → Branch gens w missing b c t limit out → missing ≡ 0 → (end : State)
+-- no number is missing: the forms have the basis w, and are as many as its rows
+pub node-leaf : (gens w targets : List ℕ) (missing : ℕ) (b : Basis) (c : Choice) (t : Tally) (limit : ℕ) (out : List ℕ)
+    → Branch gens w targets missing b c t limit out → missing ≡ 0 → FormulaKeeping c targets t limit out
+unfolding dim
+node-leaf gens w targets missing b c t limit out N z =
+    record {
+      whole = N .chose .whole;
+      solves =
+          record {
+            independent = independent-dim word (formsOf c) (omega (arith, ap length full, N .number, z, forms-length c (N .chose .whole)));
+            computes = (λ u m. basisOf-span word (formsOf c) u .0 (subst (λ (C : List ℕ). Span word C u) (sym full) (N .computes u m)));
+          };
+      sane = N .sane;
+    }
+  where
+    full : basisOf word (formsOf c) ≡ w
+    full = N .basis ∙ full-is word gens w (N .space) (rowsOf b) (subst (Inner word w (rowsOf b)) z (N .inner))
+
+pub going-leaf : (gens w targets : List ℕ) (start missing : ℕ) (b : Basis) (c : Choice) (t : Tally) (limit : ℕ) (out : List ℕ)
+    → Branch gens w targets missing b c t limit out → missing ≡ 0 → (end : State)
     → end ≡ note limit (stateOf t out) (recordOf c targets) → end ≡ run limit (stateOf t out) (formulaeFrom gens w targets (rowsOf b) (numbersOf c) (length gens - start) start missing)
 unfolding run
 going-leaf gens w targets start missing b c t limit out N z end e =
@@ -39,7 +62,8 @@ going-leaf gens w targets start missing b c t limit out N z end e =
     ∙ ap (run limit (stateOf t out)) (sym (spread-leaf word gens w (N .space) (formulaRecord gens targets) (rowsOf b) (numbersOf c) (length gens - start) start missing z (N .inner)))
 
 -- at a node: what it asks, as plain facts
-module _ (gens w targets : List ℕ) (missing : ℕ) (b : Basis) (c : Choice) (t₀ : Tally) (limit : ℕ) (out₀ : List ℕ) (N : Branch gens w missing b c t₀ limit out₀) (ne : missing ≢ 0)
+module _ (gens w targets : List ℕ) (missing : ℕ) (b : Basis) (c : Choice) (t₀ : Tally) (limit : ℕ) (out₀ : List ℕ)
+    (N : Branch gens w targets missing b c t₀ limit out₀) (ne : missing ≢ 0)
     (final : State) (size j : ℕ) (t : Tally) (out : List ℕ) (I : Going gens w targets (rowsOf b) (numbersOf c) missing limit final size j t out) where
   abbrev from : ℕ → List (List ℕ)
   from i = formulaeFrom gens w targets (rowsOf b) (numbersOf c) (length gens - i) i missing
@@ -57,11 +81,12 @@ module _ (gens w targets : List ℕ) (missing : ℕ) (b : Basis) (c : Choice) (t
 
   module _ (g : j < length gens) (e : inside word w (getD gens j 0) && not (inside word (rowsOf b) (getD gens j 0)) ≡ true)
       (b′ : Basis) (H : Holds (insert word (rowsOf b) (getD gens j 0)) b′) (c′ : Choice) (A : Added c j (getD gens j 0) c′) where
-    pub node-down : Branch gens w (missing - 1) b′ c′ t limit out
-    unfolding chosen generator
+    pub node-down : Branch gens w targets (missing - 1) b′ c′ t limit out
+    unfolding chosen generator basisOf inserts
     node-down =
         record {
           space = N .space;
+          computes = N .computes;
           valid = H .valid;
           inner = subst (λ (X : List ℕ). Inner word w X (missing - 1)) (sym (H .is)) (inner-down word gens w (N .space) (rowsOf b) j missing ne (N .inner) e);
           chose =
@@ -72,16 +97,20 @@ module _ (gens w targets : List ℕ) (missing : ℕ) (b : Basis) (c : Choice) (t
                     A .forms ∙ ap (λ (p : List ℕ). p ++ getD gens j 0 ∷ []) (N .chose .forms) ∙ sym (chosen-append word gens [] (numbersOf c) (j ∷ []))
                     ∙ ap (chosen word gens) (sym (A .numbers));
               };
-          room =
+          basis =
+              ap (basisOf word) (A .forms) ∙ inserts-append word gens [] (formsOf c) (getD gens j 0 ∷ []) []
+              ∙ ap (λ (C : List ℕ). insert word C (getD gens j 0)) (N .basis) ∙ sym (H .is);
+          number =
               omega (
                 arith,
-                N .room,
+                N .number,
                 ne,
                 numbers-length c (N .chose .whole),
                 numbers-length c′ (A .whole),
                 ap length (A .numbers),
                 length-append (numbersOf c) (j ∷ []),
               );
+          room = N .room;
           sane = I .sane;
         }
 

@@ -25,7 +25,7 @@ pub fn spread(
     limit: u64,
     out: &mut [u64],
 ) -> Tally
-    requires { ⌜ Branch (now gens) (now w) missing b c t limit (now out) ⌝ }
+    requires { ⌜ Branch (now gens) (now w) (now targets) missing b c t limit (now out) ⌝ }
     ensures { λ r. ⌜ stateOf r (now (out .exit)) ≡ run limit (stateOf t (now (out .entry))) (formulaeFrom (now (gens .entry)) (now (w .entry))
         (now (targets .entry)) (rowsOf b) (numbersOf c) (length (now (gens .entry)) - start) start missing) ⌝ }
 {

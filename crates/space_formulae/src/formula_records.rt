@@ -9,7 +9,7 @@ ghost use Rattle.space_formulae.specs.formula_records.Keep.{FormulaKeepi
 
 // Counts the formula whose products `c` holds, and writes its record where it fits.
 pub fn keep(c: Choice, targets: &[u64], t: Tally, limit: u64, out: &mut [u64]) -> Tally
-    requires { ⌜ FormulaKeeping c t limit (now out) ⌝ }
+    requires { ⌜ FormulaKeeping c (now targets) t limit (now out) ⌝ }
     ensures { λ r. ⌜ stateOf r (now (out .exit)) ≡ note limit (stateOf t (now (out .entry))) (recordOf c (now (targets .entry))) ⌝ }
 {
     let r = records::count(t, limit, c.len + targets.len(), out.len());

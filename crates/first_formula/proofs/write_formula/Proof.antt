@@ -29,7 +29,8 @@ put-rows-requires c κs =
     let args = c .before .before .before .before .before .before .before .before .before .before .before .args in
     let pre = c .before .before .before .before .before .before .before .before .before .before .before .pre in
     let copy = c .before .before .before .before .copy in
-    let e = forms-length (args .c) (pre .0) in let W = pre .0 in let r = W .room in let h = pre .1 in (omega arith, omega (arith, copy .kept .1 .0))
+    let e = forms-length (args .c) (pre .0) in let W = pre .0 in let r = W .room in let h = pre .1 in
+    (omega arith, omega (arith, copy .kept .1 .0), pre .2)
 
 returns : tie.Need-returns
 returns c =

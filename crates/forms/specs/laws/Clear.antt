@@ -1,7 +1,6 @@
 -- A row cleared in a word by one exclusive or and one comparison.
 -- lowers, raises: adding a row that is not 0 makes v smaller where v is 1 at the row's lead, and else larger.
 -- clear-less, clear-not: `clear` is the exclusive or where that is smaller than v, and else v; for every row, 0 too.
--- clear-zero-row: the row 0 clears nothing.
 -- reduce-next, reduce-end: the rows from i on are the row at i and those after it; past the last row nothing is left to do.
 -- Assumes nothing.
 use mathlib.Core.Path.{_≡_, refl, sym, ap, ap₂, _∙_, subst}
@@ -20,6 +19,7 @@ use Rattle.linear.specs.Basis.{clear, reduce}
 use Rattle.linear.specs.Bit.{bit, bitOf, top}
 use Rattle.linear.specs.Word.{word, scaleW}
 use Rattle.linear.specs.laws.Bit.{top-span}
+use Rattle.linear.specs.laws.Reduce.{clear-nul}
 
 -- ---- a number and 1
 xor-one : (x d : ℕ) → x % 2 ≡ d → bitXor x 1 ≡ x / 2 * 2 + differ d 1
@@ -65,14 +65,6 @@ module _ (row v : ℕ) (n : row ≢ 0) where
   unfolding bit
   raises e = shift-less (top row) v (bitXor v row) (subst (λ (x : ℕ). v / 2 ^ top row < x) (sym at-lead) (even-more (v / 2 ^ top row) e))
 
-zero-row : (s : Bool) (v : ℕ) → bitXor (scaleW s 0) v ≡ v
-zero-row true v = xor-zero-l v
-zero-row false v = xor-zero-l v
-
-pub clear-zero-row : (v : ℕ) → clear word 0 v ≡ v
-unfolding clear
-clear-zero-row v = zero-row (bit v (top 0)) v
-
 pub clear-less : (row v : ℕ) → bitXor v row < v → clear word row v ≡ bitXor v row
 clear-less row v h = go (ℕ-discrete row 0)
   where
@@ -92,7 +84,7 @@ clear-not row v h = go (ℕ-discrete row 0)
     unset n false e = xor-zero-l v
 
     go : Dec (row ≡ 0) → clear word row v ≡ v
-    go (yes z) = ap (λ (r : ℕ). clear word r v) z ∙ clear-zero-row v
+    go (yes z) = ap (λ (r : ℕ). clear word r v) z ∙ clear-nul word v
     go (no n) = unfold clear in unset n (bit v (top row)) refl
 
 -- ---- the rows, one after the other

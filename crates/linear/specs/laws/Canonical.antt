@@ -6,7 +6,7 @@
 --   steps-greedy             the numbers are the greedy choice
 -- Assumes nothing.
 use mathlib.Core.Path.{_≡_, refl, sym, ap, ap₂, _∙_, subst}
-use mathlib.Core.Bool.{Bool, true, false, cond, not, _&&_}
+use mathlib.Core.Bool.{Bool, cond}
 use mathlib.Core.List.{List, [], _∷_, _++_}
 use Prim.Native.Nat.{ℕ, zero, suc, _+_, _<_, _≤_}
 use native.Mathlib.Omega.{arith}
@@ -20,8 +20,9 @@ use Rattle.linear.specs.Walk.{Next, Steps}
 use Rattle.linear.specs.laws.Span.{span-head}
 use Rattle.linear.specs.laws.Reduce.{member}
 use Rattle.linear.specs.laws.Insert.{insert-reduced, insert-length-new, inserts-reduced, inserts-span}
-use Rattle.linear.specs.laws.Entry.{inside-yes, yes-inside, no-inside}
-use Rattle.linear.specs.Extension.{wanted, greedy}
+use Rattle.linear.specs.laws.Entry.{inside-yes, yes-inside}
+use Rattle.linear.specs.Greedy.{wanted, greedy}
+use Rattle.linear.specs.laws.Greedy.{wanted-true, wanted-false}
 
 module _ (S : Space) (gens : List (S .Vec)) where
   open Space S using (Vec)
@@ -67,27 +68,19 @@ module _ (S : Space) (gens : List (S .Vec)) where
       steps-length p (insert S C g) (suc e) hi (insert-reduced S C g ρ) (s .3) in
       omega arith
 
-  wanted-true : (W C : List Vec) (g : Vec) → Reduced S W → Span S W g → ¬ Span S C g → wanted S gens W C g ≡ true
-  unfolding wanted
-  wanted-true W C g ρ s h = ap₂ (λ a b. a && not b) (yes-inside S W ρ g s) (no-inside S C g h)
-
-  wanted-false : (W C : List Vec) (g : Vec) → Reduced S C → (Span S W g → Span S C g) → wanted S gens W C g ≡ false
-  unfolding wanted
-  wanted-false W C g ρ h = go (inside S W g) refl
-    where
-      go : (t : Bool) → inside S W g ≡ t → t && not (inside S C g) ≡ false
-      go true e = ap not (yes-inside S C ρ g (h (inside-yes S W g e)))
-      go false e = refl
+  -- the test of an extension
+  abbrev isIn : List Vec → ℕ → Bool
+  isIn W j = inside S W (generator S gens j)
 
   pub steps-greedy : (n : ℕ) (p : List ℕ) (C W : List Vec) (i hi : ℕ) → i + n ≡ hi → Reduced S C → W ≡ inserts S C (chosen S gens p) → Steps S gens C i hi p
-      → greedy S gens W C n i ≡ p
+      → greedy S gens (λ j. inside S W (generator S gens j)) C n i ≡ p
   unfolding greedy inserts chosen
   steps-greedy zero [] C W i hi q ρ w s = refl
   steps-greedy zero (e ∷ p) C W i hi q ρ w s = absurd (omega (arith, s .0, s .1))
   steps-greedy (suc n) [] C W i hi q ρ w s =
-      ap (λ t. cond t (i ∷ greedy S gens W (cond t (insert S C (generator S gens i)) C) n (suc i)) (greedy S gens W (cond t (insert S C
+      ap (λ t. cond t (i ∷ greedy S gens (isIn W) (cond t (insert S C (generator S gens i)) C) n (suc i)) (greedy S gens (isIn W) (cond t (insert S C
       (generator S gens i)) C) n (suc i)))
-      (wanted-false W C (generator S gens i) ρ (λ x. subst (λ X. Span S X (generator S gens i)) w x))
+      (wanted-false S gens (isIn W) C ρ i (λ x. subst (λ X. Span S X (generator S gens i)) w (inside-yes S W (generator S gens i) x)))
       ∙ steps-greedy n [] C W (suc i) hi (omega arith) ρ w tt
   steps-greedy (suc n) (e ∷ p) C W i hi q ρ w s =
       go (ℕ-discrete e i) (λ b. steps-greedy n p (insert S C (generator S gens e)) W (suc i) hi (omega arith) (insert-reduced S C (generator S gens e) ρ) w b)
@@ -97,7 +90,7 @@ module _ (S : Space) (gens : List (S .Vec)) where
       f = generator S gens i
 
       run : Bool → List ℕ
-      run t = cond t (i ∷ greedy S gens W (cond t (insert S C f) C) n (suc i)) (greedy S gens W (cond t (insert S C f) C) n (suc i))
+      run t = cond t (i ∷ greedy S gens (isIn W) (cond t (insert S C f) C) n (suc i)) (greedy S gens (isIn W) (cond t (insert S C f) C) n (suc i))
 
       σ : Reduced S W
       σ = subst (Reduced S) (sym w) (inserts-reduced S (chosen S gens p) (insert S C (generator S gens e)) (insert-reduced S C (generator S gens e) ρ))
@@ -106,14 +99,15 @@ module _ (S : Space) (gens : List (S .Vec)) where
       in-W = subst (λ X. Span S X (generator S gens e)) (sym w) (inserts-span S (generator S gens e ∷ chosen S gens p) C (generator S gens e) .1
           (span-head S (generator S gens e) (chosen S gens p ++ C)))
 
-      go : Dec (e ≡ i) → (Steps S gens (insert S C (generator S gens e)) (suc i) hi p → greedy S gens W (insert S C (generator S gens e)) n (suc i) ≡ p)
-          → (Steps S gens C (suc i) hi (e ∷ p) → greedy S gens W C n (suc i) ≡ e ∷ p) → run (wanted S gens W C f) ≡ e ∷ p
+      go : Dec (e ≡ i) → (Steps S gens (insert S C (generator S gens e)) (suc i) hi p → greedy S gens (isIn W) (insert S C (generator S gens e)) n (suc i) ≡ p)
+          → (Steps S gens C (suc i) hi (e ∷ p) → greedy S gens (isIn W) C n (suc i) ≡ e ∷ p) → run (wanted S gens (isIn W) C i) ≡ e ∷ p
       go (yes d) a b =
-          ap run (wanted-true W C f σ (subst (λ x. Span S W (generator S gens x)) d in-W) (λ x. s .2 .new (subst (λ y. Span S C (generator S gens y))
-          (sym d) x)))
-          ∙ ap₂ _∷_ (sym d) (ap (λ x. greedy S gens W (insert S C (generator S gens x)) n (suc i)) (sym d) ∙ a (subst (λ x. Steps S gens (insert S C
+          ap run (wanted-true S gens (isIn W) C i (yes-inside S W σ f (subst (λ x. Span S W (generator S gens x)) d in-W))
+          (λ x. s .2 .new (subst (λ y. Span S C (generator S gens y)) (sym d) x)))
+          ∙ ap₂ _∷_ (sym d) (ap (λ x. greedy S gens (isIn W) (insert S C (generator S gens x)) n (suc i)) (sym d) ∙ a (subst (λ x. Steps S gens (insert S C
           (generator S gens e)) (suc x) hi p) d (s .3)))
       go (no d) a b =
           let l : i ≤ e = s .0 in
-          ap run (wanted-false W C f ρ (λ x. steps-low (e ∷ p) C (suc i) hi i (omega arith, s .1, s .2, s .3) (omega arith) (subst (λ X. Span S X f) w x)))
+          ap run (wanted-false S gens (isIn W) C ρ i
+          (λ x. steps-low (e ∷ p) C (suc i) hi i (omega arith, s .1, s .2, s .3) (omega arith) (subst (λ X. Span S X f) w (inside-yes S W f x))))
           ∙ b (omega arith, s .1, s .2, s .3)

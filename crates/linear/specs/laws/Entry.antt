@@ -3,7 +3,8 @@
 use mathlib.Core.Path.{_≡_, refl, sym, ap, ap₂, _∙_}
 use mathlib.Core.Logic.{_≢_}
 use mathlib.Core.Bool.{Bool, true, false, _&&_, true≢false, false≢true, and-eq-true-iff}
-use mathlib.Core.List.{List, [], _∷_, List·Memᴰ, Memᴰ·append-right, cons≢nil, nil≢cons, head-eq-of-cons-eq, tail-eq-of-cons-eq}
+use mathlib.Core.List.{List, [], _∷_, cons≢nil, nil≢cons, head-eq-of-cons-eq, tail-eq-of-cons-eq}
+use mathlib.Core.List.{List·Memᴰ, List·Memᴰ·head, List·Memᴰ·tail, List·Memᴰ·not-nil, Memᴰ·append-right}
 use Prim.Native.Nat.{ℕ, _-_}
 use native.Mathlib.Omega.{arith}
 use lib.ListN.{length}
@@ -14,9 +15,9 @@ use Rattle.linear.specs.Span.{Span, Within}
 use Rattle.linear.specs.Basis.{reduce, basisOf, Reduced, dim}
 use Rattle.linear.specs.Order.{Before, Rising, risingLists, Ordered}
 use Rattle.linear.specs.Select.{Once}
-use Rattle.linear.specs.Entry.{sameVec, sameBasis, inside, chosen, generatorsIn, fits, Solution, space, entries}
+use Rattle.linear.specs.Entry.{sameVec, sameBasis, inside, generator, chosen, generatorsIn, fits, Solution, space, entries}
 use Rattle.linear.specs.laws.Space.{add-nul, take-put, one-scale, minus-add}
-use Rattle.linear.specs.laws.Span.{span-mem, span-bind, span-mono}
+use Rattle.linear.specs.laws.Span.{mem-cons, span-mem, span-bind, span-mono}
 use Rattle.linear.specs.laws.Reduce.{member}
 use Rattle.linear.specs.laws.Insert.{isNul-nul, span-of-reduce, inserts-reduced, inserts-span, basisOf-reduced, basisOf-span}
 use Rattle.linear.specs.laws.Dimension.{basisOf-is, same-size}
@@ -84,6 +85,19 @@ module _ (S : Space) where
       go false e = e
 
   module _ (gens : List Vec) where
+    -- the generators with the numbers es: each has one of them, and all of these are there
+    pub chosen-each : (P : Vec → Type 0) (es : List ℕ) → ((e : ℕ) → List·Memᴰ e es → P (generator S gens e)) → (x : Vec) → List·Memᴰ x (chosen S gens es) → P x
+    unfolding chosen
+    chosen-each P [] h = λ x m. absurd (List·Memᴰ·not-nil m)
+    chosen-each P (e ∷ es) h = mem-cons {P = P} (h e (List·Memᴰ·head refl)) (chosen-each P es (λ f m. h f (List·Memᴰ·tail m)))
+
+    pub mem-chosen : (es : List ℕ) (e : ℕ) → List·Memᴰ e es → List·Memᴰ (generator S gens e) (chosen S gens es)
+    unfolding chosen
+    mem-chosen [] = λ e m. absurd (List·Memᴰ·not-nil m)
+    mem-chosen (f ∷ es) =
+        mem-cons {P = λ e. List·Memᴰ (generator S gens e) (generator S gens f ∷ chosen S gens es)} (List·Memᴰ·head refl)
+        (λ e m. List·Memᴰ·tail (mem-chosen es e m))
+
     pub generatorsIn-within : (B : List Vec) → Within S (generatorsIn S gens B) B
     unfolding generatorsIn
     generatorsIn-within B v s = span-bind S (λ x m. inside-yes B x (only-mem (inside S B) gens x m .1)) s

@@ -7,7 +7,7 @@
 -- Assumes nothing.
 use mathlib.Core.Path.{_≡_, refl, sym, ap, _∙_, subst}
 use mathlib.Core.Logic.{_≢_, _⊎_, inl, inr}
-use mathlib.Core.Bool.{true}
+use mathlib.Core.Bool.{Bool, true}
 use mathlib.Core.List.{List, [], _∷_, _++_, List·Memᴰ, List·Memᴰ·not-nil, Memᴰ·append-left, List·Memᴰ·append-cases}
 use Prim.Native.Nat.{ℕ, suc, _+_, _-_, _<_}
 use native.Mathlib.Omega.{arith}
@@ -23,9 +23,10 @@ use Rattle.linear.specs.laws.Insert.{inserts-reduced, inserts-span, basi
 use Rattle.linear.specs.laws.Dimension.{Fresh, unique, inserts-fresh, fresh-of-length}
 use Rattle.linear.specs.laws.Order.{before-asym, RisingList, rising-sound, rising-complete, rising-ordered, mem-index}
 use Rattle.linear.specs.laws.Select.{only-mem, first-mem, first-some, first-first}
-use Rattle.linear.specs.laws.Entry.{sameBasis-yes, sameBasis-no, inside-yes, yes-fits, space-reduced, entries-sound}
-use Rattle.linear.specs.Extension.{greedy, extension}
-use Rattle.linear.specs.laws.Greedy.{inserts-within, greedy-rising, greedy-inside, greedy-fresh, greedy-covers, greedy-first, greedy-skip}
+use Rattle.linear.specs.laws.Entry.{sameBasis-yes, sameBasis-no, inside-yes, yes-inside, chosen-each, mem-chosen, yes-fits, space-reduced, entries-sound}
+use Rattle.linear.specs.Greedy.{greedy}
+use Rattle.linear.specs.Extension.{extension}
+use Rattle.linear.specs.laws.Greedy.{inserts-within, greedy-rising, greedy-passes, greedy-fresh, greedy-covers, greedy-first, greedy-skip}
 
 module _ (S : Space) (gens targets : List (S .Vec)) where
   open Space S using (fld, Vec, nul, add, scale, isNul)
@@ -37,7 +38,11 @@ module _ (S : Space) (gens targets : List (S .Vec)) where
   abbrev gensAt : List ℕ → List Vec
   gensAt es = chosen S gens es
 
-  -- is the generator inside W and not yet in the span of C
+  -- the test of an extension
+  abbrev isIn : List Vec → ℕ → Bool
+  isIn W j = inside S W (gen j)
+
+  -- ---- the generators with given numbers, and the space that they span with the targets
   pub chosen-length : (es : List ℕ) → length (gensAt es) ≡ length es
   unfolding chosen
   chosen-length [] = refl
@@ -69,10 +74,10 @@ module _ (S : Space) (gens targets : List (S .Vec)) where
       T = basisOf S targets
 
       gs : List ℕ
-      gs = greedy S gens W T (length gens) 0
+      gs = greedy S gens (isIn W) T (length gens) 0
 
       low : (x : Vec) → List·Memᴰ x (gensAt gs) ⊎ List·Memᴰ x T → Span S W x
-      low x (inl m) = greedy-inside S gens W (E .reduced) (length gens) 0 T (basisOf-reduced S targets) x m
+      low x (inl m) = chosen-each S gens (Span S W) gs (λ e k. inside-yes S W (gen e) (greedy-passes S gens (isIn W) (length gens) 0 T e k)) x m
       low x (inr m) = span-bind S (E .holds) (basisOf-span S targets x .0 (span-mem S m))
 
       high : (x : Vec) → List·Memᴰ x (generatorsIn S gens W) → Span S (inserts S T (gensAt gs)) x
@@ -80,7 +85,7 @@ module _ (S : Space) (gens targets : List (S .Vec)) where
           let a = only-mem (inside S W) gens x m in
           let j = mem-index nul (a .0) in
           let b : j .0 < 0 + length gens = let c = j .1 in omega arith in
-          cast S (j .2) (greedy-covers S gens W (E .reduced) (length gens) 0 T (j .0) (omega arith) b (cast S (sym (j .2)) (inside-yes S W x (a .1))))
+          cast S (j .2) (greedy-covers S gens (isIn W) (length gens) 0 T (j .0) (omega arith) b (ap (inside S W) (sym (j .2)) ∙ a .1))
 
   -- it has as many numbers as the space has dimensions beyond the targets'
   pub extension-length : (k : ℕ) (W : List Vec) → Solution S gens targets k W → dim S targets + length (extension S gens targets W) ≡ k
@@ -88,7 +93,7 @@ module _ (S : Space) (gens targets : List (S .Vec)) where
   extension-length k W E =
       let f : length (inserts S (basisOf S targets) (gensAt (extension S gens targets W))) ≡ length (basisOf S targets) + length (gensAt (extension S gens targets W)) =
       inserts-fresh S (gensAt (extension S gens targets W)) (basisOf S targets) (basisOf-reduced S targets)
-      (greedy-fresh S gens W (E .reduced) (length gens) 0 (basisOf S targets) (basisOf-reduced S targets)) in
+      (greedy-fresh S gens (isIn W) (length gens) 0 (basisOf S targets) (basisOf-reduced S targets)) in
       let g : length (inserts S (basisOf S targets) (gensAt (extension S gens targets W))) ≡ length W = ap length (extension-space k W E) in
       let h : length W ≡ k = E .size in
       omega (arith, f, g, h, chosen-length (extension S gens targets W))
@@ -97,7 +102,7 @@ module _ (S : Space) (gens targets : List (S .Vec)) where
   unfolding extension
   extension-rising k W E =
       rising-complete (length gens) 0 (k - dim S targets) (length gens) (omega arith) (extension S gens targets W)
-      (omega (arith, extension-length k W E)) (greedy-rising S gens W (E .reduced) (length gens) 0 (length gens) (basisOf S targets) (omega arith))
+      (omega (arith, extension-length k W E)) (greedy-rising S gens (isIn W) (length gens) 0 (length gens) (basisOf S targets) (omega arith))
 
   -- ---- the theorem: every entry is listed, and no space twice
   pub entries-complete : (k : ℕ) (W : List Vec) → Solution S gens targets k W
@@ -154,8 +159,9 @@ module _ (S : Space) (gens targets : List (S .Vec)) where
 
       second : (extension S gens targets W ≡ es) ⊎ Before (extension S gens targets W) es
       second = unfold extension space in
-          greedy-first S gens W (E .reduced) (length gens) 0 (length gens) (basisOf S targets) (omega arith) (basisOf-reduced S targets) es (combo .1) fresh
-          (λ x k. inserts-span S (gensAt es) (basisOf S targets) x .1 (span-mem S (Memᴰ·append-left (basisOf S targets) k)))
+          greedy-first S gens (isIn W) (length gens) 0 (length gens) (basisOf S targets) (omega arith) (basisOf-reduced S targets) es (combo .1) fresh
+          (λ e k. yes-inside S W (E .reduced) (gen e)
+          (inserts-span S (gensAt es) (basisOf S targets) (gen e) .1 (span-mem S (Memᴰ·append-left (basisOf S targets) (mem-chosen S gens es e k)))))
           (omega (arith, el, combo .0))
 
       go : (es ≡ extension S gens targets W) ⊎ Before es (extension S gens targets W) → (extension S gens targets W ≡ es) ⊎ Before (extension S gens targets W) es → extension S gens targets W ≡ es
@@ -203,4 +209,5 @@ module _ (S : Space) (gens targets : List (S .Vec)) where
 
       skipped : Span S P (gen j)
       skipped = unfold extension space in
-          greedy-skip S gens W (E .reduced) (length gens) 0 (basisOf S targets) p e q (entries-greedy k (p ++ e ∷ q) m) j (omega arith) l n j-in
+          greedy-skip S gens (isIn W) (length gens) 0 (basisOf S targets) p e q (entries-greedy k (p ++ e ∷ q) m) j (omega arith) l n
+          (yes-inside S W (E .reduced) (gen j) j-in)

@@ -19,8 +19,8 @@ use Rattle.linear.specs.Select.{only}
 use Rattle.linear.specs.Entry.{sameBasis, chosen, Solution, space, entries}
 use Rattle.linear.specs.Formulae.{first, formulae, Formula}
 use Rattle.linear.specs.laws.Insert.{basisOf-span}
-use Rattle.linear.specs.laws.Dimension.{basisOf-is, fresh-of-length}
-use Rattle.linear.specs.laws.Independent.{independent-fresh}
+use Rattle.linear.specs.laws.Dimension.{basisOf-is}
+use Rattle.linear.specs.laws.Independent.{independent-dim}
 use Rattle.linear.specs.laws.Order.{before-asym, rising-sound, rising-complete, rising-ordered}
 use Rattle.linear.specs.laws.Select.{only-mem, mem-only}
 use Rattle.linear.specs.laws.Entry.{sameBasis-yes, same-yes}
@@ -60,10 +60,8 @@ module _ (S : Space) (gens : List (S .Vec)) where
 
   -- as many generators as the space that they span has dimensions are independent
   enough : (W : List Vec) (es : List ℕ) → basisOf S (chosen S gens es) ≡ W → length es ≡ length W → Independent S (chosen S gens es)
-  unfolding basisOf
-  enough W es e l =
-      independent-fresh S (chosen S gens es) .1
-      (fresh-of-length S (chosen S gens es) [] tt (omega (arith, ap length e, l, chosen-length S gens [] es)))
+  unfolding dim
+  enough W es e l = independent-dim S (chosen S gens es) (omega (arith, ap length e, l, chosen-length S gens [] es))
 
   -- ---- the formulae of a space
   pub formulae-are : (W : List Vec) → Reduced S W → (es : List ℕ) → List·Memᴰ es (formulae S gens W) ↔ Formula S gens W es

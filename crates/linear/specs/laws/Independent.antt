@@ -1,6 +1,7 @@
 -- Independence by coefficients is independence one by one; as many independent vectors as dimensions.
 --   independent-fresh     xs are independent exactly if each is outside the span of those before it
 --   dim-independent       n independent vectors span n dimensions
+--   independent-dim       and n vectors that span n dimensions are independent
 --   dimension             independent lists with one span are equally long, and that is its dimension
 --   reduced-independent   the rows of a reduced basis are independent
 -- Assumes nothing.
@@ -111,10 +112,11 @@ module _ (S : Space) where
   pub dimension : (xs ys : List Vec) → Independent S xs → SameSpan S xs ys → length xs ≡ dim S ys
   dimension xs ys i e = sym (dim-independent xs i) ∙ dim-same S xs ys e
 
-  -- the rows of a reduced basis are independent
-  reduced-fresh : (B : List Vec) → Reduced S B → dim S B ≡ length B → Fresh S [] B
+  -- as many vectors as their span has dimensions
+  pub independent-dim : (xs : List Vec) → dim S xs ≡ length xs → Independent S xs
   unfolding dim basisOf
-  reduced-fresh B ρ e = fresh-of-length S B [] tt (omega (arith, e))
+  independent-dim xs e = independent-fresh xs .1 (fresh-of-length S xs [] tt (omega (arith, e)))
 
+  -- the rows of a reduced basis are independent
   pub reduced-independent : (B : List Vec) → Reduced S B → Independent S B
-  reduced-independent B ρ = independent-fresh B .1 (reduced-fresh B ρ (unfold dim in ap length (basisOf-is S B B ρ (λ v s. s) (λ v s. s))))
+  reduced-independent B ρ = independent-dim B (unfold dim in ap length (basisOf-is S B B ρ (λ v s. s) (λ v s. s)))

@@ -51,6 +51,13 @@ pub rising-from : (lo lo′ hi : ℕ) (es : List ℕ) → lo ≤ lo′ → Risin
 rising-from lo lo′ hi [] h r = tt
 rising-from lo lo′ hi (e ∷ es) h r = (let k : lo′ ≤ e = r .0 in omega arith, r .1, r .2)
 
+-- the numbers of a rising list are within its bounds
+pub rising-mem : (lo hi : ℕ) (es : List ℕ) → Rising lo hi es → (e : ℕ) → List·Memᴰ e es → (lo ≤ e) × (e < hi)
+rising-mem lo hi [] r = λ e m. absurd (List·Memᴰ·not-nil m)
+rising-mem lo hi (f ∷ es) r =
+    mem-cons {P = λ e. (lo ≤ e) × (e < hi)} (r .0, r .1)
+    (λ e m. let a : lo ≤ f = r .0 in let b = rising-mem (suc f) hi es (r .2) e m in (let c = b .0 in omega arith, b .1))
+
 pub mem-map : {A B : Type 0} (f : A → B) {a : A} {l : List A} → List·Memᴰ a l → List·Memᴰ (f a) (map f l)
 mem-map f (List·Memᴰ·head e) = List·Memᴰ·head (ap f e)
 mem-map f (List·Memᴰ·tail m) = List·Memᴰ·tail (mem-map f m)

@@ -21,7 +21,7 @@ use Rattle.linear.specs.Span.{Span}
 use Rattle.linear.specs.Basis.{insert, inserts, basisOf, Reduced, dim}
 use Rattle.linear.specs.Order.{Before, risingLists, Ordered}
 use Rattle.linear.specs.Select.{only}
-use Rattle.linear.specs.Entry.{sameBasis, generator, chosen, space, fits, entries}
+use Rattle.linear.specs.Entry.{sameBasis, inside, generator, chosen, space, fits, entries}
 use Rattle.linear.specs.laws.Insert.{insert-span, insert-reduced, basisOf-reduced}
 use Rattle.linear.specs.laws.Dimension.{Fresh, fresh-sub}
 use Rattle.linear.specs.laws.Order.{before-asym, rising-ordered}
@@ -177,4 +177,4 @@ module _ (S : Space) (gens targets : List (S .Vec)) where
       fresh-append (chosen S gens p) (chosen S gens es) (basisOf S targets) (generator S gens i) (basisOf-reduced S targets)
       (subst (Fresh S (basisOf S targets)) (chosen-append S gens targets p (i ∷ es))
       (subst (λ x. Fresh S (basisOf S targets) (chosen S gens x)) (entries-greedy S gens targets k (p ++ i ∷ es) m)
-      (greedy-fresh S gens (sp (p ++ i ∷ es)) (space-reduced S gens targets (p ++ i ∷ es)) (length gens) 0 (basisOf S targets) (basisOf-reduced S targets))))
+      (greedy-fresh S gens (λ j. inside S (sp (p ++ i ∷ es)) (generator S gens j)) (length gens) 0 (basisOf S targets) (basisOf-reduced S targets))))

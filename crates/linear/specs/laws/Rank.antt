@@ -140,7 +140,7 @@ module _ (S : Space) (gens targets : List (S .Vec)) where
       es = extension S gens [] W
 
       rising : Rising 0 (length gens) es
-      rising = unfold extension in greedy-rising S gens W (E .reduced) (length gens) 0 (length gens) (basisOf S []) (omega arith)
+      rising = unfold extension in greedy-rising S gens (λ j. inside S W (generator S gens j)) (length gens) 0 (length gens) (basisOf S []) (omega arith)
 
       back : (x : Vec) → List·Memᴰ x (chosen S gens es) ⊎ List·Memᴰ x [] → List·Memᴰ x (chosen S gens es)
       back x (inl m) = m

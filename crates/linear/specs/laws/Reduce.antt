@@ -1,19 +1,20 @@
--- Reduction by a reduced basis. The theorem is `member`: a vector is in the span exactly if nothing of it is left.
+-- Reduction by a reduced basis, or by echelon rows. The theorem is `member`: a vector is in the span exactly if nothing of it is left.
 --   clear-at, clear-keep       the cleared coordinate is 0, the others stay where the row is 0
 --   reduce-rest                a vector is what reduction leaves and a combination of the rows
 --   reduce-zeroed, reduce-done what is left is 0 at the leads, and what is 0 there is left as it is
+--   echelon-member, member     the theorem for echelon rows, and for a reduced basis, whose rows are
 -- Assumes nothing.
-use mathlib.Core.Path.{_≡_, refl, sym, ap, ap₂, _∙_}
-use mathlib.Core.Logic.{_≢_, _↔_}
+use mathlib.Core.Path.{_≡_, refl, sym, ap, ap₂, _∙_, subst}
+use mathlib.Core.Logic.{_≢_, _⊎_, inl, inr, _↔_}
 use mathlib.Core.List.{List, [], _∷_, List·Memᴰ, List·Memᴰ·head, List·Memᴰ·tail, List·Memᴰ·not-nil}
 use Prim.Native.Nat.{ℕ, _<_}
 use native.Mathlib.Omega.{arith}
 use native.Mathlib.Decide.{decLt}
 use Rattle.linear.specs.Space.{Field, Space}
 use Rattle.linear.specs.Span.{Span}
-use Rattle.linear.specs.Basis.{clear, reduce, Zeroed, Reduced}
-use Rattle.linear.specs.laws.Space.{zero-plus, neg-plus, times-zero, neg-zero, add-assoc, add-nul, nul-add, zero-scale, take-put}
-use Rattle.linear.specs.laws.Span.{mem-cons, cast, span-nul, span-nil, span-uncons, span-cons, span-coord, span-rest}
+use Rattle.linear.specs.Basis.{clear, reduce, Zeroed, Reduced, Echelon}
+use Rattle.linear.specs.laws.Space.{zero-plus, neg-plus, times-zero, neg-zero, add-assoc, add-nul, nul-add, scale-nul, zero-scale, take-put}
+use Rattle.linear.specs.laws.Span.{mem-cons, cast, span-nul, span-nil, span-uncons, span-cons, span-head, span-scale, span-coord, span-rest}
 
 module _ (S : Space) where
   open Space S using (fld, Vec, nul, add, scale, coord, lead, isNul, coord-nul, coord-add, coord-scale, ext, lead-above, lead-ne, isNul-yes, isNul-no)
@@ -73,9 +74,6 @@ module _ (S : Space) where
         clear-back b v ∙ ap (add (scale (coord v (lead b)) b)) e ∙ sym (add-assoc S (scale (coord v (lead b)) b) w (reduce S B (clear S b v))),
       )
 
-  pub reduce-in : (B : List Vec) (v : Vec) → Span S B v → Span S B (reduce S B v)
-  reduce-in B v s = let r = reduce-rest B v in span-rest S (r .2) (r .1) s
-
   pub reduce-keep : (B : List Vec) (v : Vec) (i : ℕ) → ((x : Vec) → List·Memᴰ x B → coord x i ≡ 𝟘) → coord (reduce S B v) i ≡ coord v i
   unfolding reduce
   reduce-keep [] v i h = refl
@@ -119,9 +117,35 @@ module _ (S : Space) where
   span-zeroed (b ∷ B) r u s z =
       span-zeroed B (r .3) u (drop-lead b B (r .0) (below-zero b B (r .1)) u s (z b (List·Memᴰ·head refl))) (λ x m. z x (List·Memᴰ·tail m))
 
+  -- the row 0 takes nothing away, and brings nothing in
+  pub clear-nul : (v : Vec) → clear S nul v ≡ v
+  unfolding clear
+  clear-nul v = ap (λ x. add x v) (scale-nul S (neg (coord v (lead nul)))) ∙ nul-add S v
+
+  pub span-no-nul : {B : List Vec} {v : Vec} → Span S (nul ∷ B) v → Span S B v
+  span-no-nul s = let p = span-uncons S s in cast S (p .3 ∙ ap (λ x. add x (p .1)) (scale-nul S (p .0)) ∙ nul-add S (p .1)) (p .2)
+
+  -- nothing is left of a combination of echelon rows
+  echelon-none : (B : List Vec) → Echelon S B → (v : Vec) → Span S B v → reduce S B v ≡ nul
+  unfolding reduce
+  echelon-none [] h v s = span-nil S s
+  echelon-none (b ∷ B) h v s = echelon-none B (h .1) (clear S b v) (rest (h .0))
+    where
+      rest : (b ≡ nul) ⊎ ((coord b (lead b) ≡ 𝟙) × ((x : Vec) → List·Memᴰ x B → coord x (lead b) ≡ 𝟘)) → Span S B (clear S b v)
+      rest (inl z) = cast S (ap (λ y. clear S y v) z ∙ clear-nul v) (span-no-nul (subst (λ y. Span S (y ∷ B) v) z s))
+      rest (inr o) =
+          drop-lead b B (o .0) (o .1) (clear S b v) (span-rest S (clear-back b v) (span-scale S (coord v (lead b)) (span-head S b B)) s) (clear-at b v (o .0))
+
   -- v is in the span exactly when nothing of it is left
-  pub member : (B : List Vec) → Reduced S B → (v : Vec) → Span S B v ↔ (reduce S B v ≡ nul)
-  member B r v = (λ s. span-zeroed B r (reduce S B v) (reduce-in B v s) (reduce-zeroed B v r), λ e. back e (reduce-rest B v))
+  pub echelon-member : (B : List Vec) → Echelon S B → (v : Vec) → Span S B v ↔ (reduce S B v ≡ nul)
+  echelon-member B h v = (echelon-none B h v, λ e. back e (reduce-rest B v))
     where
       back : reduce S B v ≡ nul → (w : Vec) × Span S B w × (v ≡ add w (reduce S B v)) → Span S B v
       back e (w, s, q) = cast S (q ∙ ap (add w) e ∙ add-nul S w) s
+
+  pub reduced-echelon : (B : List Vec) → Reduced S B → Echelon S B
+  reduced-echelon [] r = tt
+  reduced-echelon (b ∷ B) r = (inr (r .0, below-zero b B (r .1)), reduced-echelon B (r .3))
+
+  pub member : (B : List Vec) → Reduced S B → (v : Vec) → Span S B v ↔ (reduce S B v ≡ nul)
+  member B r = echelon-member B (reduced-echelon B r)

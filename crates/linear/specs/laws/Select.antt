@@ -1,12 +1,15 @@
--- What tests over a list choose; the chosen of a joined and of a mapped list (`only-append`, `only-map`). Of `firstOfEach`: each chosen passes (`first-mem`), no key comes twice (`first-once`), every key that passes is
--- there (`first-some`), and in a list in order each chosen one stands before all others with its key (`first-first`). Assumes nothing.
+-- What tests over a list choose; numbers in a list (`stands`, `stood`); the chosen of a joined and of a mapped list (`only-append`, `only-map`).
+-- Of `firstOfEach`: each chosen passes (`first-mem`), no key comes twice (`first-once`), every key that passes is there (`first-some`), and in a list in order
+-- each chosen one stands before all others with its key (`first-first`). Assumes nothing.
 use mathlib.Core.Path.{_≡_, refl, sym, ap, ap₂, _∙_, subst}
-use mathlib.Core.Logic.{_≢_, _⊎_, inl, inr}
+use mathlib.Core.Logic.{_≢_, _⊎_, inl, inr, _↔_}
 use mathlib.Core.Bool.{Bool, true, false, cond, not, _&&_, _||_, true≢false, false≢true}
-use mathlib.Core.List.{List, [], _∷_, _++_, map, List·Memᴰ, List·Memᴰ·head, List·Memᴰ·tail, List·Memᴰ·not-nil, List·Memᴰ·cases-cons}
-use Prim.Native.Nat.{suc, _≤_}
+use mathlib.Core.List.{List, [], _∷_, _++_, map, List·Memᴰ, List·Memᴰ·head, List·Memᴰ·tail, List·Memᴰ·not-nil, List·Memᴰ·cases-cons, Memᴰ·cast}
+use Prim.Native.Nat.{ℕ, suc, _≤_}
 use native.Mathlib.Omega.{arith}
 use lib.ListN.{length}
+use lib.Dec.{eqb}
+use borrow.Author.Tests.{eq-eqb, eqb-true}
 use Rattle.linear.specs.Order.{Ordered}
 use Rattle.linear.specs.Select.{anyOf, only, firstOfEach, Once}
 use Rattle.linear.specs.laws.Span.{mem-cons}
@@ -63,6 +66,22 @@ anyOf-yes {A} p (y ∷ l) e = go (p y) refl e (anyOf-yes p l)
         → (x : A) × List·Memᴰ x (y ∷ l) × (p x ≡ true)
     go true q e ih = (y, List·Memᴰ·head refl, q)
     go false q e ih = let r = ih e in (r .0, List·Memᴰ·tail (r .1), r .2)
+
+-- a number that stands in a list passes the test for it, and what passes stands there
+pub stands : (x : ℕ) (l : List ℕ) → List·Memᴰ x l → anyOf (eqb x) l ≡ true
+stands x l m = anyOf-here (eqb x) l x m (eq-eqb x x refl)
+
+pub stood : (x : ℕ) (l : List ℕ) → anyOf (eqb x) l ≡ true → List·Memᴰ x l
+stood x l e = let r = anyOf-yes (eqb x) l e in Memᴰ·cast (eqb-true x (r .0) (r .2)) (r .1)
+
+-- so the test is the same for lists with the same members
+pub stands-same : (l m : List ℕ) → ((x : ℕ) → List·Memᴰ x l ↔ List·Memᴰ x m) → (x : ℕ) → anyOf (eqb x) l ≡ anyOf (eqb x) m
+stands-same l m h x = go (anyOf (eqb x) l) refl (anyOf (eqb x) m) refl
+  where
+    go : (a : Bool) → anyOf (eqb x) l ≡ a → (b : Bool) → anyOf (eqb x) m ≡ b → a ≡ b
+    go true p b q = sym (stands x m (h x .0 (stood x l p))) ∙ q
+    go false p true q = sym p ∙ stands x l (h x .1 (stood x m q))
+    go false p false q = refl
 
 pub only-append : {A : Type 0} (q : A → Bool) (xs ys : List A) → only q (xs ++ ys) ≡ only q xs ++ only q ys
 unfolding only

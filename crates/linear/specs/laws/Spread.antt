@@ -4,6 +4,7 @@
 --   spread-leaf                  no number is missing: the formula
 --   spread-end, spread-skip, spread-down   no number is left; one is passed; one is taken
 --   inner-down                   a generator that is not passed makes one dimension more
+--   full-is                      where no dimension is missing the basis is the space
 --   later-in, later-out          the generators from one number on
 --   completes-down               taking a generator that is not passed loses nothing
 --   completes-on                 nor does passing one
@@ -197,7 +198,7 @@ module _ (S : Space) (gens W : List (S .Vec)) (ρ : Reduced S W) where
         size = omega (arith, ne, I .size, insert-length-new S C (gen i) (λ z. a .1 (member S C (I .reduced) (gen i) .1 z)));
       }
 
-  full-is : (C : List Vec) → Inner S W C 0 → C ≡ W
+  pub full-is : (C : List Vec) → Inner S W C 0 → C ≡ W
   full-is C I = unique S C W (I .reduced) ρ (I .within) (same-size S W C ρ (I .within) (let d : dim S C ≡ length C = own in omega (arith, d, I .size)))
     where
       own : dim S C ≡ length C

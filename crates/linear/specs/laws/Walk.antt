@@ -20,11 +20,11 @@ use Rattle.linear.specs.Order.{Rising}
 use Rattle.linear.specs.Entry.{generatorsIn, generator, chosen, space, fits, entries}
 use Rattle.linear.specs.Walk.{Next, spans, walk, Steps}
 use Rattle.linear.specs.laws.Space.{scale-nul}
-use Rattle.linear.specs.laws.Span.{mem-cons, span-mem}
+use Rattle.linear.specs.laws.Span.{span-mem}
 use Rattle.linear.specs.laws.Reduce.{member}
 use Rattle.linear.specs.laws.Insert.{insert-reduced, inserts-span, basisOf-reduced}
 use Rattle.linear.specs.laws.Order.{RisingList, rising-from}
-use Rattle.linear.specs.laws.Entry.{space-reduced}
+use Rattle.linear.specs.laws.Entry.{mem-chosen, space-reduced}
 use Rattle.linear.specs.Extension.{extension}
 use Rattle.linear.specs.laws.Extension.{prune, space-append}
 use Rattle.linear.specs.laws.Pruned.{pruned, pruned-is, canonical, canonical-listed, entries-canonical, listed-new, sameNumbers, sameNumbers-refl}
@@ -131,17 +131,11 @@ module _ (S : Space) (gens targets : List (S .Vec)) (stop : List (S .Vec) → �
   abbrev st : List ℕ → ℕ → Bool
   st p i = stop (spc p) i
 
-  mem-chosen : (p : List ℕ) (j : ℕ) → List·Memᴰ j p → List·Memᴰ (generator S gens j) (chosen S gens p)
-  unfolding chosen
-  mem-chosen [] = λ j m. absurd (List·Memᴰ·not-nil m)
-  mem-chosen (e ∷ p) = mem-cons {P = λ j. List·Memᴰ (generator S gens j) (generator S gens e ∷ chosen S gens p)} (List·Memᴰ·head refl)
-      (λ j m. List·Memᴰ·tail (mem-chosen p j m))
-
   taken-in : (p : List ℕ) (j : ℕ) → List·Memᴰ j p → reduce S (spc p) (generator S gens j) ≡ nul
   taken-in p j m =
       member S (spc p) (space-reduced S gens targets p) (generator S gens j) .0
       (unfold space in inserts-span S (chosen S gens p) (basisOf S targets) (generator S gens j) .1 (span-mem S (Memᴰ·append-left (basisOf S targets)
-      (mem-chosen p j m))))
+      (mem-chosen S gens p j m))))
 
   -- is j among the numbers
   decIn : (j : ℕ) (p : List ℕ) → Dec (List·Memᴰ j p)

@@ -6,6 +6,7 @@ use mathlib.Core.Path.{_≡_, refl}
 use mathlib.Core.List.{[], _∷_, _++_}
 use Rattle.linear.specs.Bit.{bit, digitsOf, top}
 use Rattle.linear.specs.Basis.{clear, reduce, norm, place, insert, inserts, basisOf, dim}
+use Rattle.linear.specs.Coefficients.{coefficient, coefficients}
 use Rattle.linear.specs.Order.{risingLists}
 use Rattle.linear.specs.Select.{anyOf, only, firstOfEach}
 use Rattle.linear.specs.Formulae.{formulae, leastFrom, missed, fewest}
@@ -18,7 +19,7 @@ use Rattle.maps.specs.Target.{pairFor, targetForm}
 use Rattle.maps.specs.Generators.{generatorCount, firstMask, secondMask, generatorForm, listOf, generatorForms, countOf}
 use Rattle.problems.specs.Problem.{targetForms, mapped, shaped, posed}
 use Rattle.catalogue.specs.listing.Listing.{records, flat, fitting}
-use Rattle.bases.specs.rows.Rows.{rowOf}
+use Rattle.bases.specs.rows.Rows.{maskOf, rowOf}
 use Rattle.first_formula.specs.Choice.{formulaRecord}
 use Rattle.rank.specs.fewest.Fewest.{ranking}
 use Rattle.catalogue.specs.Catalogue.{entryListing, catalogueOf, catalogue}
@@ -62,7 +63,7 @@ pub worked-rank : rankProgram (107 ∷ 105 ∷ 110 ∷ 100 ∷ 44 ∷ 112 ∷ 44
     ++ (48 ∷ 32 ∷ 52 ∷ 32 ∷ 56 ∷ 44 ∷ 49 ∷ 32 ∷ 55 ∷ 32 ∷ 50 ∷ 10 ∷ [])
 unfolding bit digitsOf top clear reduce norm place insert inserts basisOf dim risingLists anyOf only firstOfEach sameVec sameBasis inside generator
     chosen generatorsIn fits space entries kindNumbered within polySizes wide zeroIn formOf productForm pairFor targetForm generatorCount firstMask
-    secondMask generatorForm listOf generatorForms countOf targetForms mapped shaped posed formulae leastFrom missed fewest rowOf formulaRecord ranking
-    rankFor rank numeralText sizesText spacedText innerText listsText rankHead rankText cut field nameLine digits numeral countFields headLine headLines ended mapLines
-    settled posedLines posedFile rankReply posedInput inputFile problemProgram
+    secondMask generatorForm listOf generatorForms countOf targetForms mapped shaped posed formulae leastFrom missed fewest coefficient coefficients
+    maskOf rowOf formulaRecord ranking rankFor rank numeralText sizesText spacedText innerText listsText rankHead rankText cut field nameLine digits
+    numeral countFields headLine headLines ended mapLines settled posedLines posedFile rankReply posedInput inputFile problemProgram
 worked-rank = refl

@@ -24,7 +24,6 @@ use mathlib.Core.Bool.{false}
 use mathlib.Core.Option.{none, some}
 use Rattle.linear.specs.Basis.{basisOf, dim}
 use Rattle.linear.specs.Entry.{space}
-use Rattle.linear.specs.Extension.{extension}
 use Rattle.bases.specs.Basis.{Valid, Holds}
 use Rattle.bases.specs.declared.Basis.{Basis}
 use Rattle.rank.specs.declared.fewest.Least.{Least as Answered}
@@ -94,7 +93,7 @@ module _ (gens targets : List ℕ) where
     pub least : leastFrom word gens targets 7 (dim word targets) ≡ some entry
     pub rows : w ≡ space word gens targets entry
     pub all : missed word gens targets ≡ false
-    pub few : length (extension word gens [] w) ≤ 64
+    pub small : length gens ≤ mostGenerators
 
 -- the entries are those of the targets' space: any targets that span it have them
 abbrev pub LeastFrom : List ℕ → Basis → Answered → List ℕ → Type 0

@@ -1,14 +1,15 @@
 -- What is asked to keep a formula.
---   FormulaKeeping c t limit out == a choice with room, and counts in range
+--   FormulaKeeping c targets t limit out == a choice with room that solves the targets, and counts in range
 -- Assumes nothing.
 use mathlib.Core.List.{List}
 use Prim.Native.Nat.{ℕ}
 use Rattle.first_formula.specs.declared.Choice.{Choice}
-use Rattle.first_formula.specs.Choice.{Whole}
+use Rattle.first_formula.specs.Choice.{Whole, Solves, formsOf}
 use Rattle.records.specs.declared.Tally.{Tally}
 use Rattle.records.specs.Records.{Sane}
 use Rattle.records.specs.Keep.{stateOf}
 
-pub record FormulaKeeping (c : Choice) (t : Tally) (limit : ℕ) (out : List ℕ) : Type 0 where
+pub record FormulaKeeping (c : Choice) (targets : List ℕ) (t : Tally) (limit : ℕ) (out : List ℕ) : Type 0 where
   pub whole : Whole c
+  pub solves : Solves (formsOf c) targets
   pub sane : Sane limit (stateOf t out)

@@ -11,6 +11,7 @@ use mathlib.Core.Option.{Option, none, some}
 use Prim.Native.Nat.{ℕ}
 use Rattle.linear.specs.Bit.{bit, digitsOf, top}
 use Rattle.linear.specs.Basis.{clear, reduce, norm, place, insert, inserts, basisOf, dim}
+use Rattle.linear.specs.Coefficients.{coefficient, coefficients}
 use Rattle.linear.specs.Order.{risingLists}
 use Rattle.linear.specs.Select.{anyOf, only, firstOfEach}
 use Rattle.linear.specs.Entry.{sameVec, sameBasis, inside, generator, chosen, generatorsIn, fits, space, entries}
@@ -26,7 +27,7 @@ use Rattle.maps.specs.Target.{pairFor, targetForm}
 use Rattle.maps.specs.Generators.{generatorCount, firstMask, secondMask, generatorForm, listOf, generatorForms, countOf}
 use Rattle.words.specs.lists.Lists.{repeats}
 use Rattle.problems.specs.Problem.{targetForms, listed, mapped, shaped, posed}
-use Rattle.bases.specs.rows.Rows.{rowOf}
+use Rattle.bases.specs.rows.Rows.{maskOf, rowOf}
 use Rattle.first_formula.specs.Choice.{formulaRecord}
 use Rattle.catalogue.specs.listing.Listing.{records, flat, fitting}
 use Rattle.rank.specs.fewest.Fewest.{Ranking, is, above, beyond, ranking}
@@ -125,15 +126,15 @@ held-ranks : LineHolds far × LineHolds nothing × LineHolds one
 unfolding bit digitsOf top clear reduce norm place insert inserts basisOf dim risingLists anyOf only firstOfEach sameVec sameBasis inside generator
     chosen generatorsIn fits space entries formulae leastFrom missed fewest kindNumbered within polySizes listSizes wide zeroIn formOf
     productForm pairFor targetForm generatorCount firstMask secondMask generatorForm listOf generatorForms countOf targetForms repeats listed
-    mapped shaped posed rowOf formulaRecord ranking rankFor rank
+    mapped shaped posed coefficient coefficients maskOf rowOf formulaRecord ranking rankFor rank
 held-ranks = (refl, refl, refl)
 
 -- The lines of formulae
 held-formulae : LineHolds karatsuba × LineHolds listFormulae
 unfolding bit digitsOf top clear reduce norm place insert inserts basisOf dim risingLists anyOf only sameVec sameBasis inside generator chosen
     generatorsIn fits formulae kindNumbered within polySizes listSizes wide zeroIn formOf productForm pairFor targetForm generatorCount firstMask
-    secondMask generatorForm listOf generatorForms countOf targetForms repeats listed mapped shaped posed rowOf formulaRecord flat fitting isEntry
-    space.formulaeListing formulaeFor formulaeOf
+    secondMask generatorForm listOf generatorForms countOf targetForms repeats listed mapped shaped posed coefficient coefficients maskOf rowOf
+    formulaRecord flat fitting isEntry space.formulaeListing formulaeFor formulaeOf
 held-formulae = (refl, refl)
 
 pub worked : (l : WorkedLine) → List·Memᴰ l table → LineHolds l

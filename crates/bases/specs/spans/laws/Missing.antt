@@ -5,7 +5,7 @@ use mathlib.Core.Path.{_≡_, refl, sym, ap, _∙_}
 use mathlib.Core.Logic.{_≢_}
 use mathlib.Core.Bool.{Bool, true, false, not, _&&_, _||_}
 use mathlib.Core.List.{List}
-use Prim.Native.Nat.{ℕ, suc, _+_, _<_, _≤_}
+use Prim.Native.Nat.{ℕ, zero, suc, _+_, _<_, _≤_}
 use native.Mathlib.Omega.{arith}
 use lib.ListN.{length, getD, drop, drop-of-length-le}
 use lib.Seq.{drop-cons}
@@ -41,16 +41,20 @@ module _ (B targets : List ℕ) where
   missing-end i M l = M .is ∙ ap (anyOf out) (drop-of-length-le targets l)
 
 -- ---- membership by what is left
-pub left-out : (W C : List ℕ) (g r : ℕ) → r ≡ reduce word W g → r ≢ 0 → false ≡ (inside word W g && not (inside word C g))
-left-out W C g r e n = go (inside word W g) refl
+pub left-none : (W : List ℕ) (g r : ℕ) → r ≡ reduce word W g → r ≡ 0 → inside word W g ≡ true
+unfolding inside
+left-none W g r e z = ap isZero (sym e ∙ z)
+
+pub left-some : (W : List ℕ) (g r : ℕ) → r ≡ reduce word W g → r ≢ 0 → inside word W g ≡ false
+unfolding inside
+left-some W g r e n = ap isZero (sym e) ∙ some r n
   where
-    go : (b : Bool) → inside word W g ≡ b → false ≡ (b && not (inside word C g))
-    go true q = absurd (n (e ∙ isNul-is q))
-      where
-        isNul-is : inside word W g ≡ true → reduce word W g ≡ 0
-        isNul-is q = unfold inside in word .isNul-yes (reduce word W g) q
-    go false q = refl
+    some : (x : ℕ) → x ≢ 0 → isZero x ≡ false
+    some zero n = absurd (n refl)
+    some (suc x) n = refl
+
+pub left-out : (W C : List ℕ) (g r : ℕ) → r ≡ reduce word W g → r ≢ 0 → false ≡ (inside word W g && not (inside word C g))
+left-out W C g r e n = sym (ap (λ (b : Bool). b && not (inside word C g)) (left-some W g r e n))
 
 pub left-in : (W C : List ℕ) (g r : ℕ) (t : Bool) → r ≡ reduce word W g → r ≡ 0 → t ≡ inside word C g → not t ≡ (inside word W g && not (inside word C g))
-unfolding inside
-left-in W C g r t e z f = ap not f ∙ sym (ap (λ (x : ℕ). isZero x && not (isZero (reduce word C g))) (sym e ∙ z))
+left-in W C g r t e z f = ap not f ∙ sym (ap (λ (b : Bool). b && not (inside word C g)) (left-none W g r e z))

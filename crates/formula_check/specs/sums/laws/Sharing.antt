@@ -9,7 +9,7 @@ use mathlib.Core.Path.{_≡_, refl, sym, ap, ap₂, _∙_}
 use mathlib.Core.Logic.{_≢_, _↔_, Iff·symm, Iff·trans}
 use mathlib.Core.Bool.{Bool, true, false, cond, false≢true}
 use mathlib.Core.List.{List, [], _∷_, List·Memᴰ, List·Memᴰ·head, List·Memᴰ·tail, Memᴰ·cast}
-use mathlib.Core.List.{List·Permᴰ, List·Permᴰ·nil, List·Permᴰ·cons, List·Permᴰ·swap, List·Permᴰ·trans, Permᴰ·symm}
+use mathlib.Core.List.{List·Permᴰ, Permᴰ·symm}
 use Prim.Native.Nat.{ℕ, zero, suc, _+_, _-_, _<_, _≤_}
 use native.Mathlib.Nat.{le-antisymm}
 use native.Mathlib.Omega.{arith}
@@ -18,10 +18,10 @@ use lib.Dec.{eqb}
 use borrow.Author.Tests.{eqb-false}
 use Rattle.linear.specs.Select.{anyOf, Once}
 use Rattle.linear.specs.laws.Span.{mem-cons}
-use Rattle.linear.specs.laws.Select.{anyOf-no}
+use Rattle.linear.specs.laws.Select.{anyOf-no, stands, stood}
+use Rattle.linear.specs.laws.Permuted.{perm-mem}
 use Rattle.linear.specs.laws.Order.{mem-index, mem-getD}
 use Rattle.words.specs.laws.Scan.{next}
-use Rattle.words.specs.lists.laws.Standing.{stands, stood}
 use Rattle.forms.specs.Weight.{weight}
 use Rattle.formula_check.specs.Formula.{adders, unsharedAdders}
 use Rattle.formula_check.specs.sums.Sums.{addersOf, distinct, sideAdders}
@@ -168,15 +168,6 @@ adders-equal xs ys rows =
     )
 
 -- a list in another order has the same masks
-perm-mem : {x : ℕ} {l m : List ℕ} → List·Permᴰ l m → List·Memᴰ x l → List·Memᴰ x m
-perm-mem List·Permᴰ·nil k = k
-perm-mem (List·Permᴰ·cons e d) (List·Memᴰ·head p) = List·Memᴰ·head (p ∙ e)
-perm-mem (List·Permᴰ·cons e d) (List·Memᴰ·tail k) = List·Memᴰ·tail (perm-mem d k)
-perm-mem (List·Permᴰ·swap e f) (List·Memᴰ·head p) = List·Memᴰ·tail (List·Memᴰ·head (p ∙ e))
-perm-mem (List·Permᴰ·swap e f) (List·Memᴰ·tail (List·Memᴰ·head p)) = List·Memᴰ·head (p ∙ f)
-perm-mem (List·Permᴰ·swap e f) (List·Memᴰ·tail (List·Memᴰ·tail k)) = List·Memᴰ·tail (List·Memᴰ·tail k)
-perm-mem (List·Permᴰ·trans c d) k = perm-mem d (perm-mem c k)
-
 perm-masks : {xs ys : List ℕ} → List·Permᴰ xs ys → SameMasks xs ys
 perm-masks d x = (perm-mem d, perm-mem (Permᴰ·symm d))
 

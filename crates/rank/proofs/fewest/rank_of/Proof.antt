@@ -1,11 +1,9 @@
 -- `rank::fewest::rank_of` meets its contract. Assumes nothing.
 use native.Mathlib.Omega.{arith}
 use borrow.Author.Needs.{needs}
-use mathlib.Core.Path.{_≡_, refl, sym, ap, _∙_}
-use mathlib.Core.Bool.{false}
-use Prim.Native.Nat.{_-_, _≤_}
+use mathlib.Core.Path.{_≡_, sym, ap, _∙_}
 use Rattle.kinds.specs.Refusal.{Answer}
-use Rattle.rank.specs.fewest.Fewest.{Ranking, lentRanking, Here}
+use Rattle.rank.specs.fewest.Fewest.{Ranking, lentRanking}
 use Rattle.linear.specs.Formulae.{missed}
 use Rattle.linear.specs.Word.{word}
 use Rattle.bases.specs.Basis.{based-dim}
@@ -41,7 +39,6 @@ returns-2 c =
 finish-requires : tie.Need-finish-requires
 finish-requires c κs =
     let far = c .before .before .before .before .before .before .before .before .before .before .before .before in
-    let basis-of = c .before .before .before .before .before .before .before .before .before .before .before .basis-of in
     let m = c .before .before .before .before .before .before .before .before .before .before in
     let if1 = c .before .before .before .before .before .before .before .before .before .if1 in
     let l = c .before .before .before .before .before .before .before .least-entry in
@@ -49,8 +46,8 @@ finish-requires c κs =
     let pre = far .before .before .before .pre in
     let k = c .before .before .before .before .k in
     let H = found-here (a .gens .now) (a .targets .now) (a .b .len) (l .result) (k .given .0 .0) _ (l .ensures (a .targets .now) (pre .1)) (k .given .1) in
-    finishing (a .gens .now) (a .targets .now) (a .b .len) (k .given .0 .0) _ _ (basis-of .result) H (based-dim (a .targets .now) (a .b) (pre .1))
-    (missed-as m ∙ if1 .left) (basis-of .ensures)
+    finishing (a .gens .now) (a .targets .now) (a .b .len) (k .given .0 .0) _ _ H (based-dim (a .targets .now) (a .b) (pre .1))
+    (missed-as m ∙ if1 .left) (pre .0)
     (first-rows (a .b .len) (k .given .0 .0) _ _ (c .before .rows .ensures) (H .from) (omega (arith, H .near, H .from, H .room, pre .1 .valid .room)))
 
 pub rank-of-spec : {M : Type 1} → statement M

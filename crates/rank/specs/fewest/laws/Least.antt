@@ -1,7 +1,7 @@
 -- The least number of dimensions with an entry, and its first formula.
 --   Looking    == no number of dimensions below k has an entry, whatever targets have the basis b
 --   looking-start, looking-next, looking-found, looking-none   the loop of `least_entry`
---   finishing, too-short, finished, says-above, says-beyond    what follows
+--   finishing, too-short, solves, finished, says-above, says-beyond    what follows
 -- Assumes nothing.
 use mathlib.Core.Path.{_≡_, refl, sym, ap, ap₂, _∙_, subst}
 use mathlib.Core.Logic.{_≢_}
@@ -17,26 +17,24 @@ use lib.Dec.{ltb}
 use borrow.Author.Tests.{lt-ltb, le-ltb}
 use Rattle.records.specs.lookup.Lookup.{lookup}
 use Rattle.records.specs.lookup.laws.Lookup.{record-parts}
+use Rattle.kinds.specs.Limits.{mostGenerators}
 use Rattle.kinds.specs.Refusal.{refused, accepted, refuse}
 use Rattle.words.specs.Buffers.{filled}
 use Rattle.linear.specs.Basis.{basisOf, dim}
-use Rattle.linear.specs.Entry.{inside, Solution, space, entries}
+use Rattle.linear.specs.Entry.{inside, chosen, Solution, space, entries}
 use Rattle.linear.specs.Select.{anyOf}
 use Rattle.linear.specs.Formulae.{first, orElse, formula, leastFrom, missed, fewest}
 use Rattle.linear.specs.Word.{word}
 use Rattle.linear.specs.laws.Entry.{entries-sound}
 use Rattle.linear.specs.Extension.{extension}
-use Rattle.linear.specs.laws.Extension.{extension-length}
-use Rattle.linear.specs.laws.Rank.{solution-within}
-use Rattle.linear.specs.laws.Formulae.{first-some, free}
-use Rattle.linear.specs.laws.Fewest.{least-some, fewest-entry, fewest-none, fewest-missed}
+use Rattle.linear.specs.laws.Fewest.{fewest-formula, fewest-entry, fewest-none, fewest-missed}
 use Rattle.bases.specs.declared.Basis.{Basis}
-use Rattle.bases.specs.Basis.{rowsOf, Valid, Holds, rows-length, based-dim}
+use Rattle.bases.specs.Basis.{rowsOf, Valid, Holds, based-dim}
 use Rattle.catalogue.specs.declared.listing.Listing.{Listing}
 use Rattle.catalogue.specs.listing.Listing.{records, flat, fitting, Listed, ListedFrom}
 use Rattle.catalogue.specs.listing.laws.Listing.{record-length}
 use Rattle.first_formula.specs.declared.Choice.{Choice}
-use Rattle.first_formula.specs.Choice.{numbersOf, formsOf, Chose, recordOf, chose-record, formulaRecord}
+use Rattle.first_formula.specs.Choice.{numbersOf, formsOf, Chose, Solves, recordOf, chose-record, formulaRecord}
 use Rattle.first_formula.specs.laws.Writing.{numbers-length, written-first}
 use Rattle.bases.specs.rows.Rows.{rowOf}
 use Rattle.rank.specs.declared.fewest.Least.{Least as Answered}
@@ -137,43 +135,28 @@ module _ (gens targets : List ℕ) where
   nowhere ell k h = ap (λ (n : ℕ). leastFrom word gens targets n k) (let e : ell + 7 - k ≡ 0 = omega arith in e) ∙ (unfold leastFrom in refl)
 
   -- ---- finishing
-  -- at the first entry of the least number of dimensions
-  pub entry-solves : (es : List ℕ) → leastFrom word gens targets 7 (dim word targets) ≡ some es → (k : ℕ) × Solution word gens targets k (space word gens targets es)
-  entry-solves es e =
-      let L = least-some word gens targets 7 (dim word targets) es e in
-      let r = first-some (entries word gens targets (L .dims)) es (L .is) in
-      (L .dims, entries-sound word gens targets (L .dims) es (subst (List·Memᴰ es) (sym (r .1)) (List·Memᴰ·head refl)))
-
-  pub finishing : (ell k : ℕ) (buffer w : List ℕ) (b : Basis) → Here gens targets ell k buffer → ell ≡ dim word targets → missed word gens targets ≡ false → Holds (basisOf word gens) b → w ≡ take k (drop (k - ell) buffer)
-      → Finishing gens targets w
-  finishing ell k buffer w b H d q B e =
+  pub finishing : (ell k : ℕ) (buffer w : List ℕ) → Here gens targets ell k buffer → ell ≡ dim word targets → missed word gens targets ≡ false
+      → length gens ≤ mostGenerators → w ≡ take k (drop (k - ell) buffer) → Finishing gens targets w
+  finishing ell k buffer w H d q n e =
       record {
         entry = H .entry;
-        least = l;
+        least = ap (leastFrom word gens targets 7) (sym d) ∙ H .least;
         rows = e ∙ H .rows;
         all = q;
-        few = subst (λ (x : List ℕ). length (extension word gens [] x) ≤ 64) (sym (e ∙ H .rows)) short;
+        small = n;
       }
-    where
-      l : leastFrom word gens targets 7 (dim word targets) ≡ some (H .entry)
-      l = ap (leastFrom word gens targets 7) (sym d) ∙ H .least
-
-      s : (k : ℕ) × Solution word gens targets k (space word gens targets (H .entry))
-      s = entry-solves (H .entry) l
-
-      short : length (extension word gens [] (space word gens targets (H .entry))) ≤ 64
-      short = unfold dim in
-          let a = extension-length word gens [] (s .0) (space word gens targets (H .entry)) (free word gens targets (s .0) (space word gens targets (H .entry)) (s .1)) in
-          let c = solution-within word gens targets (s .0) (space word gens targets (H .entry)) (s .1) in
-          let n = rows-length b (B .valid) in
-          let g = ap length (B .is) in
-          let r = B .valid .room in
-          omega arith
 
   module _ (w old : List ℕ) (F : Finishing gens targets w) (c : Choice) (C : Chose gens (extension word gens [] w) c) where
     said : fewest word gens targets ≡ formula (numbersOf c)
     said =
         fewest-entry word gens targets (F .entry) (F .all) (F .least) ∙ ap (λ (x : List ℕ). formula (extension word gens [] x)) (sym (F .rows)) ∙ ap formula (sym (C .numbers))
+
+    -- what the writing of the record asks
+    pub solves : Solves (formsOf c) targets
+    solves =
+        let R = fewest-formula word gens targets (numbersOf c) said in
+        subst (λ (xs : List ℕ). Solves xs targets) (ap (chosen word gens) (C .numbers) ∙ sym (C .forms))
+        (record { independent = R .independent; computes = R .computes })
 
     answer : ranking gens targets old ≡ refuse 9 (ltb (length old) (length (numbersOf c) + length targets)) (accepted (is (length (numbersOf c)) (filled (formulaRecord gens targets (numbersOf c)) old)))
     answer = unfold ranking in ap (written gens targets old) said

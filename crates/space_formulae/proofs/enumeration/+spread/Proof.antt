@@ -19,7 +19,7 @@ use Rattle.records.specs.Records.{run}
 use Rattle.records.specs.Keep.{stateOf}
 use Rattle.records.specs.declared.Tally.{Tally}
 use Rattle.space_formulae.specs.enumeration.Spread.{formulaeFrom, Branch}
-use Rattle.space_formulae.proofs.Going.{Going, going-leaf, going-full, going-stop, going-end, going-skip, node-down, going-down}
+use Rattle.space_formulae.proofs.Going.{Going, node-leaf, going-leaf, going-full, going-stop, going-end, going-skip, node-down, going-down}
 use borrow.Fn.Kinds.{In}
 use borrow.Fn.PlainCycle.{Measures, is, falls, and}
 use Rattle.space_formulae.proofs.enumeration.spread.Reads as spread
@@ -83,11 +83,16 @@ one-fits l k = record { fits = omega arith }
 eight-fits : {j n : ℕ} → j < n → n * 8 < 2 ^ 63 → Fits w64 (j * 8)
 eight-fits l k = record { fits = omega arith }
 
-room-more : {gens w : List ℕ} {missing : ℕ} {b : Basis} {c : Choice} {t : Tally} {limit : ℕ} {out : List ℕ} → Branch gens w missing b c t limit out → missing ≢ 0 → c .len < 64
-room-more N n = omega (arith, N .room)
+room-more : {gens w targets : List ℕ} {missing : ℕ} {b : Basis} {c : Choice} {t : Tally} {limit : ℕ} {out : List ℕ}
+    → Branch gens w targets missing b c t limit out → missing ≢ 0 → c .len < 64
+room-more N n = omega (arith, N .number, N .room)
 
 spread-keep-requires : (t : ℕ) → spread-lts.Need-keep-requires (claims t) (spread-at t) spread.Post spread-Inv-loop spread-μ-loop
-spread-keep-requires t c κs = record { whole = c .before .before .before .before .before .before .pre .1 .chose .whole; sane = c .before .before .before .before .before .before .pre .1 .sane }
+spread-keep-requires t c κs =
+    let args = c .before .before .before .before .before .before .args in
+    let pre = c .before .before .before .before .before .before .pre in
+    node-leaf (args .gens .now) (args .w .now) (args .targets .now) (args .missing) (args .b) (args .c) (args .t) (args .limit) (args .out .now)
+    (pre .1) (c .before .if1 .taken)
 
 spread-same-length : (t : ℕ) → spread-lts.Need-same-length (claims t) (spread-at t) spread.Post spread-Inv-loop spread-μ-loop
 spread-same-length t c = c .before .before .keep .kept .1 .1 .1 .1 .0

@@ -30,6 +30,7 @@ write-formula-requires c κs =
       pre .whole,
       kept-room (args .limit) (args .t) _ (args .out .now) (recordOf (args .c) (args .targets .now)) (count .result) l (count .ensures)
           (c .before .if1 .left),
+      pre .solves,
     )
 
 returns-2 : tie.Need-returns-2

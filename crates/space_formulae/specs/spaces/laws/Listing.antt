@@ -15,7 +15,7 @@ use lib.ListN.{length, take, drop, length-append, length-map, length-take}
 use lib.Seq.{take-take}
 use lib.Dec.{eqb}
 use borrow.Author.Tests.{eq-eqb, ne-eqb}
-use Rattle.linear.specs.Basis.{Reduced}
+use Rattle.linear.specs.Basis.{inserts, basisOf, Reduced}
 use Rattle.linear.specs.Entry.{chosen}
 use Rattle.linear.specs.Formulae.{formulae}
 use Rattle.linear.specs.Spread.{Inner}
@@ -78,17 +78,21 @@ module _ (gens targets rows old : List ℕ) (A : SpaceAccepted gens targets rows
   ρ : Reduced word rows
   ρ = A .entry .reduced
 
-  pub first-node : (c : Choice) → Whole c → c .len ≡ 0 → (limit : ℕ) → Branch gens rows (length rows) b c (record { found = 0; shown = 0; at = 0 }) limit old
-  unfolding chosen
+  pub first-node : (c : Choice) → Whole c → c .len ≡ 0 → (limit : ℕ)
+      → Branch gens rows targets (length rows) b c (record { found = 0; shown = 0; at = 0 }) limit old
+  unfolding chosen basisOf inserts
   first-node c W z limit =
       record {
         space = ρ;
+        computes = A .entry .holds;
         valid = B .valid;
         inner =
             subst (λ (X : List ℕ). Inner word rows X (length rows)) (sym (B .is))
             (record { reduced = tt; within = (λ v s. span-none word (span-nil word s)); size = omega arith });
         chose = record { whole = W; numbers = refl; forms = ap (λ (k : ℕ). take k (c .forms)) z ∙ sym (ap (λ (k : ℕ). chosen word gens (take k (c .numbers))) z) };
-        room = (let a = A .few in omega arith);
+        basis = ap (λ (k : ℕ). basisOf word (take k (c .forms))) z ∙ sym (B .is);
+        number = omega arith;
+        room = A .few;
         sane = record { limited = omega arith; fewer = omega arith; inside = omega arith };
       }
 

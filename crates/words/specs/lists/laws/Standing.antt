@@ -1,20 +1,22 @@
 -- What a turn of each loop does, over plain lists.
 --   stands-turn, stands-end     looking for a form from i on
 --   repeats-turn, repeats-end   looking for one that stands again
---   stands, stood               a member stands in a list, and what stands in it is a member
 --   stands-at, stands-where     a form stands in a list from some place on: a place of it is known, or is had
+--   repeats-perm                whatever the order, some form stands again or none does
 -- Assumes nothing.
-use mathlib.Core.Path.{_≡_, refl, sym, ap, _∙_}
+use mathlib.Core.Path.{_≡_, refl, sym, ap, ap₂, _∙_}
 use mathlib.Core.Bool.{Bool, true, false, _||_}
-use mathlib.Core.List.{List, List·Memᴰ, Memᴰ·cast}
+use mathlib.Core.List.{List, Memᴰ·cast, List·Permᴰ, List·Permᴰ·nil, List·Permᴰ·cons, List·Permᴰ·swap, List·Permᴰ·trans}
 use Prim.Native.Nat.{ℕ, _+_, _-_, _<_, _≤_}
 use native.Mathlib.Omega.{arith}
+use native.Mathlib.Decide.{ℕ-discrete}
 use lib.ListN.{length, getD, drop, length-drop}
 use lib.Seq.{getD-drop}
 use lib.Dec.{eqb}
-use borrow.Author.Tests.{eq-eqb, eqb-true}
+use borrow.Author.Tests.{eq-eqb, ne-eqb}
 use Rattle.linear.specs.Select.{anyOf}
-use Rattle.linear.specs.laws.Select.{anyOf-here, anyOf-yes}
+use Rattle.linear.specs.laws.Select.{stands, stood}
+use Rattle.linear.specs.laws.Permuted.{anyOf-perm}
 use Rattle.linear.specs.laws.Order.{mem-index, mem-getD}
 use Rattle.words.specs.laws.Scan.{turn, done}
 use Rattle.words.specs.lists.Lists.{repeats}
@@ -37,13 +39,7 @@ pub repeats-end : (xs : List ℕ) (i : ℕ) → length xs ≤ i → {S : Bool} �
 unfolding repeats
 repeats-end xs i h = done repeats xs i h refl
 
--- ---- a form in a list: the test, membership, and the number of a place
-pub stands : (x : ℕ) (l : List ℕ) → List·Memᴰ x l → anyOf (eqb x) l ≡ true
-stands x l m = anyOf-here (eqb x) l x m (eq-eqb x x refl)
-
-pub stood : (x : ℕ) (l : List ℕ) → anyOf (eqb x) l ≡ true → List·Memᴰ x l
-stood x l e = let r = anyOf-yes (eqb x) l e in Memᴰ·cast (eqb-true x (r .0) (r .2)) (r .1)
-
+-- ---- a form in a list: the test, and the number of a place
 pub stands-at : (x : ℕ) (xs : List ℕ) (from j : ℕ) → from ≤ j → j < length xs → getD xs j 0 ≡ x → anyOf (eqb x) (drop from xs) ≡ true
 stands-at x xs from j a b e =
     let l = length-drop from xs in
@@ -57,3 +53,27 @@ stands-where x xs from e =
     let r = mem-index 0 (stood x (drop from xs) e) in
     let h : r .0 < length (drop from xs) = r .1 in
     (from + r .0, omega arith, omega arith, sym (getD-drop from xs (r .0) 0) ∙ sym (r .2))
+
+-- ---- in another order
+eqb-swapped : (a b : ℕ) → eqb a b ≡ eqb b a
+eqb-swapped a b = go (ℕ-discrete a b)
+  where
+    go : Dec (a ≡ b) → eqb a b ≡ eqb b a
+    go (yes e) = eq-eqb a b e ∙ sym (eq-eqb b a (sym e))
+    go (no n) = ne-eqb a b n ∙ sym (ne-eqb b a (λ e. n (sym e)))
+
+crossed : (e x y r : Bool) → (e || x) || (y || r) ≡ (e || y) || (x || r)
+crossed true x y r = refl
+crossed false true true r = refl
+crossed false true false r = refl
+crossed false false y r = refl
+
+pub repeats-perm : {l m : List ℕ} → List·Permᴰ l m → repeats l ≡ repeats m
+unfolding repeats anyOf
+repeats-perm List·Permᴰ·nil = refl
+repeats-perm (List·Permᴰ·cons {b = b} {l₁ = l} e d) = ap₂ _||_ (ap (λ (x : ℕ). anyOf (eqb x) l) e ∙ anyOf-perm (eqb b) d) (repeats-perm d)
+repeats-perm (List·Permᴰ·swap {a′ = a} {b′ = b} {l = l} e f) =
+    ap₂ (λ (x y : ℕ). (eqb x y || anyOf (eqb x) l) || (anyOf (eqb y) l || repeats l)) e f
+    ∙ ap (λ (t : Bool). (t || anyOf (eqb b) l) || (anyOf (eqb a) l || repeats l)) (eqb-swapped b a)
+    ∙ crossed (eqb a b) (anyOf (eqb b) l) (anyOf (eqb a) l) (repeats l)
+repeats-perm (List·Permᴰ·trans c d) = repeats-perm c ∙ repeats-perm d
