@@ -9,13 +9,22 @@ in two ways:
     by completion  numbers taken one by one, each only where it is independent
                    of those taken and the later ones still complete the space
 
+So are the terms of a sum of selected generators:
+
+    by choice      the first in dictionary order of all independent sets that
+                   span the selection, and the only set out of it with that sum
+    by reduction   numbers taken one by one, ascending, each only where it is
+                   independent of those taken, with what each residue sums
+
     formulae.py < FILE        prints what the Formulae program prints
-    formulae.py --self-test   compares the two ways with each other, and checks
+    formulae.py --self-test   compares the ways with each other, and checks
                               what must hold of every answer
 """
 
+import functools
 import itertools
 import math
+import operator
 import random
 import sys
 
@@ -60,6 +69,34 @@ def of_space(generators, space):
     return (by_choice if few else by_completion)(generators, space)
 
 
+# The terms of a form as a sum of selected generators, ascending; None if it is no sum of them.
+
+def terms_by_choice(generators, selection, form):
+    rank = len(reduced(generators[j] for j in selection))
+    part = next(part for part in itertools.combinations(sorted(selection), rank) if len(reduced(generators[j] for j in part)) == rank)
+    found = [list(numbers) for n in range(rank + 1) for numbers in itertools.combinations(part, n)
+             if functools.reduce(operator.xor, (generators[j] for j in numbers), 0) == form]
+    assert len(found) <= 1
+    return found[0] if found else None
+
+
+def terms_by_reduction(generators, selection, form):
+    rows = []                                           # a residue, and the numbers that sum to it
+
+    def left(word, numbers):
+        for row, summed in rows:
+            if word >> row.bit_length() - 1 & 1:
+                word, numbers = word ^ row, numbers ^ summed
+        return word, numbers
+
+    for j in sorted(selection):
+        word, numbers = left(generators[j], frozenset([j]))
+        if word:
+            rows.append((word, numbers))
+    word, numbers = left(form, frozenset())
+    return None if word else sorted(numbers)
+
+
 # Replies.  A buffer is a list of words; it comes back as the call leaves it.
 
 def fitting_problem(kind, p, q, r, gs, ts, forms):
@@ -98,9 +135,16 @@ def selected(generators, selection):
     return reduced(generators[j] for j in selection)
 
 
-def is_sum(kind, p, q, r, gs, ts, selection, form):
+def is_sum(kind, p, q, r, gs, ts, selection, form, buffer):
+    """The numbers of the terms, or None, and the buffer."""
     generators, _ = fitting_problem(kind, p, q, r, gs, ts, [form])
-    return residue(selected(generators, selection), form) == 0
+    selected(generators, selection)
+    numbers = terms_by_reduction(generators, selection, form)
+    if numbers is None:
+        return None, buffer
+    if len(numbers) > len(buffer):
+        raise Refused(9)
+    return numbers, numbers + buffer[len(numbers):]
 
 
 def is_redundant(kind, p, q, r, gs, ts, selection, j):
@@ -158,7 +202,15 @@ def self_test():
                     assert (count, said) == ((len(listed), ALL) if w == len(listed) * size else (len(listed) - 1, MORE))
         selection = chance.sample(range(len(gs)), chance.randint(0, len(gs)))
         span, form = sums(gs[j] for j in selection), chance.randrange(2 ** p)
-        assert is_sum(b"list", p, len(gs), len(ts), gs, ts, selection, form) == (form in span)
+        numbers, after = is_sum(b"list", p, len(gs), len(ts), gs, ts, selection, form, [0] * len(gs))
+        assert (numbers is not None) == (form in span)
+        assert after == (numbers or []) + [0] * (len(gs) - len(numbers or []))
+        assert numbers == terms_by_choice(gs, selection, form) == terms_by_reduction(gs, sorted(selection), form)
+        products = sorted(selection)
+        if len(reduced(gs[j] for j in products)) == len(products):     # a formula's row is the mask of the terms
+            for form in span:
+                numbers = terms_by_choice(gs, selection, form)
+                assert rows([gs[j] for j in products], [form]) == [sum(1 << products.index(j) for j in numbers)]
         if set(ts) <= span:
             for j in selection:
                 assert is_redundant(b"list", p, len(gs), len(ts), gs, ts, selection, j) == (set(ts) <= sums(gs[i] for i in selection if i != j))

@@ -27,9 +27,10 @@ words, its digest stands for it:
 
     all N :..    more N :..    refused E :..    all N DIGEST
 
-Call 4 asks whether the form x is a sum of the selection o, and call 5 whether
-the product with the number x is redundant in it:
+Call 4 asks of which of the selection o the form x is the sum, in such a
+buffer, and call 5 whether the product with the number x is redundant in o:
 
+    yes N :..    no :..    refused E :..
     yes    no    refused E
 
 Call 6 turns the formula with k = x products, the masks g and t and the rows o.

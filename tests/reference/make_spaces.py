@@ -4,6 +4,7 @@ Where a call is made for a reply, the reply is written beside it and must agree
 with formulae.py.  The random lists come from a fixed seed.
 """
 
+import itertools
 import random
 import sys
 
@@ -39,10 +40,12 @@ def reply(call, number, p, q, r, w, x, gs, ts, others):
         if call == FORMULAE:
             listed, said, after = formulae.formulae(kind, p, q, r, gs, ts, others, before)
             return "%s %d" % (said, listed), shown(after)
-        ask = formulae.is_sum if call == SUM else formulae.is_redundant
-        return "yes" if ask(kind, p, q, r, gs, ts, others, x) else "no", ""
+        if call == SUM:
+            terms, after = formulae.is_sum(kind, p, q, r, gs, ts, others, x, before)
+            return "no" if terms is None else "yes %d" % len(terms), shown(after)
+        return "yes" if formulae.is_redundant(kind, p, q, r, gs, ts, others, x) else "no", ""
     except Refused as refusal:
-        return "refused %d" % refusal.args[0], shown(before) if call == FORMULAE else ""
+        return "refused %d" % refusal.args[0], "" if call == REDUNDANT else shown(before)
 
 
 def add(call, number, p, q, r, w, x, gs, ts, others, want=None):
@@ -63,8 +66,21 @@ def listed(p, gs, ts, rows, w, want=None):
     return add(FORMULAE, LIST, p, len(gs), len(ts), w, 0, gs, ts, rows, want)
 
 
-def chosen(call, p, gs, ts, selection, x, want=None):
-    return add(call, LIST, p, len(gs), len(ts), 0, x, gs, ts, selection, want)
+def chosen(call, p, gs, ts, selection, x, want=None, w=5):
+    return add(call, LIST, p, len(gs), len(ts), w if call == SUM else 0, x, gs, ts, selection, want)
+
+
+def shows(number, p, q, r, gs, ts, selection, form, terms):
+    """The terms in buffers with just enough room, more, and a word less; or a no, None."""
+    if terms is None:
+        for w in (0, 3):
+            add(SUM, number, p, q, r, w, form, gs, ts, selection, "no")
+        return
+    for w in (len(terms), len(terms) + 2):
+        add(SUM, number, p, q, r, w, form, gs, ts, selection, "yes %d" % len(terms))
+        assert replies[-1] == "yes %d%s\n" % (len(terms), shown(terms + [1000000] * (w - len(terms)))), replies[-1]
+    if terms:
+        add(SUM, number, p, q, r, len(terms) - 1, form, gs, ts, selection, "refused 9")
 
 
 def spaces(number, p, q, r, k):
@@ -180,6 +196,28 @@ def refusals():
             add(call, LIST, 2, len(gs), 1, 2, 3, gs, [1], [3] * 9, "refused 7")
             add(call, LIST, 2, len(gs), 1, 2, 4, gs, [1], [4], "refused 7" if call == REDUNDANT else "refused 6")
     add(SUM, POLY, 2, 2, 0, 0, 16, [], [], [9, 9], "refused 6")     # a form outside the width, before the selection
+    chosen(SUM, 2, [1, 2, 3], [3], [0, 0], 3, "refused 11", 0)      # 9 is judged last, on the very terms
+    chosen(SUM, 2, [1, 2, 3], [3], [7], 4, "refused 6", 0)
+    chosen(SUM, 2, [1, 1], [3], [0], 4, "refused 6", 0)
+    chosen(SUM, 2, [1, 1], [3], [7], 1, "refused 7", 0)
+
+
+def sums():
+    """Sums shown: the handed-in order plays no part, nor does a shorter sum outside the dictionary-first part."""
+    for selection, form, terms in (([2, 0, 1], 3, [0, 1]), ([2], 3, [2]), ([2, 1], 1, [1, 2]), ([2, 1], 3, [2]), ([0, 2], 2, [0, 2]), ([], 0, []),
+                                   ([], 1, None), ([2, 1, 0], 0, []), ([0], 2, None)):
+        shows(LIST, 2, 3, 1, [1, 2, 3], [3], selection, form, terms)
+    for selection, form, terms in ((range(9), 1, [0]), (range(9), 6, [1, 3]), (range(9), 8, [4]), (range(9), 15, [0, 1, 3, 4]), ([8, 4, 0], 6, [0, 4, 8]),
+                                   ([8, 5, 3, 2], 1, None), ([8, 5, 3, 2], 8, [3, 5])):
+        shows(POLY, 2, 2, 0, [], [], selection, form, terms)
+    gs = [1, 2, 4, 8, 3, 12, 15]
+    for selection in itertools.permutations((6, 4, 1, 0)):          # every order of one selection
+        for form, terms in ((15, [6]), (3, [0, 1]), (2, [1]), (13, [1, 6]), (12, [0, 1, 6]), (0, []), (8, None)):
+            shows(LIST, 4, len(gs), 1, gs, [15], selection, form, terms)
+    ones = [1 << i for i in range(64)]
+    shows(LIST, 64, 64, 1, ones, [1], range(63, -1, -1), HUGE, list(range(64)))
+    shows(LIST, 64, 65, 1, [HUGE] + ones, [1], range(65), HUGE, [0])
+    shows(LIST, 64, 65, 1, [HUGE] + ones, [1], range(64, -1, -1), 1 << 63, list(range(64)))
 
 
 def selections():
@@ -207,11 +245,11 @@ def selections():
             for j in list(selection)[:12] + [len(generators)]:
                 add(REDUNDANT, number, p, q, r, 0, j, [], [], selection)
             for form in targets + generators[-3:]:
-                add(SUM, number, p, q, r, 0, form, [], [], selection)
-    add(SUM, POLY, 6, 6, 0, 0, 2 ** 36 - 1, [], [], [3968, 0], "yes")
+                add(SUM, number, p, q, r, 8, form, [], [], selection)
+    add(SUM, POLY, 6, 6, 0, 1, 2 ** 36 - 1, [], [], [3968, 0], "yes 1")
     add(SUM, POLY, 6, 6, 0, 0, 2 ** 36 - 1, [], [], [3969, 0], "refused 11")
     add(SUM, POLY, 12, 1, 0, 0, 4095, [], [], [1 << i for i in range(11)], "no")
-    add(SUM, POLY, 12, 1, 0, 0, 4095, [], [], [(1 << i) - 1 for i in range(12)], "yes")
+    add(SUM, POLY, 12, 1, 0, 12, 4095, [], [], [(1 << i) - 1 for i in range(12)], "yes 12")
 
 
 def lists():
@@ -230,6 +268,6 @@ def lists():
 
 def made():
     """The lines of the calls and of the replies."""
-    for make in (worked, tables, large, damaged, refusals, selections, lists):
+    for make in (worked, tables, large, damaged, refusals, sums, selections, lists):
         make()
     return calls, replies

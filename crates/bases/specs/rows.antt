@@ -1,4 +1,5 @@
--- The rows of a formula, and its products reduced once.
+-- The rows of a formula, its products reduced once, and the terms of a sum.
 pub mod Rows
 pub mod Echelon
+pub mod Terms
 pub mod laws

@@ -12,8 +12,8 @@ mod spaces;
 mod turns;
 
 // A call by its number: 0 for Catalogue, 1 for Rank, with k; 2 for the look-up of an entry, with ell, k, shown and its number for the kind's number
-// and the sizes; 3 for the formulae of a space, 4 for a form that a selection sums to, 6 for the turning of a formula with k products, else for a product that
-// is redundant in a selection.
+// and the sizes; 3 for the formulae of a space, 4 for the terms of a form over a selection, 6 for the turning of a formula with k products, else for a
+// product that is redundant in a selection.
 struct Call {
     which: u64,
     number: u64,
@@ -46,7 +46,10 @@ fn call_on(call: Call, gs: &[u64], ts: &[u64], others: &[u64], out: &mut [u64]) 
             let said = space_formulae::formulae(number, p, q, r, gs, ts, others, out);
             spaces::print_listed(said, out);
         }
-        4 => spaces::print_said(selections::is_sum(number, p, q, r, gs, ts, others, asked)),
+        4 => {
+            let said = selections::is_sum(number, p, q, r, gs, ts, others, asked, out);
+            spaces::print_summed(said, out);
+        }
         _ => spaces::print_said(selections::is_redundant(number, p, q, r, gs, ts, others, asked)),
     }
 }

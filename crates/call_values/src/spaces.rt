@@ -1,9 +1,10 @@
-// What is said of a space's formulae, with the buffer that was lent for them, and of a selection.
+// What is said of a space's formulae and of a sum of selected generators, with the buffer that was lent for them, and of a selection.
 use super::numbers::print_next;
 use super::numbers::print_number;
 use super::numbers::print_words;
 use libc::STDOUT_FILENO;
 use selections::on_forms::Said;
+use selections::on_forms::Summed;
 use space_formulae::spaces::Listed;
 
 // One number for all words of a buffer and their order.
@@ -36,7 +37,19 @@ pub fn print_listed(said: Listed, out: &[u64]) {
     print_buffer(out);
 }
 
-// What is said of a selection.
+// What is said of a form and a selection, and the buffer.
+pub fn print_summed(said: Summed, out: &[u64]) {
+    match said {
+        Summed::Refused(e) => print_number(b"refused", e),
+        Summed::Yes(n) => print_number(b"yes", n as u64),
+        Summed::No => {
+            io::write_all(STDOUT_FILENO, b"no");
+        }
+    }
+    print_buffer(out);
+}
+
+// What is said of a selected product.
 pub fn print_said(said: Said) {
     match said {
         Said::Refused(e) => print_number(b"refused", e),

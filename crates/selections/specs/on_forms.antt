@@ -1,3 +1,4 @@
 -- Questions on a selection of a problem's generators.
 pub mod Selected
+pub mod Shown
 pub mod laws

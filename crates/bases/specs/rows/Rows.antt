@@ -6,7 +6,7 @@
 --   row-sum    the products that the row names sum to v, if v is a sum of products at all
 --   row-only   and no other row does, if the products are independent
 --   row-below  a row has as many bits as there are products
---   mask-bit    bit i of a mask is its digit i
+--   mask-bit   bit i of a mask is its digit i
 -- Assumes nothing.
 use mathlib.Core.Bool.{Bool, true, false}
 use mathlib.Core.List.{List, [], _∷_}

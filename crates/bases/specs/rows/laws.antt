@@ -1,4 +1,6 @@
--- The laws of rows, with their proofs.
+-- The laws of rows and terms, with their proofs.
 pub mod Rows
 pub mod Rest
 pub mod Echelon
+pub mod Named
+pub mod Terms

@@ -1,4 +1,6 @@
 -- The laws behind the questions on selections.
-pub mod Spanning
+pub mod Marking
+pub mod Naming
 pub mod Replies
 pub mod Numbers
+pub mod Fitting

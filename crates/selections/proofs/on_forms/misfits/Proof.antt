@@ -1,6 +1,6 @@
 -- `selections::on_forms::misfits` meets its contract. Assumes nothing.
 use borrow.Author.Needs.{needs}
-use Rattle.selections.specs.on_forms.laws.Spanning.{misfit-outside, misfit-twice}
+use Rattle.selections.specs.on_forms.laws.Marking.{misfit-outside, misfit-twice}
 use Rattle.selections.proofs.on_forms.misfits.Statement.{statement}
 use Rattle.selections.proofs.on_forms.misfits.Tie as tie
 use Rattle.selections.proofs.on_forms.misfits.Reads as reads

@@ -1,0 +1,2 @@
+-- Rows and terms.
+pub mod Theorems
