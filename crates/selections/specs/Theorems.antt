@@ -38,7 +38,7 @@ use Rattle.linear.specs.Word.{word}
 use Rattle.linear.specs.laws.Part.{part-rising, part-selected, part-independent, part-spans, part-first}
 use Rattle.linear.specs.laws.Select.{anyOf-no, no-anyOf, stood}
 use Rattle.bases.specs.rows.Rows.{rowOf}
-use Rattle.bases.specs.rows.Terms.{named, total, terms}
+use Rattle.bases.specs.rows.Terms.{named, sumOfForms, terms}
 use Rattle.bases.specs.rows.laws.Terms.{terms-rising, terms-part, terms-sum, terms-only, terms-few, row-terms, row-bit}
 use Rattle.selections.specs.on_forms.Selected.{misfit, without, summed, missedBy, redundantAnswer, seenSaid, saidNumbers}
 use Rattle.selections.specs.on_forms.Shown.{Summing, sumOf, noSum, shown, sumAnswer, seenSummed, summedNumbers}
@@ -62,8 +62,8 @@ pub record PartOf (gens sel es : List ℕ) : Type 0 where
 pub record TermsOf (gens es : List ℕ) (v : ℕ) (ts : List ℕ) : Type 0 where
   pub rising : Rising 0 (length gens) ts
   pub of-part : (e : ℕ) → List·Memᴰ e ts → List·Memᴰ e es
-  pub sums : total (chosen word gens ts) ≡ v
-  pub only : (us : List ℕ) → Rising 0 (length gens) us → ((e : ℕ) → List·Memᴰ e us → List·Memᴰ e es) → total (chosen word gens us) ≡ v → us ≡ ts
+  pub sums : sumOfForms (chosen word gens ts) ≡ v
+  pub only : (us : List ℕ) → Rising 0 (length gens) us → ((e : ℕ) → List·Memᴰ e us → List·Memᴰ e es) → sumOfForms (chosen word gens us) ≡ v → us ≡ ts
 
 -- a yes with so many terms in the buffer, and a no
 abbrev pub SumTold : (gens sel : List ℕ) (form : ℕ) (old : List ℕ) → Summing → Type 0

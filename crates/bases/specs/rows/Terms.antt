@@ -1,6 +1,6 @@
 -- The terms of a sum of selected generators, by their numbers.
 --   named es row k   == those of the numbers es that the row names; the first is numbered k
---   total xs         == the sum of all of xs
+--   sumOfForms xs    == the sum of all of xs
 --   terms gens sel v == the terms of v as a sum of the selected generators: of the part that is independent and spans them, the numbers that its row names
 -- Document 02: "The yes now carries them as menu numbers, ascending. Only the dictionary-first part that is independent and spans all of the selection may
 -- be used, so there is one such sum." The row is the one that a formula with the part's products has for v; so a formula's row is the mask of the terms.
@@ -25,9 +25,9 @@ unfoldable pub named : List ℕ → ℕ → ℕ → List ℕ
 named [] row k = []
 named (e ∷ es) row k = let r = named es row (suc k) in cond (bit row k) (e ∷ r) r
 
-unfoldable pub total : List ℕ → ℕ
-total [] = 0
-total (x ∷ xs) = bitXor x (total xs)
+unfoldable pub sumOfForms : List ℕ → ℕ
+sumOfForms [] = 0
+sumOfForms (x ∷ xs) = bitXor x (sumOfForms xs)
 
 unfoldable pub terms : (gens sel : List ℕ) → ℕ → List ℕ
 terms gens sel v = let B = part word gens sel in named B (rowOf (chosen word gens B) v) 0

@@ -28,21 +28,15 @@ loop-holds c =
     let args = c .before .before .before .before .before .before .args in
     writing-start (rowOf (args .products .now)) (args .targets .now) (args .out .now) (args .at)
 
--- ---- the rows and masks of the products
-module _ (c : tie.In-loop Inv-loop μ-loop) where
-  rows-fit : let e = c .before .before .before .before .echelon-of .result in
-      let n = length (c .before .before .before .before .before .before .before .before .args .products .now) in
-      length (take n (e .rows)) ≡ n
-  rows-fit =
-      let e = c .before .before .before .before .echelon-of in
-      rows-first (c .before .before .before .before .before .before .before .before .args .products .now) (e .result .rows) (e .result .masks) _ (e .ensures)
-
-  masks-fit : let e = c .before .before .before .before .echelon-of .result in
-      let n = length (c .before .before .before .before .before .before .before .before .args .products .now) in
-      length (take n (e .masks)) ≡ n
-  masks-fit =
-      let e = c .before .before .before .before .echelon-of in
-      masks-first (c .before .before .before .before .before .before .before .before .args .products .now) (e .result .rows) (e .result .masks) _ (e .ensures)
+-- as many rows and masks as products
+fit : (c : tie.In-loop Inv-loop μ-loop) →
+    let e = c .before .before .before .before .echelon-of .result in
+    let n = length (c .before .before .before .before .before .before .before .before .args .products .now) in
+    (length (take n (e .rows)) ≡ n) × (length (take n (e .masks)) ≡ n)
+fit c =
+    let e = c .before .before .before .before .echelon-of in
+    let xs = c .before .before .before .before .before .before .before .before .args .products .now in
+    (rows-first xs (e .result .rows) (e .result .masks) (length xs) (e .ensures), masks-first xs (e .result .rows) (e .result .masks) (length xs) (e .ensures))
 
 array-share-prefix-rows : tie.Need-array-share-prefix-rows Inv-loop μ-loop
 array-share-prefix-rows c = let e = c .before .before .before .before .echelon-of .ensures in omega (arith, e .whole, e .room)
@@ -85,6 +79,6 @@ returns c =
 pub put-rows-spec : {M : Type 1} → statement M
 put-rows-spec =
     tie.close
-    (tie.spec Inv-loop μ-loop echelon-of-requires loop-holds array-share-prefix-rows (λ c. sym (rows-fit (c .before))) array-share-prefix-masks
-    (λ c. sym (masks-fit (c .before .before))) (λ c. omega arith) (λ c. omega arith) rest-of-requires (λ c. omega arith) (λ c. omega arith) slice-write-out
+    (tie.spec Inv-loop μ-loop echelon-of-requires loop-holds array-share-prefix-rows (λ c. sym (fit (c .before) .0)) array-share-prefix-masks
+    (λ c. sym (fit (c .before .before) .1)) (λ c. omega arith) (λ c. omega arith) rest-of-requires (λ c. omega arith) (λ c. omega arith) slice-write-out
     (λ c. omega arith) (λ c. omega arith) loop-again same-length returns)

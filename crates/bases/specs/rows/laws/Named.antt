@@ -23,7 +23,7 @@ use Rattle.linear.specs.Word.{word, scaleW}
 use Rattle.linear.specs.laws.Order.{rising-from, rising-mem, mem-getD}
 use Rattle.linear.specs.laws.Span.{mem-cons}
 use Rattle.forms.specs.Row.{rowForm}
-use Rattle.bases.specs.rows.Terms.{named, total}
+use Rattle.bases.specs.rows.Terms.{named, sumOfForms}
 use Rattle.bases.specs.rows.Rows.{rowBit}
 use Rattle.bases.specs.rows.laws.Rows.{low, high}
 
@@ -55,13 +55,13 @@ named-length (x ∷ es) row k = go (bit row k) (named-length es row (suc k))
     go true ih = omega arith
     go false ih = omega arith
 
-pub named-sum : (gens es : List ℕ) (row k : ℕ) → total (chosen word gens (named es row k)) ≡ rowForm (chosen word gens es) row k
-unfolding named total chosen rowForm
+pub named-sum : (gens es : List ℕ) (row k : ℕ) → sumOfForms (chosen word gens (named es row k)) ≡ rowForm (chosen word gens es) row k
+unfolding named sumOfForms chosen rowForm
 named-sum gens [] row k = refl
 named-sum gens (x ∷ es) row k = go (bit row k) (named-sum gens es row (suc k))
   where
-    go : (t : Bool) → total (chosen word gens (named es row (suc k))) ≡ rowForm (chosen word gens es) row (suc k)
-        → total (chosen word gens (cond t (x ∷ named es row (suc k)) (named es row (suc k))))
+    go : (t : Bool) → sumOfForms (chosen word gens (named es row (suc k))) ≡ rowForm (chosen word gens es) row (suc k)
+        → sumOfForms (chosen word gens (cond t (x ∷ named es row (suc k)) (named es row (suc k))))
         ≡ bitXor (scaleW t (generator word gens x)) (rowForm (chosen word gens es) row (suc k))
     go true ih = ap (bitXor (generator word gens x)) ih
     go false ih = ih ∙ sym (xor-zero-l (rowForm (chosen word gens es) row (suc k)))

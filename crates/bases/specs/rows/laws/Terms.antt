@@ -18,7 +18,7 @@ use Rattle.linear.specs.laws.Dimension.{dim-length}
 use Rattle.linear.specs.laws.Extension.{chosen-length}
 use Rattle.linear.specs.laws.Part.{part-rising, part-independent, part-spans, part-members, part-own, part-size}
 use Rattle.bases.specs.rows.Rows.{rowOf}
-use Rattle.bases.specs.rows.Terms.{named, total, terms}
+use Rattle.bases.specs.rows.Terms.{named, sumOfForms, terms}
 use Rattle.bases.specs.rows.laws.Rows.{row-sum, row-only}
 use Rattle.bases.specs.rows.laws.Named.{named-passed, named-rising, named-sum, named-bit, named-of, named-length}
 
@@ -32,14 +32,14 @@ module _ (gens : List ℕ) where
   terms-part sel v e m = named-passed (part word gens sel) (rowOf (chosen word gens (part word gens sel)) v) 0 e m
 
   pub terms-sum : (sel : List ℕ) → ((e : ℕ) → List·Memᴰ e sel → e < length gens) → (v : ℕ) → Span word (chosen word gens sel) v
-      → total (chosen word gens (terms gens sel v)) ≡ v
+      → sumOfForms (chosen word gens (terms gens sel v)) ≡ v
   unfolding terms
   terms-sum sel below v s =
       named-sum gens (part word gens sel) (rowOf (chosen word gens (part word gens sel)) v) 0
       ∙ row-sum (chosen word gens (part word gens sel)) v (part-spans word gens sel below .1 v s)
 
   pub terms-only : (sel : List ℕ) (v : ℕ) (us : List ℕ) → Rising 0 (length gens) us → ((e : ℕ) → List·Memᴰ e us → List·Memᴰ e (part word gens sel))
-      → total (chosen word gens us) ≡ v → us ≡ terms gens sel v
+      → sumOfForms (chosen word gens us) ≡ v → us ≡ terms gens sel v
   unfolding terms
   terms-only sel v us r h q =
       let B = part word gens sel in
@@ -47,11 +47,11 @@ module _ (gens : List ℕ) where
       m .2
       ∙ ap (λ (row : ℕ). named B row 0)
       (row-only (chosen word gens B) v (m .0) (part-independent word gens sel) (subst (λ (k : ℕ). m .0 < 2 ^ k) (sym (chosen-length word gens [] B)) (m .1))
-      (sym (named-sum gens B (m .0) 0) ∙ ap (λ (l : List ℕ). total (chosen word gens l)) (sym (m .2)) ∙ q))
+      (sym (named-sum gens B (m .0) 0) ∙ ap (λ (l : List ℕ). sumOfForms (chosen word gens l)) (sym (m .2)) ∙ q))
 
   -- zero is the sum of none
   pub terms-zero : (sel : List ℕ) → terms gens sel 0 ≡ []
-  unfolding total chosen
+  unfolding sumOfForms chosen
   terms-zero sel = sym (terms-only sel 0 [] tt (λ e m. absurd (List·Memᴰ·not-nil m)) refl)
 
   pub terms-members : (sel sel′ : List ℕ) → ((e : ℕ) → List·Memᴰ e sel ↔ List·Memᴰ e sel′) → (v : ℕ) → terms gens sel v ≡ terms gens sel′ v

@@ -28,6 +28,7 @@ use Rattle.linear.specs.laws.Dimension.{basisOf-is}
 use Rattle.linear.specs.laws.Entry.{inside-yes, yes-inside}
 use Rattle.linear.specs.laws.Select.{no-anyOf, only-mem, stands, stood}
 use Rattle.linear.specs.laws.Permuted.{perm-mem, anyOf-perm}
+use Rattle.linear.specs.laws.Share.{only-length}
 use Rattle.words.specs.lists.Lists.{repeats}
 use Rattle.words.specs.lists.laws.Standing.{repeats-perm}
 use Rattle.bases.specs.rows.Terms.{terms}
@@ -98,15 +99,6 @@ only-once p (x ∷ l) e = go (p x) (anyOf (eqb x) (only p l)) refl (only-once p 
     go false u q ih = ih
     go true false q ih = ap₂ _||_ q ih
     go true true q ih = absurd (true≢false (sym (stands x l (only-mem p l x (stood x (only p l) q) .0)) ∙ both .0))
-
-only-length : (p : ℕ → Bool) (l : List ℕ) → length (only p l) ≤ length l
-unfolding only
-only-length p [] = omega arith
-only-length p (x ∷ l) = go (p x) (only-length p l)
-  where
-    go : (t : Bool) → length (only p l) ≤ length l → length (cond t (x ∷ only p l) (only p l)) ≤ suc (length l)
-    go true h = omega arith
-    go false h = omega arith
 
 module _ (n j : ℕ) (sel : List ℕ) where
   pub without-fits : SelectionFits n sel → SelectionFits n (without j sel)
