@@ -11,7 +11,10 @@ function bits(s, first) {
   return s == "0" ? 0 : 4 * (length(s) - 1) + (first >= 8 ? 4 : first >= 4 ? 3 : first >= 2 ? 2 : 1)
 }
 
-# what the line should be: fields with letters, F a mask or form, and otherwise themselves
+# a cost in decimal
+function cost(s) { return s ~ /^(0|[1-9][0-9]*)$/ && length(s) <= 5 && s + 0 <= 65535 }
+
+# what the line should be: fields with letters, F a mask or form, C a cost, and otherwise themselves
 function expected(line) {
   if (command == "check" || command == "turn") {
     if (line == 3) return "a,b"
@@ -19,14 +22,14 @@ function expected(line) {
     return line == 4 + k ? "row" : "F"
   }
   if (kind != "list") return ""
-  if (line == 3) return "role,form"
-  return line <= 3 + q ? "g,F" : line <= 3 + q + r ? "t,F" : ""
+  if (line == 3) return "role,form,cost"
+  return line <= 3 + q ? "g,F,C" : line <= 3 + q + r ? "t,F,0" : ""
 }
 
 function misshapen(want, n, part, i) {
   n = split(want, part, ",")
   if (NF != n || want == "") return 1
-  for (i = 1; i <= n; i++) if (part[i] == "F" ? !hex($i) : $i != part[i]) return 1
+  for (i = 1; i <= n; i++) if (part[i] == "F" ? !hex($i) : part[i] == "C" ? !cost($i) : $i "" != part[i] "") return 1
   return 0
 }
 
@@ -34,13 +37,13 @@ function misshapen(want, n, part, i) {
 function too_wide(want) {
   if (want == "F,F") return bits($1) > n || bits($2) > m
   if (want == "F") return bits($1) > k
-  return want ~ /,F$/ && bits($2) > p
+  return want ~ /^[gt],F/ && bits($2) > p
 }
 
 # whether a factor is zero, or a generator is zero or repeats an earlier one
 function zero_or_again(want) {
   if (want == "F,F") return $1 == "0" || $2 == "0"
-  return want == "g,F" && ($2 == "0" || seen[$2]++)
+  return want == "g,F,C" && ($2 == "0" || seen[$2]++)
 }
 
 function sized() {

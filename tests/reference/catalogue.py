@@ -10,6 +10,13 @@ ways, neither of which walks extensions as the product does:
     by growth   the set of all spaces of each dimension, each space of one
                 dimension grown by every generator outside it
 
+So is Rank's formula, the cheapest with so few products:
+
+    by choice   every set of so many generators that computes the targets
+    by entries  every set of generators that spans an entry, but for those that
+                can't be cheaper than one that is known: the product takes the
+                generators of an entry by their costs instead
+
     catalogue.py < FILE          prints what the Catalogue program prints
     catalogue.py --rank < FILE   prints what the Rank program prints
     catalogue.py --self-test     compares the two ways with each other, and
@@ -19,6 +26,7 @@ ways, neither of which walks extensions as the product does:
 import itertools
 import math
 import random
+import re
 import sys
 
 sys.dont_write_bytecode = True
@@ -26,6 +34,8 @@ from check import COUNT, LIMIT, MASK, Refused, shape, textbook, units
 
 KINDS = (b"poly", b"short", b"circ", b"mat", b"list", b"mid")   # by number
 MOST = 4095                                                     # generators
+DEAREST = 65535                                                 # a generator's cost
+COST = re.compile(rb"0|[1-9][0-9]{0,4}")
 BEYOND, ABOVE = "beyond", "above"
 
 
@@ -92,8 +102,17 @@ def map_targets(kind, p, q, r, n, m, outputs):
     return [sum(1 << i * m + j for (i, j), c in values.items() if c[t]) for t in range(outputs)]
 
 
-def posed(kind, p, q, r, gs, ts):
-    """The generators and the targets; gs and ts are handed in for list, None where lines misfit."""
+def ones(mask):
+    return bin(mask).count("1")
+
+
+def menu_costs(n, m):
+    """The costs of the menu's products: the ones in both factors less 2."""
+    return [ones(a) + ones(b) - 2 for a in range(1, 2 ** n) for b in range(1, 2 ** m)]
+
+
+def posed(kind, p, q, r, gs, ts, costs=None):
+    """The generators and the targets; gs and ts are handed in for list, None where lines misfit; costs are handed in to Rank alone."""
     if kind not in KINDS:
         raise Refused(2)
     n, m, outputs = sizes(kind, p, q, r)
@@ -102,10 +121,12 @@ def posed(kind, p, q, r, gs, ts):
     if gs is None or ts is None:
         raise Refused(5)
     if kind != b"list":
-        if gs or ts:
+        if gs or ts or costs:
             raise Refused(5)
         return menu(n, m), map_targets(kind, p, q, r, n, m, outputs)
     if len(gs) != q or len(ts) != r:
+        raise Refused(5)
+    if costs is not None and (len(costs) != q or max(costs) > DEAREST):
         raise Refused(5)
     if any(form >> p for form in gs + ts):
         raise Refused(6)
@@ -189,7 +210,7 @@ def entries(generators, targets, k):
 
 # Formulae.
 
-def first_formula(generators, space):
+def choices(generators, space):
     """The first k numbers in dictionary order of independent generators that span the space."""
     return first_choice(generators, [], space)
 
@@ -216,6 +237,59 @@ def rows(products, targets):
     return masks
 
 
+# The cheapest set of k generators that computes the targets, the dictionary-first among equals: its cost and its numbers, or None.  No fewer than
+# k compute them.
+
+def cheapest_by_choice(generators, targets, costs, k):
+    found = [(sum(costs[j] for j in numbers), list(numbers)) for numbers in itertools.combinations(range(len(generators)), k)
+             if contains(reduced(generators[j] for j in numbers), targets)]
+    return min(found) if found else None
+
+
+def contains(basis, words):
+    return not any(residue(basis, word) for word in words)
+
+
+def cheapest_by_entries(generators, targets, costs, k):
+    """The sets that span an entry, entry by entry, each entry's in dictionary order."""
+    best = None
+    for _, space in entries(generators, targets, k):
+        best = cheapest_in(generators, costs, space, best)
+    return best
+
+
+def cheapest_in(generators, costs, space, best):
+    """The best of best and the sets that span the space.  A beginning is left, and all later ones of its length, where the cheapest of the numbers
+    that may follow make it dearer than best, or as dear and later in dictionary order."""
+    numbers = inside(space, generators)
+    last = len(numbers)
+    least, cheap = [None] * last, []        # [i][c]: the cost of the c cheapest of the numbers from place i on
+    for i in range(last - 1, -1, -1):
+        cheap = sorted(cheap + [costs[numbers[i]]])[:len(space)]
+        least[i] = [0] + list(itertools.accumulate(cheap))
+
+    def walk(taken, spent, basis, at, best):
+        wanted = len(space) - len(taken)
+        if wanted == 0:
+            return (spent, taken) if best is None or (spent, taken) < best else best
+        for i in range(at, last - wanted + 1):
+            begun = taken + [numbers[i]]
+            if best is not None and (spent + least[i][wanted], begun) > (best[0], best[1][:len(begun)]):
+                break
+            more = grown(basis, generators[numbers[i]])
+            if len(more) > len(basis):
+                best = walk(begun, spent + costs[numbers[i]], more, i + 1, best)
+        return best
+
+    return walk([], 0, [], 0, best)
+
+
+def cheapest(generators, targets, costs, k):
+    if math.comb(len(generators), k) <= 25000:
+        return cheapest_by_choice(generators, targets, costs, k)
+    return cheapest_by_entries(generators, targets, costs, k)
+
+
 # Replies.  A buffer is a list of words; it comes back as the call leaves it.
 
 def catalogue(kind, p, q, r, k, gs, ts, buffer, known=None):
@@ -239,18 +313,19 @@ def entry(buffer, ell, k, shown, number):
     return buffer[number * length:(number + 1) * length]
 
 
-def rank(kind, p, q, r, k, gs, ts, buffer):
+def rank(kind, p, q, r, k, gs, ts, costs, buffer):
     """l, the rank (or beyond, or above), its products and rows, and the buffer, or a refusal."""
-    generators, targets = posed(kind, p, q, r, gs, ts)
+    generators, targets = posed(kind, p, q, r, gs, ts, costs)
     if k != 0:
         raise Refused(8)
+    prices = costs if kind == b"list" else menu_costs(*sizes(kind, p, q, r)[:2])
     start = reduced(targets)
-    if any(residue(reduced(generators), word) for word in targets):
+    if not contains(reduced(generators), targets):
         return len(start), BEYOND, [], [], buffer
     for least in range(len(start), len(start) + 7):
-        listed = entries(generators, targets, least)
-        if listed:
-            products = first_formula(generators, listed[0][1])
+        found = cheapest(generators, targets, prices, least)
+        if found:
+            products = found[1]
             masks = rows([generators[j] for j in products], targets)
             record = products + masks
             if len(record) > len(buffer):
@@ -262,7 +337,7 @@ def rank(kind, p, q, r, k, gs, ts, buffer):
 # Files.
 
 def read(data):
-    """The second line's fields, and the forms; None for forms where lines misfit."""
+    """The second line's fields, the forms and the generators' costs; None for forms where lines misfit."""
     if len(data) > LIMIT:
         raise Refused(1)
     *lines, rest = data.split(b"\n")
@@ -275,14 +350,19 @@ def read(data):
     body = lines[2:]
     if kind != b"list":
         fits = not body and rest == b""
-        return kind, p, q, r, k, [] if fits else None, []
-    fits = rest == b"" and len(body) == 1 + q + r and body[0] == b"role,form"
+        return kind, p, q, r, k, [] if fits else None, [], []
+    fits = rest == b"" and len(body) == 1 + q + r and body[0] == b"role,form,cost"
     fields = [line.split(b",") for line in body[1:]] if fits else []
     roles = [b"g"] * q + [b"t"] * r
-    if not fits or any(len(f) != 2 or f[0] != role or not MASK.fullmatch(f[1]) for f, role in zip(fields, roles)):
-        return kind, p, q, r, k, None, None
+    if not fits or any(len(f) != 3 or f[0] != role or not MASK.fullmatch(f[1]) or not costs_fit(role, f[2]) for f, role in zip(fields, roles)):
+        return kind, p, q, r, k, None, None, None
     forms = [int(f[1], 16) for f in fields]
-    return kind, p, q, r, k, forms[:q], forms[q:]
+    return kind, p, q, r, k, forms[:q], forms[q:], [int(f[2]) for f in fields[:q]]
+
+
+def costs_fit(role, digits):
+    """A generator costs 0 to 65535, written without leading zeros, a target 0."""
+    return COST.fullmatch(digits) is not None and int(digits) <= (DEAREST if role == b"g" else 0)
 
 
 def inner(words, base):
@@ -291,7 +371,7 @@ def inner(words, base):
 
 def catalogue_program(data, known=None):
     try:
-        kind, p, q, r, k, gs, ts = read(data)
+        kind, p, q, r, k, gs, ts, _ = read(data)
         ell, found, shown, buffer, listed = catalogue(kind, p, q, r, k, gs, ts, [0] * 4096, known)
     except Refused as refusal:
         return "refused %d\n" % refusal.args[0]
@@ -302,8 +382,8 @@ def catalogue_program(data, known=None):
 
 def rank_program(data):
     try:
-        kind, p, q, r, k, gs, ts = read(data)
-        ell, least, products, masks, buffer = rank(kind, p, q, r, k, gs, ts, [0] * 4096)
+        kind, p, q, r, k, gs, ts, costs = read(data)
+        ell, least, products, masks, buffer = rank(kind, p, q, r, k, gs, ts, costs, [0] * 4096)
     except Refused as refusal:
         return "refused %d\n" % refusal.args[0]
     lines = ["kind,p,q,r,k,ell,rank", "%s,%d,%d,%d,%d,%d,%s" % (kind.decode(), p, q, r, k, ell, least)]
@@ -324,6 +404,34 @@ def random_list(chance):
     return p, gs, ts
 
 
+def random_costs(chance, count):
+    """Costs of every sort: none, all alike, few different ones, so that sets are as dear as others, and many."""
+    top = chance.choice((0, 1, 1, 2, 3, 9, 100, DEAREST))
+    if chance.random() < 0.2:
+        return [chance.choice((0, 1, 7, 256, DEAREST))] * count
+    if chance.random() < 0.2:
+        return [chance.choice((0, 0, 0, DEAREST)) for _ in range(count)]
+    return [chance.randint(0, top) for _ in range(count)]
+
+
+def rivals(chance, later, tied):
+    """Lists with costs and several entries for the rank: as many as later in which the first entry has no formula that is as good as the cheapest,
+    and as many as tied in which an entry before that of the reply has a formula that costs as little."""
+    while later or tied:
+        p = chance.choice((4, 5))
+        gs, ts = (chance.sample(range(1, 2 ** p), count) for count in (chance.randint(6, 10), chance.randint(1, 2)))
+        costs = random_costs(chance, len(gs))
+        least = rank(b"list", p, len(gs), len(ts), 0, gs, ts, costs, [0] * 64)[1]
+        best = [cheapest_in(gs, costs, space, None) for _, space in entries(gs, ts, least)] if isinstance(least, int) else []
+        if not best:
+            continue
+        cost, numbers = min(best)
+        alike = any(spent == cost and taken > numbers for spent, taken in best[:best.index((cost, numbers))])
+        if tied and alike or later and best[0][0] > cost:
+            later, tied = (later, tied - 1) if tied and alike else (later - 1, tied)
+            yield p, gs, ts, costs
+
+
 def sum_of(words):
     total = 0
     for word in words:
@@ -337,7 +445,7 @@ def agree(generators, targets, most):
         listed = by_choice(generators, start, k)
         assert listed == by_growth(generators, start, k), (generators, targets, k)
         for extension, basis in listed:
-            products = first_formula(generators, basis)
+            products = choices(generators, basis)
             assert tuple(products) == next(f for f in itertools.combinations(inside(basis, generators), k)
                                            if reduced(generators[j] for j in f) == basis)
             masks = rows([generators[j] for j in products], targets)
@@ -354,17 +462,36 @@ def least_by_subsets(generators, targets):
     return None
 
 
+def prices_agree(generators, targets, costs, least):
+    """The two ways to the cheapest set, with the costs, and where all cost alike: there it is the first formula of the first entry."""
+    best = cheapest_by_choice(generators, targets, costs, least)
+    assert best == cheapest_by_entries(generators, targets, costs, least), (generators, targets, costs)
+    first = choices(generators, entries(generators, targets, least)[0][1])
+    for cost in (0, 1, DEAREST):
+        alike = [cost] * len(generators)
+        assert (cost * least, first) == cheapest_by_choice(generators, targets, alike, least) == cheapest_by_entries(generators, targets, alike, least)
+    return best[1]
+
+
 def self_test():
     chance = random.Random(1)
     for _ in range(300):
         p, gs, ts = random_list(chance)
         agree(gs, ts, 8)
         least = least_by_subsets(gs, ts)
-        ell, reply = rank(b"list", p, len(gs), len(ts), 0, gs, ts, [0] * 64)[:2]
+        costs = random_costs(chance, len(gs))
+        ell, reply, products = rank(b"list", p, len(gs), len(ts), 0, gs, ts, costs, [0] * 64)[:3]
         assert reply == (BEYOND if least is None else ABOVE if least > ell + 6 else least)
+        assert products == (prices_agree(gs, ts, costs, least) if reply == least else [])
     for kind, p, q, r in ((b"poly", 2, 2, 0), (b"poly", 1, 3, 0), (b"poly", 2, 3, 0), (b"short", 2, 2, 0), (b"circ", 2, 2, 0), (b"mat", 1, 2, 1),
                           (b"mid", 1, 1, 0), (b"mid", 2, 3, 0)):
-        agree(*posed(kind, p, q, r, [], []), 2)
+        generators, targets = posed(kind, p, q, r, [], [])
+        agree(generators, targets, 2)
+        least = rank(kind, p, q, r, 0, [], [], [], [0] * 64)[1]
+        prices_agree(generators, targets, menu_costs(*sizes(kind, p, q, r)[:2]), least)
+        prices_agree(generators, targets, [chance.randint(0, 3) for _ in generators], least)
+    circ = posed(b"circ", 3, 3, 0, [], [])
+    assert cheapest_by_choice(*circ, menu_costs(3, 3), 4) == cheapest_by_entries(*circ, menu_costs(3, 3), 4) == (10, [16, 32, 40, 48])
     assert catalogue_program(b"kind,p,q,r,k\npoly,2,3,0,5\n") == (
         "kind,p,q,r,k,ell,found,shown\npoly,2,3,0,5,4,3,3\nentry,extension,basis\n"
         "0,1,20 14 8 2 1\n1,3,20 10 a 4 1\n2,5,20 12 a 6 1\n")

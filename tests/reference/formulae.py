@@ -160,7 +160,7 @@ def is_redundant(kind, p, q, r, gs, ts, selection, j):
 
 def formulae_program(data, known=None):
     try:
-        kind, p, q, r, k, gs, ts = catalogue.read(data)
+        kind, p, q, r, k, gs, ts, _ = catalogue.read(data)
         ell, found, shown, _, listed = catalogue.catalogue(kind, p, q, r, k, gs, ts, [0] * ROOM, known)
     except Refused as refusal:
         return "refused %d\n" % refusal.args[0]
@@ -195,7 +195,7 @@ def self_test():
             for _, space in catalogue.entries(gs, ts, k):
                 listed = list(by_choice(gs, space))
                 assert listed == list(by_completion(gs, space)) == sorted(set(listed))
-                assert listed[0] == tuple(catalogue.first_formula(gs, space))
+                assert listed[0] == tuple(catalogue.choices(gs, space))
                 size = k + len(ts)
                 for w in (len(listed) * size, len(listed) * size - 1):
                     count, said, _ = formulae(b"list", p, len(gs), len(ts), gs, ts, space, [0] * w)

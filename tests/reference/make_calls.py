@@ -11,9 +11,9 @@ one line of decimal numbers:
 with the kind by its number, and a buffer of w words.  The reply is one line as
 well; the buffer after the call stands behind ` :`.
 
-Call 0 is Catalogue and call 1 Rank, with x for k; w is at most 64, and word i
-holds 1000000 + i before the call.  In a Catalogue the look-ups of the entries 0
-to SHOWN follow, each behind ` :`:
+Call 0 is Catalogue and call 1 Rank, with x for k, and in a Rank the costs o;
+w is at most 64, and word i holds 1000000 + i before the call.  In a Catalogue
+the look-ups of the entries 0 to SHOWN follow, each behind ` :`:
 
     entries ELL FOUND SHOWN :.. :..    rank R :..    above :..    beyond :..    refused E :..
 

@@ -381,7 +381,7 @@ def refused_2():
     two("2-longer", second("polys,2,2,0,3"))
     two("2-nul", second("poly\0,2,2,0,3"))
     two("2-long-kind", second("poly" * 75 + ",2,2,0,3"))
-    two("2-list", second("list,2,3,1,1", b"role,form\ng,1\ng,2\ng,3\nt,3\n"))
+    two("2-list", second("list,2,3,1,1", b"role,form,cost\ng,1,0\ng,2,0\ng,3,0\nt,3,0\n"))
     # Before 3, 5 and 8.
     two("2-not-3", second("pony,0,9999,7,3"))
     two("2-not-5", second("pony,2,2,0,3", b""))

@@ -1,15 +1,17 @@
 """The calls of Catalogue, its look-up and Rank that make_calls.py writes, and the reply to each.
 
 Where a call is made for a reply, the reply is written beside it and must
-agree with catalogue.py.  The random lists come from a fixed seed.
+agree with catalogue.py.  The random lists come from a fixed seed.  A Rank of a
+list that is not made for its costs has costs of each sort in turn.
 """
 
+import itertools
 import random
 import sys
 
 sys.dont_write_bytecode = True
 import catalogue
-from catalogue import KINDS, Refused, random_list, reduced
+from catalogue import DEAREST, KINDS, Refused, entries, random_costs, random_list, reduced, rivals
 from table_rows import field
 
 CATALOGUE, RANK, ENTRY = 0, 1, 2
@@ -23,7 +25,14 @@ def line(said, *stretches):
     return said + "".join(" :" + "".join(" %d" % word for word in words) for words in stretches)
 
 
-def reply(call, number, p, q, r, k, w, gs, ts):
+def in_turn(count):
+    """Costs of a list: all 0, all alike, random ones, the highest; the next sort with each call."""
+    sort = len(calls) % 4
+    chance = random.Random(len(calls))
+    return [0] * count if sort == 0 else [7] * count if sort == 1 else random_costs(chance, count) if sort == 2 else [DEAREST] * count
+
+
+def reply(call, number, p, q, r, k, w, gs, ts, costs):
     """What is said, and the whole line."""
     before = [1000000 + i for i in range(w)]
     kind = KINDS[number] if number < len(KINDS) else b"?"
@@ -32,7 +41,7 @@ def reply(call, number, p, q, r, k, w, gs, ts):
             ell, found, shown, after, _ = catalogue.catalogue(kind, p, q, r, k, gs, ts, before)
             said = "found %d shown %d" % (found, shown)
             return said, line("entries %d %d %d" % (ell, found, shown), after, *(catalogue.entry(after, ell, k, shown, j) for j in range(shown + 1)))
-        _, least, _, _, after = catalogue.rank(kind, p, q, r, k, gs, ts, before)
+        _, least, _, _, after = catalogue.rank(kind, p, q, r, k, gs, ts, costs, before)
         said = least if isinstance(least, str) else "rank %d" % least
         return said, line(said, after)
     except Refused as refusal:
@@ -46,15 +55,18 @@ def write(asked, answer):
     replies.append(answer + "\n")
 
 
-def add(call, number, p, q, r, k, w, gs=(), ts=(), want=None):
+def add(call, number, p, q, r, k, w, gs=(), ts=(), want=None, costs=None):
     gs, ts = list(gs), list(ts)
-    said, answer = reply(call, number, p, q, r, k, w, gs, ts)
-    assert want is None or said == want or said.startswith(want + " "), (call, number, p, q, r, k, gs, ts, said, want)
-    write([call, number, p, q, r, k, w, len(gs), len(ts), 0] + gs + ts, answer)
+    if costs is None:
+        costs = in_turn(len(gs)) if call == RANK and number == LIST else []
+    said, answer = reply(call, number, p, q, r, k, w, gs, ts, costs)
+    assert want is None or said == want or said.startswith(want + " "), (call, number, p, q, r, k, gs, ts, costs, said, want)
+    write([call, number, p, q, r, k, w, len(gs), len(ts), len(costs)] + gs + ts + costs, answer)
+    return answer
 
 
-def listed(call, p, gs, ts, k, w, want=None):
-    add(call, LIST, p, len(gs), len(ts), k, w, gs, ts, want)
+def listed(call, p, gs, ts, k, w, want=None, costs=None):
+    return add(call, LIST, p, len(gs), len(ts), k, w, gs, ts, want, costs)
 
 
 def worked():
@@ -178,6 +190,12 @@ def lists():
         for k in sorted({0, max(ell - 1, 0), *range(ell, most + 2), ell + 6, ell + 7}):
             listed(CATALOGUE, p, gs, ts, k, chance.randint(0, 3 * max(2 * k - ell, 1)), "refused 8" if k > ell + 6 else "found")
         listed(RANK, p, gs, ts, 0, 16)
+    for _ in range(150):
+        p, gs, ts = random_list(chance)
+        for _ in range(3):
+            listed(RANK, p, gs, ts, 0, 16, costs=random_costs(chance, len(gs)))
+    for p, gs, ts, costs in rivals(chance, 100, 60):
+        listed(RANK, p, gs, ts, 0, 10, "rank", costs)
 
 
 def ranks():
@@ -206,6 +224,64 @@ def ranks():
     listed(RANK, 3, [1, 2, 3, 4, 5], [3, 3, 0, 6, 5], 0, 16)     # dependent targets
 
 
+def replies_with(answer, products, masks):
+    """The reply is a rank with these products and rows, and no more words."""
+    assert answer == line("rank %d" % len(products), products + masks), (answer, products, masks)
+
+
+def prices():
+    """The worked costs: in one entry, in two of them, of maps; generators of every order of their costs; sums above a word of 16 bits."""
+    for costs, products, masks in (([9, 0, 0], [1, 2], [3, 1]), ([1, 1, 0], [0, 2], [1, 3]), ([DEAREST] * 3, [0, 1], [1, 2]), ([0, 0, 0], [0, 1], [1, 2])):
+        replies_with(listed(RANK, 2, [1, 2, 3], [1, 2], 0, 4, costs=costs), products, masks)
+    gs, ts = [4, 8, 9, 10, 5, 6, 7], [1, 2]
+    assert entries(gs, ts, 3) == [([0], [4, 2, 1]), ([1], [8, 2, 1])]
+    for costs, products, masks in (([1, 0, 0, 0, 0, 0, 0], [1, 2, 3], [3, 5]),      # of entry 1; in entry 0 are 4 5 6, as cheap
+                                   ([0] * 7, [0, 4, 5], [3, 5]), ([1, 0, 0, 1, 0, 0, 0], [4, 5, 6], [6, 5]), ([1, 1, 0, 0, 0, 0, 0], [4, 5, 6], [6, 5]),
+                                   ([DEAREST, DEAREST, 0, 0, DEAREST, 0, 0], [0, 5, 6], [6, 3]), ([0, 0, 0, 0, 1, 1, 1], [1, 2, 3], [3, 5]),
+                                   ([5] * 7, [0, 4, 5], [3, 5]), ([DEAREST] * 7, [0, 4, 5], [3, 5]), ([DEAREST] * 4 + [DEAREST - 1] * 3, [4, 5, 6], [6, 5])):
+        replies_with(listed(RANK, 4, gs, ts, 0, 5, costs=costs), products, masks)
+        listed(RANK, 4, gs, ts, 0, 4, "refused 9", costs)
+    for number, p, q, products, masks in (
+            (MID, 3, 5, [23, 40, 73, 95, 160, 189], [0x38, 0x36, 0x25]), (POLY, 3, 3, [0, 8, 16, 24, 32, 40], [1, 7, 0x1b, 0x2a, 8]),
+            (CIRC, 3, 3, [16, 32, 40, 48], [0xb, 0xe, 0xd]), (POLY, 2, 3, [0, 1, 7, 10, 19], [1, 6, 0x1a, 8]),
+            (SHORT, 3, 3, [0, 3, 8, 16, 21], [1, 0xd, 0x16]), (POLY, 2, 2, [0, 4, 8], [1, 7, 2]), (MID, 2, 3, [5, 9, 15], [6, 5])):
+        replies_with(add(RANK, number, p, q, 0, 0, len(products) + len(masks)), products, masks)
+    for p, q in ((4, 2), (2, 4), (4, 3), (3, 4), (4, 4), (5, 2), (2, 5), (6, 2)):
+        add(RANK, POLY, p, q, 0, 0, 32)
+    for order in itertools.permutations((0, 1, 2, 3)):      # a triangle of sums: a set of two of the first three, and 8
+        listed(RANK, 4, [1, 2, 3, 8], [1, 2, 8], 0, 8, "rank 3", list(order))
+        listed(RANK, 4, [1, 2, 4, 8], [3, 12], 0, 8, "rank 4", [DEAREST * x // 3 for x in order])
+    ones = [1 << i for i in range(31)]
+    others = [3 << i for i in range(30)] + [2 ** 31 - 1]
+    for costs in ([DEAREST] * 62, [DEAREST] * 61 + [DEAREST - 1], [DEAREST] * 31 + [0] * 31, [0] * 31 + [DEAREST] * 31):
+        listed(RANK, 31, ones + others, ones, 0, 62, "rank 31", costs)
+
+
+def prices_refused():
+    """Costs that are too few, too many or too high, and costs of a map, with every other refusal beside them: 2, 3 and 4 come first, all others later."""
+    gs, ts, many = [1, 2, 3], [1, 2], 99
+    fine = [0, 5, DEAREST]
+    damaged = (fine[:2], fine + [0], [], [0, 0, DEAREST + 1], [DEAREST + 1, 0, 0], [0, 2 ** 32, 0], [HUGE, 0, 0], [0, 0, 2 ** 16 * 3 + 1])
+    for want, *call in (
+            ("rank 2", LIST, 2, 3, 2, 0, 4, gs, ts), ("beyond", LIST, 3, 3, 1, 0, 3, gs, [4]), ("refused 2", UNKNOWN[0], 2, 3, 2, 0, 4, gs, ts),
+            ("refused 3", LIST, 65, 3, 2, 0, 4, gs, ts), ("refused 3", LIST, 2, 3, 65, many, 4, gs, ts), ("refused 3", POLY, 9, 8, 0, 0, 4, [], []),
+            ("refused 4", LIST, 2, 4096, 2, 0, 4, gs, ts), ("refused 4", POLY, 7, 6, 0, many, 4, [], []), ("refused 5", LIST, 2, 3, 3, 0, 4, gs, ts),
+            ("refused 6", LIST, 2, 3, 2, many, 0, [1, 2, 4], ts), ("refused 6", LIST, 2, 3, 2, 0, 4, gs, [1, 4]),
+            ("refused 7", LIST, 2, 3, 2, many, 0, [1, 2, 0], ts), ("refused 7", LIST, 2, 3, 2, 0, 4, [1, 2, 2], ts),
+            ("refused 8", LIST, 2, 3, 2, 1, 0, gs, ts), ("refused 9", LIST, 2, 3, 2, 0, 3, gs, ts)):
+        add(RANK, *call, want, fine)
+        for costs in damaged:
+            add(RANK, *call, want if want in ("refused 2", "refused 3", "refused 4") else "refused 5", costs)
+    for number, p, q, r in ((POLY, 2, 2, 0), (SHORT, 2, 2, 0), (CIRC, 2, 2, 0), (MAT, 1, 2, 1), (MID, 2, 3, 0)):
+        n, m, _ = catalogue.sizes(KINDS[number], p, q, r)
+        for costs in ([0], [DEAREST + 1], catalogue.menu_costs(n, m), [0] * q):
+            for k, w in ((0, 8), (1, 8), (0, 0)):
+                add(RANK, number, p, q, r, k, w, want="refused 5", costs=costs)
+    ones = [1 << i for i in range(8)]
+    listed(RANK, 8, ones, [2 ** 8 - 1], 0, 2, "above", [DEAREST] * 8)
+    listed(RANK, 8, ones, [2 ** 8 - 1], 0, 2, "refused 5", [DEAREST] * 7 + [DEAREST + 1])
+
+
 def lookups():
     """Look-ups at and behind the end of the buffer, and with numbers whose products or sums leave 64 bits."""
     def look(ell, k, shown, number, w):
@@ -226,6 +302,6 @@ def lookups():
 
 def made():
     """The lines of the calls and of the replies."""
-    for make in (worked, limits, refusals, tables, middles, published, lists, ranks, lookups):
+    for make in (worked, limits, refusals, tables, middles, published, lists, ranks, prices, prices_refused, lookups):
         make()
     return calls, replies

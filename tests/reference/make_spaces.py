@@ -240,7 +240,7 @@ def selections():
     chosen(REDUNDANT, 2, [1], [0], [], 0, "refused 11")
     for number, p, q, r, k in ((POLY, 2, 2, 0, 3), (POLY, 3, 3, 0, 6), (POLY, 4, 3, 0, 8), (MAT, 2, 2, 2, 7), (MID, 2, 3, 0, 3), (MID, 3, 5, 0, 6)):
         generators, targets, found = spaces(number, p, q, r, k)
-        formula = catalogue.first_formula(generators, found[-1])
+        formula = catalogue.choices(generators, found[-1])
         for selection in (formula, formula[::-1] + [max(set(range(12)) - set(formula))], inside(found[0], generators), range(len(generators))[:60]):
             for j in list(selection)[:12] + [len(generators)]:
                 add(REDUNDANT, number, p, q, r, 0, j, [], [], selection)

@@ -43,10 +43,10 @@ def symmetric(kind, n):
     return [form_of(n, n, a, a) for a in range(1, 2 ** n)], map_targets(kind, n, n, 0, n, n, outputs)
 
 
-def listed(p, k, gs, ts):
-    """The file of a list."""
-    forms = [(b"g", g) for g in gs] + [(b"t", t) for t in ts]
-    return b"kind,p,q,r,k\nlist,%d,%d,%d,%d\nrole,form\n" % (p, len(gs), len(ts), k) + b"".join(b"%s,%x\n" % line for line in forms)
+def listed(p, k, gs, ts, costs=None):
+    """The file of a list, with the generators' costs; without them each costs 0."""
+    lines = [(b"g", g, cost) for g, cost in zip(gs, costs or [0] * len(gs), strict=True)] + [(b"t", t, 0) for t in ts]
+    return b"kind,p,q,r,k\nlist,%d,%d,%d,%d\nrole,form,cost\n" % (p, len(gs), len(ts), k) + b"".join(b"%s,%x,%d\n" % line for line in lines)
 
 
 # The extensions of all entries. That each is one of an entry is checked here; that there are no others is document 000's count (make_problem_files.TABLES).

@@ -23,7 +23,7 @@ struct Call {
     asked: u64,
 }
 
-// One call, on the forms of a list, the rows of a space or a selection, and a lent buffer.
+// One call, on the forms of a list, the costs of its generators, the rows of a space or a selection, and a lent buffer.
 fn call_on(call: Call, gs: &[u64], ts: &[u64], others: &[u64], out: &mut [u64]) {
     let which = call.which;
     let number = call.number;
@@ -38,7 +38,7 @@ fn call_on(call: Call, gs: &[u64], ts: &[u64], others: &[u64], out: &mut [u64]) 
             searches::print_catalogued(said, asked, out);
         }
         1 => {
-            let said = rank::rank(number, p, q, r, asked, gs, ts, out);
+            let said = rank::rank(number, p, q, r, asked, gs, ts, others, out);
             searches::print_ranked(said, out);
         }
         2 => numbers::print_words(records::lookup::entry(out, number, p, q, r)),

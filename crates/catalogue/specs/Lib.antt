@@ -2,5 +2,7 @@
 pub mod Catalogue
 pub mod Theorems
 pub mod laws
+pub mod noting
 pub mod walk
+pub mod meeting
 pub mod listing

@@ -1,4 +1,3 @@
 -- The entries for k, counted and written as records.
 pub mod Listing
-pub mod Walked
 pub mod laws

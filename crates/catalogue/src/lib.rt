@@ -1,5 +1,7 @@
 // Catalogue on numbers: refusals 2 to 8, the entries counted, and the records that fit.
-// walk       the recursion that finds every entry, once and in order
+// walk       the recursion that meets every entry, once and in order
+// noting     what becomes of an entry: its record is kept, or its cheapest formula is offered
+// meeting    all entries for k met; the cheapest formula of all of them
 // listing    the entries for k, counted up to a limit, and their records
 // Which children the walk visits: `sieve`. The reply as text: `catalogue_text`.
 ghost use mathlib.Core.Path.{_≡_};
@@ -13,6 +15,8 @@ use problems::Posed;
 use words::first_words;
 
 pub mod listing;
+pub mod meeting;
+pub mod noting;
 pub mod walk;
 
 // What Catalogue says: a refusal's number, or the targets' dimension, how many entries there are and how many are shown.

@@ -1,2 +1,3 @@
--- The laws behind clearing.
+-- The laws behind clearing and counting.
 pub mod Clear
+pub mod Weight

@@ -26,7 +26,6 @@ use Rattle.problem_files.specs.declared.judging.Purpose.the-variants as purpose
 use Rattle.problems.specs.Problem.{problem}
 use Rattle.problems.specs.Theorems.{Few}
 use Rattle.catalogue.specs.Catalogue.{Catalogued, entryListing, catalogueOf}
-use Rattle.space_formulae.specs.spaces.Spaces.{formulaeFor}
 use Rattle.formulae_text.specs.lines.FormulaLines.{formulaText, leftText, formulaeText}
 use Rattle.formulae_text.specs.FormulaAnswers.{formulaeAnswer, entryFormulae}
 use Rattle.problem_files.specs.inputs.Inputs.{posedInput, inputFile, inputOf}
@@ -43,7 +42,7 @@ use Rattle.formulae_program.specs.entry_parts.EntryPages.{planText, plan
 use Rattle.formulae_program.specs.entry_parts.laws.Parts.{told-few}
 use Rattle.formulae_program.specs.first_part.Listed.{PlanListed, listedEntries, listedIn, listedFile, listedInput, firstPart}
 use Rattle.formulae_program.specs.first_part.Starts.{planOf, startedOf, generatorsHeld, targetsHeld, listingAfter, Starts}
-use Rattle.formulae_program.specs.first_part.laws.Start.{ListedSo, listed-inv}
+use Rattle.formulae_program.specs.first_part.laws.Start.{listed-inv}
 use Rattle.formulae_program.specs.parts.Parts.{partsText}
 use Rattle.formulae_program.specs.parts.laws.Parts.{parts-refused, parts-listed}
 use Rattle.formulae_program.specs.FormulaeProgram.{rowsAt, entryPart, entriesPart, formulaeProgram}
@@ -95,14 +94,15 @@ parts-are-all s gs ts x g t listing m n S =
 pub input-answered : (s : List ℕ) (P : ProblemFile) → inputOf purpose.Catalogue s ≡ accepted P → (c : Catalogued) × (listedInput s ≡ accepted (record { problem = P; said = c }))
 unfolding listedIn
 input-answered s P e =
-    let I = input-poses purpose.Catalogue s programWords programWords P e in
+    let I = input-poses purpose.Catalogue s programWords programWords programWords P e in
     let c = catalogue-accepted (P .problem) (P .k) listingRoom (I .within) in (
       c .0,
       ap (λ (o : Answer ProblemFile). follow o (listedEntries listingRoom)) (I .input)
           ∙ ap (λ (o : Answer Catalogued). follow o λ d. accepted (record { problem = P; said = d })) (c .1),
     )
 
-settled-refused : (F : ProblemFile) (n : ℕ) → short (F .shape) programWords programWords ≡ false → settled purpose.Catalogue programWords programWords F ≡ refused n
+settled-refused : (F : ProblemFile) (n : ℕ) → short (F .shape) programWords programWords programWords ≡ false
+    → settled purpose.Catalogue programWords programWords programWords F ≡ refused n
     → listedEntries listingRoom F ≡ refused n
 unfolding settled catalogueOf
 settled-refused F n w e = go (ltb (dim word (F .problem .targets) + 6) (F .k)) refl (sym (ap (λ (b : Bool). refuse 8 (beyond purpose.Catalogue (F .k) (F .problem .targets)) (refuse 9 b (accepted F))) w) ∙ e)
@@ -115,8 +115,8 @@ settled-refused F n w e = go (ltb (dim word (F .problem .targets) + 6) (F .k)) r
     go true h q = let z : 8 ≡ n = (let y : refuse {A = ProblemFile} 8 true (refuse 9 false (accepted F)) ≡ refused n = sym (ap (λ (b : Bool). refuse {A = ProblemFile} 8 b (refuse 9 false (accepted F))) h) ∙ q in cc) in ap said h ∙ ap refused z
     go false h q = absurd (let y : refuse {A = ProblemFile} 8 false (refuse 9 false (accepted F)) ≡ refused n = sym (ap (λ (b : Bool). refuse {A = ProblemFile} 8 b (refuse 9 false (accepted F))) h) ∙ q in let z : _≡_ {A = ℕ} 0 1 = cc in omega arith)
 
--- the forms that a file hands in fit 4,096 words: they are a list's own, or none
-wide : (s : List ℕ) (F : ProblemFile) → posedInput s ≡ accepted F → short (F .shape) programWords programWords ≡ false
+-- the forms and costs that a file hands in fit 4,096 words: they are a list's own, or none
+wide : (s : List ℕ) (F : ProblemFile) → posedInput s ≡ accepted F → short (F .shape) programWords programWords programWords ≡ false
 wide s F e =
     let p = file-poses s F (input-posed s F e) in
     let C = shaped-counted (F .shape) (F .generators) (F .targets) (F .problem) p in
@@ -127,7 +127,7 @@ pub input-refused : (s : List ℕ) (n : ℕ) → inputOf purpose.Catalogue s ≡
 unfolding inputFile listedIn
 input-refused s n e = go (posedInput s) refl e
   where
-    go : (o : Answer ProblemFile) → posedInput s ≡ o → follow o (settled purpose.Catalogue programWords programWords) ≡ refused n
+    go : (o : Answer ProblemFile) → posedInput s ≡ o → follow o (settled purpose.Catalogue programWords programWords programWords) ≡ refused n
         → follow o (listedEntries listingRoom) ≡ refused n
     go (refused i) h q = let z : i ≡ n = cc in ap refused z
     go (accepted F) h q = settled-refused F n (wide s F h) q

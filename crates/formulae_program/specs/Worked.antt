@@ -1,5 +1,6 @@
 -- An example of the Formulae program, from the bytes of an input to the bytes that are printed.
---   worked-formulae   document 01: "list of 2 bits, menu 1, 2, 3, target 3: .. k = 2 finds one, .. with formulae 0 1, 0 2 and 1 2"
+--   worked-formulae   document 01: "list of 2 bits, menu 1, 2, 3, target 3: .. k = 2 finds one, .. with formulae 0 1, 0 2 and 1 2";
+--     the costs 9, 0 and 65,535 are read and not looked at
 -- Assumes nothing.
 use mathlib.Core.Path.{_≡_, refl}
 use mathlib.Core.List.{[], _∷_, _++_}
@@ -17,7 +18,7 @@ use Rattle.words.specs.lists.Lists.{repeats}
 use Rattle.problems.specs.Problem.{listed, shaped, posed}
 use Rattle.catalogue.specs.listing.Listing.{records, flat, fitting}
 use Rattle.bases.specs.rows.Rows.{maskOf, rowOf}
-use Rattle.first_formula.specs.Choice.{formulaRecord}
+use Rattle.choices.specs.Choice.{formulaRecord}
 use Rattle.records.specs.lookup.Lookup.{lookup}
 use Rattle.catalogue.specs.Catalogue.{entryListing, catalogueOf, catalogue}
 use Rattle.text.specs.Line.{cut, field, nameLine}
@@ -34,7 +35,7 @@ use Rattle.problem_files.specs.judging.Judged.{settled}
 use Rattle.problem_files.specs.posing.Posing.{posedLines, posedFile}
 use Rattle.space_formulae.specs.spaces.Spaces as spaces
 use Rattle.space_formulae.specs.spaces.Spaces.{isEntry, formulaeFor, formulaeOf}
-use Rattle.problem_files.specs.list_lines.Roles.{roleLine, roleLines, listBody}
+use Rattle.problem_files.specs.list_lines.Roles.{formAndCost, roleLine, roleLines, listBody}
 use Rattle.problem_files.specs.inputs.Inputs.{posedInput, inputFile}
 use Rattle.formulae_text.specs.lines.FormulaLines.{formulaText, formulaeText}
 use Rattle.formulae_text.specs.FormulaAnswers.{entryFormulae}
@@ -42,8 +43,10 @@ use Rattle.formulae_program.specs.first_part.Listed.{listedIn, formulaeH
 use Rattle.formulae_program.specs.FormulaeProgram.{entriesPart, formulaeProgram}
 
 pub worked-formulae : formulaeProgram ((107 ∷ 105 ∷ 110 ∷ 100 ∷ 44 ∷ 112 ∷ 44 ∷ 113 ∷ 44 ∷ 114 ∷ 44 ∷ 107 ∷ 10 ∷ [])
-    ++ (108 ∷ 105 ∷ 115 ∷ 116 ∷ 44 ∷ 50 ∷ 44 ∷ 51 ∷ 44 ∷ 49 ∷ 44 ∷ 50 ∷ 10 ∷ []) ++ (114 ∷ 111 ∷ 108 ∷ 101 ∷ 44 ∷ 102 ∷ 111 ∷ 114 ∷ 109 ∷ 10 ∷ [])
-    ++ (103 ∷ 44 ∷ 49 ∷ 10 ∷ []) ++ (103 ∷ 44 ∷ 50 ∷ 10 ∷ []) ++ (103 ∷ 44 ∷ 51 ∷ 10 ∷ []) ++ (116 ∷ 44 ∷ 51 ∷ 10 ∷ []))
+    ++ (108 ∷ 105 ∷ 115 ∷ 116 ∷ 44 ∷ 50 ∷ 44 ∷ 51 ∷ 44 ∷ 49 ∷ 44 ∷ 50 ∷ 10 ∷ [])
+    ++ (114 ∷ 111 ∷ 108 ∷ 101 ∷ 44 ∷ 102 ∷ 111 ∷ 114 ∷ 109 ∷ 44 ∷ 99 ∷ 111 ∷ 115 ∷ 116 ∷ 10 ∷ [])
+    ++ (103 ∷ 44 ∷ 49 ∷ 44 ∷ 57 ∷ 10 ∷ []) ++ (103 ∷ 44 ∷ 50 ∷ 44 ∷ 48 ∷ 10 ∷ [])
+    ++ (103 ∷ 44 ∷ 51 ∷ 44 ∷ 54 ∷ 53 ∷ 53 ∷ 51 ∷ 53 ∷ 10 ∷ []) ++ (116 ∷ 44 ∷ 51 ∷ 44 ∷ 48 ∷ 10 ∷ []))
     ≡ (107 ∷ 105 ∷ 110 ∷ 100 ∷ 44 ∷ 112 ∷ 44 ∷ 113 ∷ 44 ∷ 114 ∷ 44 ∷ 107 ∷ 44 ∷ 101 ∷ 108 ∷ 108 ∷ 44 ∷ 102 ∷ 111 ∷ 117 ∷ 110 ∷ 100 ∷ 44 ∷ 115 ∷ 104 ∷ 111 ∷ 119 ∷ 110 ∷ 10 ∷ [])
     ++ (108 ∷ 105 ∷ 115 ∷ 116 ∷ 44 ∷ 50 ∷ 44 ∷ 51 ∷ 44 ∷ 49 ∷ 44 ∷ 50 ∷ 44 ∷ 49 ∷ 44 ∷ 49 ∷ 44 ∷ 49 ∷ 10 ∷ [])
     ++ (101 ∷ 110 ∷ 116 ∷ 114 ∷ 121 ∷ 44 ∷ 102 ∷ 111 ∷ 114 ∷ 109 ∷ 117 ∷ 108 ∷ 97 ∷ 44 ∷ 112 ∷ 114 ∷ 111 ∷ 100 ∷ 117 ∷ 99 ∷ 116 ∷ 115 ∷ 44 ∷ 114 ∷ 111 ∷ 119 ∷ 115 ∷ 10 ∷ [])
@@ -53,7 +56,7 @@ pub worked-formulae : formulaeProgram ((107 ∷ 105 ∷ 110 ∷ 100 ∷ 44 ∷ 1
 unfolding bit digitsOf top clear reduce norm place insert inserts basisOf dim risingLists anyOf only firstOfEach sameVec sameBasis inside generator
     chosen generatorsIn fits space entries formulae coefficient coefficients maskOf rowOf formulaRecord kindNumbered within listSizes wide zeroIn
     repeats listed shaped posed records flat fitting entryListing catalogueOf catalogue numeralText sizesText spacedText innerText listsText entryText
-    recordLines countsText formulaText cut field nameLine digits numeral countFields headLine headLines ended roleLine roleLines listBody listLines
-    settled posedLines posedFile isEntry spaces.formulaeListing formulaeFor formulaeOf formulaeText entryFormulae posedInput inputFile listedIn lookup
-    formulaeHead entriesPart formulaeProgram
+    recordLines countsText formulaText cut field nameLine digits numeral countFields headLine headLines ended formAndCost roleLine roleLines listBody
+    listLines settled posedLines posedFile isEntry spaces.formulaeListing formulaeFor formulaeOf formulaeText entryFormulae posedInput inputFile listedIn
+    lookup formulaeHead entriesPart formulaeProgram
 worked-formulae = refl

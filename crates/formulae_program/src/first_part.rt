@@ -78,9 +78,10 @@ pub fn start(file: &[u8], gs: &mut [u64], ts: &mut [u64], listing: &mut [u64]) -
         words::clear(ts);
         return Started::Refused(9);
     }
+    let mut costs = [0u64; kinds::GENERATORS];
     let mut g = [0u64; kinds::GENERATORS];
     let mut t = [0u64; kinds::TARGETS];
-    match problem_files::inputs::pose_input(file, &mut g, &mut t) {
+    match problem_files::inputs::pose_input(file, &mut costs, &mut g, &mut t) {
         PosedRead::Refused(e) => {
             words::clear(gs);
             words::clear(ts);

@@ -6,6 +6,7 @@
 --   longestName    == the most bytes of a name (name-short)
 --   kindNamed s    == the kind that the bytes s name; each kind is the one with its name (kind-named)
 --   isList k       == whether it is the list
+--   handed k c     == how many forms or costs a call or file hands in where a list hands in c: none for the other kinds
 --   knownMap o     == the kind, if it is known and not the list
 -- Document 01: poly, short, circ, mat, list. Document 02: mid. Assumes nothing.
 use mathlib.Core.Path.{_≡_, refl}
@@ -54,6 +55,9 @@ name-short kind.Mid = omega arith
 
 abbrev pub isList : Kind → Bool
 isList k = kindEntry k .list
+
+abbrev pub handed : Kind → ℕ → ℕ
+handed k c = cond (isList k) c 0
 
 abbrev pub kinds : List Kind
 kinds = kind.Poly ∷ kind.Short ∷ kind.Circ ∷ kind.Mat ∷ kind.List ∷ kind.Mid ∷ []

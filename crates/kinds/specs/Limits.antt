@@ -1,5 +1,5 @@
 -- The limits on what is handed in. Document 01 refuses by 3 where "n × m exceeds 64" or "list has p or r above 64", by 4 a menu of "more than 4,095 forms",
--- by 8 where k "exceeds 64 where a formula is sent".
+-- by 8 where k "exceeds 64 where a formula is sent". Document 02: "Every menu form now carries a cost from 0 to 65,535".
 -- Assumes nothing.
 use Prim.Native.Nat.{ℕ}
 
@@ -18,3 +18,11 @@ mostProducts = 64
 -- of a menu
 abbrev pub mostGenerators : ℕ
 mostGenerators = 4095
+
+-- of a menu form's cost
+abbrev pub mostCost : ℕ
+mostCost = 65535
+
+-- of a generator's cost: the bits of 65,535
+abbrev pub costBits : ℕ
+costBits = 16

@@ -3,6 +3,7 @@
 --   need e o f      == refused by e where there is no value, else what f says of it
 --   refuse e b o    == refused by e where the test holds, else o
 --   follow o f      == refused as o is, else what f says of its value
+--   also e b o      == what is also refused by e where b holds: refusals come in the order of their numbers, so of two the lesser is the reply
 --   refusedBy e a   == refused by e, or by none where e is 0: what a number stands for that the code gives
 --   RefusedOnly P o == where o is refused, P holds of the number
 -- The list, by number:
@@ -15,7 +16,7 @@
 -- Assumes nothing.
 use mathlib.Core.Bool.{Bool, true, false}
 use mathlib.Core.Option.{Option, none, some}
-use Prim.Native.Nat.{ℕ, zero, suc}
+use Prim.Native.Nat.{ℕ, zero, suc, min}
 
 pub data Answer (A : Type 0) : Type 0 where
   refused : ℕ → Answer A
@@ -32,6 +33,11 @@ refuse e false o = o
 abbrev pub follow : {A B : Type 0} → Answer A → (A → Answer B) → Answer B
 follow (refused e) f = refused e
 follow (accepted a) f = f a
+
+abbrev pub also : {A : Type 0} → ℕ → Bool → Answer A → Answer A
+also e false o = o
+also e true (refused f) = refused (min e f)
+also e true (accepted a) = refused e
 
 abbrev pub refusedBy : {A : Type 0} → ℕ → A → Answer A
 refusedBy zero a = accepted a

@@ -2,12 +2,12 @@
 // names      its name in files: the table, and the kind that bytes name
 // specs/ also has the list of refusals. The map itself: `maps`.
 ghost use mathlib.Core.Path.{_≡_};
-ghost use Rattle.kinds.specs.Kinds.{numberOf, kindNumbered, isList, knownMap, seenKind};
+ghost use Rattle.kinds.specs.Kinds.{numberOf, kindNumbered, isList, handed, knownMap, seenKind};
 ghost use Rattle.kinds.specs.Sizes.{within, polySizes, squareSizes, matSizes, listSizes, midSizes, sizes, seenSizes};
 
 pub mod names;
 
-// The most coordinates of a form, targets of a map or list, products of a formula, and generators of a menu (specs/Limits.antt).
+// The most coordinates of a form, targets of a map or list, products of a formula, generators of a menu, cost of one, and bits of a cost (specs/Limits.antt).
 pub const COORDINATES: u64 = 64;
 
 pub const TARGETS: usize = 64;
@@ -15,6 +15,10 @@ pub const TARGETS: usize = 64;
 pub const PRODUCTS: usize = 64;
 
 pub const GENERATORS: usize = 4095;
+
+pub const COST: u64 = 65535;
+
+pub const COST_BITS: u64 = 16;
 
 // Document 01's kinds, then those of document 02.
 pub enum Kind {
@@ -72,6 +76,13 @@ pub fn is_list(kind: Kind) -> bool
         Kind::List => true,
         Kind::Mid => false,
     }
+}
+
+// How many forms or costs are handed in, where a list hands in c.
+pub fn handed(kind: Kind, c: u64) -> u64
+    ensures { λ r. ⌜ r ≡ handed kind c ⌝ }
+{
+    if is_list(kind) { c } else { 0 }
 }
 
 // The kind, if it is known and has formulae; `No` is refusal 2 of a formula.

@@ -9,6 +9,8 @@ pub mod Entry
 pub mod Greedy
 pub mod Extension
 pub mod Part
+pub mod Sorted
+pub mod Prices
 pub mod Walk
 pub mod Share
 pub mod Heavy

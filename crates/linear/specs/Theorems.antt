@@ -7,24 +7,30 @@
 --   one-combination, part-shape, part-spanning, part-dictionary-first, part-any-order
 --                                                            the one sum over independent vectors; the part of a selection that may be used for it
 --   formulae-exactly                                         the formulae of a space
---   rank-formula, rank-exactly, rank-above, rank-beyond      what Rank says: never one product too many, and when it says no number
+--   cheapest-of-a-space, cheapest-of-entries, cheapest-exactly, least-choices-listed
+--                                                            prices: the cheapest formula of a space and of all entries
+--   rank-formula, rank-exactly, rank-above, rank-beyond, rank-at-equal-prices
+--                                                            what Rank says: never one product too many, none cheaper, and when it says no number
 -- Assumes nothing.
 use mathlib.Core.Path.{_≡_}
 use mathlib.Core.Logic.{_⊎_, _↔_}
-use mathlib.Core.List.{List, [], _∷_, List·Memᴰ}
+use mathlib.Core.Bool.{false}
+use mathlib.Core.List.{List, [], _∷_, map, List·Memᴰ}
+use mathlib.Core.Option.{some}
 use Prim.Native.Nat.{ℕ, suc, _+_, _-_, _*_, _^_, _<_, _≤_}
 use native.Mathlib.Omega.{arith}
-use lib.ListN.{length}
+use lib.ListN.{length, getD}
 use Rattle.linear.specs.Space.{Space}
-use Rattle.linear.specs.Span.{combination, Span, SameSpan, Independent}
+use Rattle.linear.specs.Span.{combination, Span, Within, SameSpan, Independent}
 use Rattle.linear.specs.Basis.{reduce, insert, basisOf, Reduced, dim}
 use Rattle.linear.specs.Order.{Before, Rising, risingLists, Ordered, factorial}
 use Rattle.linear.specs.Select.{Once}
 use Rattle.linear.specs.Coefficients.{coefficients}
 use Rattle.linear.specs.Part.{part}
-use Rattle.linear.specs.Entry.{chosen, Solution, SolutionSpace, space, entries}
+use Rattle.linear.specs.Entry.{chosen, generatorsIn, Solution, SolutionSpace, space, entries}
 use Rattle.linear.specs.Rank.{Chosen, Computes, Rank}
-use Rattle.linear.specs.Formulae.{formula, above, beyond, formulae, fewest, Formula, RankFormula}
+use Rattle.linear.specs.Formulae.{first, formula, above, beyond, formulae, allFormulae, fewest, Formula, RankFormula}
+use Rattle.linear.specs.Prices.{precedes, cheapest, byPrice, cheapestIn}
 use Rattle.linear.specs.laws.Reduce.{member}
 use Rattle.linear.specs.laws.Insert.{insert-old, insert-reduced, insert-span, insert-length-new, basisOf-reduced, basisOf-span}
 use Rattle.linear.specs.laws.Dimension as dimensions
@@ -39,6 +45,10 @@ use Rattle.linear.specs.laws.Part.{part-rising, part-selected, part-inde
 use Rattle.linear.specs.laws.Spaces.{space-of-solution, space-listed}
 use Rattle.linear.specs.laws.Rank.{solution-from, chosen-from, no-entry, rank-is}
 use Rattle.linear.specs.laws.Formulae.{formulae-are}
+use Rattle.linear.specs.laws.Prices.{precedes-no, no-precedes, cheapest-is, cheapest-only}
+use Rattle.linear.specs.laws.Cheapest.{cheapestIn-formula, cheapestIn-first, cheapest-found}
+use Rattle.linear.specs.laws.AllFormulae.{cheapest-entries, least-listed}
+use Rattle.linear.specs.laws.EqualPrices.{equal-prices}
 use Rattle.linear.specs.laws.Fewest as rank
 
 -- ---- bases
@@ -181,24 +191,68 @@ module _ (S : Space) (gens targets : List (S .Vec)) where
   pub least-is-rank : (r : ℕ) (es : List ℕ) → List·Memᴰ es (entries S gens targets r) → ((k : ℕ) → dim S targets ≤ k → k < r → entries S gens targets k ≡ []) → Rank S gens targets r
   least-is-rank = rank-is S gens targets
 
-  -- ---- formulae, and Rank
+  -- ---- formulae
   -- The formulae of a space are exactly the sets (rising lists of numbers) of as many independent generators as it has dimensions that span it.
   pub formulae-exactly : (W : List Vec) → Reduced S W → (es : List ℕ) → List·Memᴰ es (formulae S gens W) ↔ Formula S gens W es
   formulae-exactly = formulae-are S gens
 
-  -- Where Rank says a formula, its products are independent generators that compute the targets, it is the first formula of the first entry for
-  -- their number r, and r is the rank: every choice of generators that computes the targets has at least r.
-  pub rank-formula : (fs : List ℕ) → fewest S gens targets ≡ formula fs → RankFormula S gens targets fs
-  rank-formula = rank.fewest-formula S gens targets
+  -- ---- prices
+  -- Of the generators inside a space, by price and among equals by number, take each that is not yet spanned: ascending that is a formula of the space, and no
+  -- formula of the space costs less, or as much and stands before it in a dictionary. `prices` has one price a generator, and `base` is at least their number.
+  module _ (prices : List ℕ) (base : ℕ) (all : length prices ≡ length gens) (wide : length gens ≤ base) where
+    pub cheapest-of-a-space : (W : List Vec) → Reduced S W → Within S W (generatorsIn S gens W)
+        → Formula S gens W (cheapestIn S gens (byPrice base prices) W)
+        × ((fs : List ℕ) → Formula S gens W fs → precedes prices fs (cheapestIn S gens (byPrice base prices) W) ≡ false)
+        × (cheapest prices (formulae S gens W) ≡ some (cheapestIn S gens (byPrice base prices) W))
+    cheapest-of-a-space W ρ h = (
+      cheapestIn-formula S gens prices base all wide W ρ h,
+      λ fs F. precedes-no prices fs (cheapestIn S gens (byPrice base prices) W) (cheapestIn-first S gens prices base all wide W ρ h fs F),
+      cheapest-found S gens prices base all wide W ρ h,
+    )
 
-  -- It says one exactly if some ℓ + 6 or fewer generators compute the targets,
-  pub rank-exactly : ((fs : List ℕ) × (fewest S gens targets ≡ formula fs)) ↔ ((xs : List Vec) × Chosen S gens xs × (length xs ≤ dim S targets + 6) × Computes S targets xs)
-  rank-exactly = rank.fewest-exactly S gens targets
+    -- So the cheapest of the formulae of all entries for k is the cheapest of one of each.
+    pub cheapest-of-entries : (k : ℕ) → cheapest prices (allFormulae S gens targets k)
+        ≡ cheapest prices (map (λ es. cheapestIn S gens (byPrice base prices) (space S gens targets es)) (entries S gens targets k))
+    cheapest-of-entries k = cheapest-entries S gens targets prices base k all wide
 
-  -- above exactly if the generators compute the targets and no k from ℓ to ℓ + 6 has an entry,
-  pub rank-above : (fewest S gens targets ≡ above) ↔ (Computes S targets gens × ((k : ℕ) → dim S targets ≤ k → k ≤ dim S targets + 6 → entries S gens targets k ≡ []))
-  rank-above = rank.fewest-above S gens targets
+  -- The cheapest of some choices is one of them that no other precedes, and there is one wherever there is a choice.
+  pub cheapest-exactly : (prices : List ℕ) (l : List (List ℕ)) (es : List ℕ)
+      → (cheapest prices l ≡ some es) ↔ (List·Memᴰ es l × ((fs : List ℕ) → List·Memᴰ fs l → precedes prices fs es ≡ false))
+  cheapest-exactly prices l es = (
+    λ e. let c = cheapest-is prices l es e in (c .member, λ fs m. precedes-no prices fs es (c .first fs m)),
+    λ (m, h). cheapest-only prices l es (record { member = m; first = λ fs n. no-precedes prices fs es (h fs n) }),
+  )
 
-  -- and beyond exactly if the generators don't compute the targets.
-  pub rank-beyond : (fewest S gens targets ≡ beyond) ↔ (Computes S targets gens → ⊥)
-  rank-beyond = rank.fewest-beyond S gens targets
+  -- The formulae of the entries for the rank r are exactly the rising choices of r generators that compute the targets: r being least, any r that compute
+  -- them span an entry.
+  pub least-choices-listed : (r : ℕ) → Rank S gens targets r → (es : List ℕ)
+      → List·Memᴰ es (allFormulae S gens targets r) ↔ (Rising 0 (length gens) es × (length es ≡ r) × Computes S targets (chosen S gens es))
+  least-choices-listed = least-listed S gens targets
+
+  -- ---- Rank
+  module _ (prices : List ℕ) where
+    -- Where Rank says a formula, its products are independent generators that compute the targets, it is a formula of an entry for their number r, and r is
+    -- the rank: every choice of generators that computes the targets has at least r. Those with r cost at least as much, and those that cost as much
+    -- don't stand before it in a dictionary.
+    pub rank-formula : (fs : List ℕ) → fewest S gens targets prices ≡ formula fs → RankFormula S gens targets prices fs
+    rank-formula = rank.fewest-formula S gens targets prices
+
+    -- It says one exactly if some ℓ + 6 or fewer generators compute the targets,
+    pub rank-exactly : ((fs : List ℕ) × (fewest S gens targets prices ≡ formula fs))
+        ↔ ((xs : List Vec) × Chosen S gens xs × (length xs ≤ dim S targets + 6) × Computes S targets xs)
+    rank-exactly = rank.fewest-exactly S gens targets prices
+
+    -- above exactly if the generators compute the targets and no k from ℓ to ℓ + 6 has an entry,
+    pub rank-above : (fewest S gens targets prices ≡ above)
+        ↔ (Computes S targets gens × ((k : ℕ) → dim S targets ≤ k → k ≤ dim S targets + 6 → entries S gens targets k ≡ []))
+    rank-above = rank.fewest-above S gens targets prices
+
+    -- and beyond exactly if the generators don't compute the targets.
+    pub rank-beyond : (fewest S gens targets prices ≡ beyond) ↔ (Computes S targets gens → ⊥)
+    rank-beyond = rank.fewest-beyond S gens targets prices
+
+    -- Where all generators cost the same, what it says is the first formula of the first entry for r.
+    pub rank-at-equal-prices : ((i j : ℕ) → i < length gens → j < length gens → getD prices i 0 ≡ getD prices j 0)
+        → (fs : List ℕ) → fewest S gens targets prices ≡ formula fs
+        → (es : List ℕ) × (first (entries S gens targets (length fs)) ≡ some es) × (first (formulae S gens (space S gens targets es)) ≡ some fs)
+    rank-at-equal-prices = equal-prices S gens targets prices

@@ -10,6 +10,7 @@ pub mod Order
 pub mod Count
 pub mod Select
 pub mod Permuted
+pub mod Sorted
 pub mod Entry
 pub mod Greedy
 pub mod Extension
@@ -20,12 +21,17 @@ pub mod Pruned
 pub mod Canonical
 pub mod Walk
 pub mod Share
+pub mod Prices
+pub mod Exchange
 pub mod Heavy
 pub mod Spread
 pub mod Rank
 pub mod Spaces
 pub mod Formulae
+pub mod Cheapest
+pub mod AllFormulae
 pub mod Fewest
+pub mod EqualPrices
 pub mod Finite
 pub mod Bit
 pub mod Shift

@@ -4,7 +4,8 @@
 --   many-left, many-right  13 variables on one side make too many
 --   narrow, low            2 ^ m of at most 12 bits, and 2 ^ m − 1 as the machine makes it
 --   counted, product-fits  the count as the machine makes it, and that it fits
---   numbered-narrow, numbered-base   of a menu that is not refused, m is at most 12 and 2 ^ m − 1 is not 0
+--   base-some              2 ^ m − 1 as the machine makes it is not 0
+--   numbered-mask          of a number of a menu that is not refused the masks can be made
 -- Assumes nothing.
 use mathlib.Core.Path.{_≡_, refl, sym, ap, ap₂, _∙_}
 use mathlib.Core.Option.{none, some}
@@ -18,7 +19,7 @@ use borrow.Author.Tests.{leb-true}
 use Rattle.kinds.specs.laws.Sizes.{given-yes, given-no}
 use borrow.Author.Tests.{le-leb}
 use Rattle.linear.specs.laws.Shift.{one-shift}
-use Rattle.maps.specs.Generators.{generatorCount, countOf, Numbered}
+use Rattle.maps.specs.Generators.{generatorCount, countOf, Numbered, MaskNumber}
 use Rattle.kinds.specs.Limits.{mostGenerators}
 
 module _ (n m : ℕ) where
@@ -67,6 +68,9 @@ low m h =
     let e = one-shift m (omega arith) in
     record { shift = omega arith; some = omega (arith, e, pow-pos m); same = ap (λ (x : ℕ). x - 1) e; small = omega (arith, e, narrow m h) }
 
+pub base-some : (m : ℕ) → 1 ≤ m → m ≤ 12 → 0 < 1 * 2 ^ m % 2 ^ 64 - 1
+base-some m s h = omega (arith, low m h .same, any m s)
+
 pub counted : (n m : ℕ) → n ≤ 12 → m ≤ 12 → (1 * 2 ^ n % 2 ^ 64 - 1) * (1 * 2 ^ m % 2 ^ 64 - 1) ≡ generatorCount n m
 unfolding generatorCount
 counted n m h k = ap₂ _*_ (low n h .same) (low m k .same)
@@ -85,19 +89,25 @@ module _ (n m j : ℕ) (N : Numbered n m j) where
   unfolding generatorCount
   factors = positive (2 ^ n - 1) (2 ^ m - 1) (let h = N .below in omega arith)
 
-  pub numbered-base : 0 < 2 ^ m - 1
-  numbered-base = factors .1
+  -- a side that has a mask has a variable
+  variables : (x n : ℕ) → 0 < x → 2 ^ n - 1 ≡ x → 0 < n
+  variables x zero h e = absurd (omega arith)
+  variables x (suc n) h e = omega arith
 
-  pub numbered-narrow : m ≤ 12
-  numbered-narrow = go (decLe m 12)
+  few-right : m ≤ 12
+  few-right = go (decLe m 12)
     where
       pos : 0 < n
-      pos = by (2 ^ n - 1) n (factors .0) refl
-        where
-          by : (x n : ℕ) → 0 < x → 2 ^ n - 1 ≡ x → 0 < n
-          by x zero h e = absurd (omega arith)
-          by x (suc n) h e = omega arith
+      pos = variables (2 ^ n - 1) n (factors .0) refl
 
       go : Dec (m ≤ 12) → m ≤ 12
       go (yes l) = l
       go (no l) = absurd (let h = N .few in omega (arith, h, many-right n m pos (omega arith)))
+
+  pub numbered-mask : MaskNumber m j
+  numbered-mask =
+      record {
+        some = variables (2 ^ m - 1) m (factors .1) refl;
+        narrow = few-right;
+        few = (let a = N .below in let b = N .few in omega arith);
+      }

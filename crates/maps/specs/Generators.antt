@@ -76,10 +76,11 @@ pub record Numbered (n m j : ℕ) : Type 0 where
   pub below : j < generatorCount n m
   pub few : generatorCount n m ≤ mostGenerators
 
--- masks of such a menu: each side has at most 12 variables
-pub record SmallMasks (m A B : ℕ) : Type 0 where
+-- a number whose masks the code makes: of b's there are 1 to 12, as in every menu that is not refused
+pub record MaskNumber (m j : ℕ) : Type 0 where
+  pub some : 1 ≤ m
   pub narrow : m ≤ 12
-  pub masks : Masks 12 m A B
+  pub few : j ≤ mostGenerators
 
 -- ---- numbers and masks
 more-less : (x : ℕ) → x + 1 - 1 ≡ x

@@ -1,9 +1,10 @@
-// Forms written from the start of a lent buffer: those of a list, the generators and the targets of a map.
+// Written from the start of a lent buffer: the forms of a list, the generators, their costs and the targets of a map.
 ghost use mathlib.Core.Path.{_≡_};
 ghost use Prim.Native.Nat.{_≤_};
 ghost use lib.ListN.{length, take};
 ghost use Rattle.maps.specs.Target.{targetForm};
 ghost use Rattle.maps.specs.Generators.{listOf, generatorForms};
+ghost use Rattle.maps.specs.Costs.{generatorCosts};
 ghost use Rattle.maps.specs.form_lists.Fills.{Made, Mapping};
 use kinds::Shape;
 
@@ -28,6 +29,18 @@ pub fn fill_generators(n: u64, m: u64, c: u64, g: &mut [u64])
     while j < c {
         g[j as usize] = super::generator_form(n, m, j);
         j += 1;
+    }
+}
+
+// The costs of the c generators in n and m variables, from the buffer's start.
+pub fn fill_costs(n: u64, m: u64, c: u64, out: &mut [u64])
+    requires { ⌜ Made n m c (now out) ⌝ }
+    ensures { λ _. ⌜ take c (now (out .exit)) ≡ generatorCosts n m ⌝ }
+{
+    let mut i = 0u64;
+    while i < c {
+        out[i as usize] = super::generator_cost(m, i);
+        i += 1;
     }
 }
 

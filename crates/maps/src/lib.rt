@@ -1,11 +1,13 @@
-// The bilinear maps: which a_i b_j are terms of an output, the target forms, the number of generators (refusal 4), and the form of a generator's number.
+// The bilinear maps: which a_i b_j are terms of an output, the target forms, the number of generators (refusal 4), and the form and the
+// cost of a generator's number.
 // squares      the coefficient forms of square poly sizes, a table
-// form_lists   a list's forms, a map's generators and its targets, written to a lent buffer
+// form_lists   a list's forms, a map's generators with their costs, and its targets, written to a lent buffer
 // What the maps are on bits stands in specs/Textbook.antt. Sizes: `kinds`. Which problem is accepted: `problems`.
 ghost use mathlib.Core.Path.{_≡_};
 ghost use Rattle.maps.specs.Target.{pair, targetForm};
 ghost use Rattle.maps.specs.Accepted.{Accepted, Terms};
-ghost use Rattle.maps.specs.Generators.{generatorForm, numbered, countOf, seenCount, Numbered, SmallMasks};
+ghost use Rattle.maps.specs.Generators.{firstMask, secondMask, generatorForm, countOf, seenCount, Numbered, MaskNumber};
+ghost use Rattle.maps.specs.Costs.{generatorCost};
 use kinds::Kind;
 use kinds::Shape;
 
@@ -97,11 +99,37 @@ pub fn generator_count(n: u64, m: u64) -> Count
     }
 }
 
-// The form of the generator number j: its masks are the digits of j to the base 2^m - 1, each counted from 1.
+// The masks of the generator number j: the digits of j to the base 2^m - 1, each counted from 1.
+fn first_mask(m: u64, j: u64) -> u64
+    requires { ⌜ MaskNumber m j ⌝ }
+    ensures { λ x. ⌜ x ≡ firstMask m j ⌝ }
+{
+    j / ((1u64 << m) - 1) + 1
+}
+
+fn second_mask(m: u64, j: u64) -> u64
+    requires { ⌜ MaskNumber m j ⌝ }
+    ensures { λ x. ⌜ x ≡ secondMask m j ⌝ }
+{
+    j % ((1u64 << m) - 1) + 1
+}
+
+// The form of the generator number j.
 pub fn generator_form(n: u64, m: u64, j: u64) -> u64
     requires { ⌜ Numbered n m j ⌝ }
     ensures { λ x. ⌜ x ≡ generatorForm n m j ⌝ }
 {
-    let base = (1u64 << m) - 1;
-    forms::products::product(n as usize, m as usize, j / base + 1, j % base + 1)
+    let a = first_mask(m, j);
+    let b = second_mask(m, j);
+    forms::products::product(n as usize, m as usize, a, b)
+}
+
+// The cost of the generator number j: the ones of both masks, less 2.
+pub fn generator_cost(m: u64, j: u64) -> u64
+    requires { ⌜ MaskNumber m j ⌝ }
+    ensures { λ x. ⌜ x ≡ generatorCost m j ⌝ }
+{
+    let a = first_mask(m, j);
+    let b = second_mask(m, j);
+    (forms::ones(a) + forms::ones(b)) as u64 - 2
 }

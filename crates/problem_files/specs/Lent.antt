@@ -1,9 +1,9 @@
--- The reply to a problem's file, and what the two lent buffers hold at exit.
+-- The reply to a problem's file, and what the three lent buffers hold at exit.
 --   problemReply a              == the code's answer
 --   problemReadNumbers x        == its numbers: the refusal's, the kind's, p, q, r and k; `problemReadValues`, the same of what is accepted
---   generatorsOf, targetsOf a d == the buffer d after it: all 0 where the reading is refused, else the forms handed in from the start and the
---     rest as it was; a kind other than list hands in none, and d is as it was
---   Settled a u v x t y         == the reply y to refusals 8 and 9, where x was said of the file and its targets stand at the start of t
+--   generatorsOf, targetsOf, costsOf a d == the buffer d after it: all 0 where the reading is refused, else the forms or costs handed in from the start
+--     and the rest as it was; a kind other than list hands in none, and d is as it was
+--   Settled a u v w x t y       == the reply y to refusals 8 and 9, where x was said of the file and its targets stand at the start of t
 -- Assumes nothing.
 use Prim.Native.Nat.{ℕ}
 use mathlib.Core.Path.{_≡_}
@@ -40,5 +40,9 @@ abbrev pub targetsOf : Answer ProblemFile → List ℕ → List ℕ
 targetsOf (refused e) d = zeros d
 targetsOf (accepted P) d = filled (P .targets) d
 
-pub record Settled (a : Purpose) (u v : ℕ) (x : PosedRead) (t : List ℕ) (y : ProblemRead) : Type 0 where
-  pub by : (gs ts g : List ℕ) → y ≡ problemReply (follow (seenPosing gs ts g t x) (settled a u v))
+abbrev pub costsOf : Answer ProblemFile → List ℕ → List ℕ
+costsOf (refused e) d = zeros d
+costsOf (accepted P) d = filled (P .costs) d
+
+pub record Settled (a : Purpose) (u v w : ℕ) (x : PosedRead) (t : List ℕ) (y : ProblemRead) : Type 0 where
+  pub by : (gs ts cs g : List ℕ) → y ≡ problemReply (follow (seenPosing gs ts cs g t x) (settled a u v w))

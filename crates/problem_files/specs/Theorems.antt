@@ -11,12 +11,12 @@ use Rattle.problem_files.specs.laws.Numbers.{problem-differ, problem-num
 use Rattle.problem_files.specs.declared.judging.Purpose.{Purpose}
 use Rattle.problem_files.specs.declared.judging.ProblemRead.{ProblemRead}
 
-pub problem-numbers-told : (a a′ : Purpose) (s s′ : List ℕ) (u v u′ v′ : ℕ) (x y : ProblemRead)
-    → x ≡ problemReply (problemFile a s u v) → y ≡ problemReply (problemFile a′ s′ u′ v′) → problemReadNumbers x ≡ problemReadNumbers y → x ≡ y
-problem-numbers-told a a′ s s′ u v u′ v′ x y e f =
-    problem-differ (problemFile a s u v) (problemFile a′ s′ u′ v′) x y e f (problem-numbered a s u v) (problem-numbered a′ s′ u′ v′)
+pub problem-numbers-told : (a a′ : Purpose) (s s′ : List ℕ) (u v w u′ v′ w′ : ℕ) (x y : ProblemRead)
+    → x ≡ problemReply (problemFile a s u v w) → y ≡ problemReply (problemFile a′ s′ u′ v′ w′) → problemReadNumbers x ≡ problemReadNumbers y → x ≡ y
+problem-numbers-told a a′ s s′ u v w u′ v′ w′ x y e f =
+    problem-differ (problemFile a s u v w) (problemFile a′ s′ u′ v′ w′) x y e f (problem-numbered a s u v w) (problem-numbered a′ s′ u′ v′ w′)
 
-pub input-numbers-told : (a a′ : Purpose) (s s′ : List ℕ) (u v u′ v′ : ℕ) (x y : ProblemRead)
-    → x ≡ problemReply (inputFile a s u v) → y ≡ problemReply (inputFile a′ s′ u′ v′) → problemReadNumbers x ≡ problemReadNumbers y → x ≡ y
-input-numbers-told a a′ s s′ u v u′ v′ x y e f =
-    problem-differ (inputFile a s u v) (inputFile a′ s′ u′ v′) x y e f (input-numbered a s u v) (input-numbered a′ s′ u′ v′)
+pub input-numbers-told : (a a′ : Purpose) (s s′ : List ℕ) (u v w u′ v′ w′ : ℕ) (x y : ProblemRead)
+    → x ≡ problemReply (inputFile a s u v w) → y ≡ problemReply (inputFile a′ s′ u′ v′ w′) → problemReadNumbers x ≡ problemReadNumbers y → x ≡ y
+input-numbers-told a a′ s s′ u v w u′ v′ w′ x y e f =
+    problem-differ (inputFile a s u v w) (inputFile a′ s′ u′ v′ w′) x y e f (input-numbered a s u v w) (input-numbered a′ s′ u′ v′ w′)

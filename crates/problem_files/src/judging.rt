@@ -22,15 +22,19 @@ fn beyond(purpose: Purpose, k: u64, targets: &[u64]) -> bool
     }
 }
 
-// Whether buffers of `first` and `second` words are too short for the forms handed in, refusal 9.
-fn too_short(shape: Shape, first: usize, second: usize) -> bool
-    ensures { λ r. ⌜ r ≡ short shape first second ⌝ }
+// Whether buffers of `first`, `second` and `third` words are too short for the forms and costs handed in, refusal 9.
+fn too_short(shape: Shape, first: usize, second: usize, third: usize) -> bool
+    ensures { λ r. ⌜ r ≡ short shape first second third ⌝ }
 {
     let kind = shape.kind;
-    if (first as u64) < super::handed_forms::handed(kind, shape.q) {
+    let n = kinds::handed(kind, shape.q);
+    if (first as u64) < n {
         return true;
     }
-    (second as u64) < super::handed_forms::handed(kind, shape.r)
+    if (second as u64) < kinds::handed(kind, shape.r) {
+        return true;
+    }
+    (third as u64) < n
 }
 
 // The reply of reading a problem: a refusal's number, or the kind and sizes, and k.
@@ -44,10 +48,11 @@ pub fn settle(
     purpose: Purpose,
     first: usize,
     second: usize,
+    third: usize,
     said: PosedRead,
     t: &[u64],
 ) -> ProblemRead
-    ensures { λ x. ⌜ Settled purpose first second said (now (t .entry)) x ⌝ }
+    ensures { λ x. ⌜ Settled purpose first second third said (now (t .entry)) x ⌝ }
 {
     match said {
         PosedRead::Refused(e) => ProblemRead::Refused(e),
@@ -55,7 +60,7 @@ pub fn settle(
             if beyond(purpose, k, first_words(t, u)) {
                 return ProblemRead::Refused(8);
             }
-            if too_short(shape, first, second) {
+            if too_short(shape, first, second, third) {
                 return ProblemRead::Refused(9);
             }
             ProblemRead::Problem(shape, k)

@@ -1,5 +1,4 @@
 // The problem of a file: refusals 1 to 7, its generators and targets made once.
-ghost use mathlib.Core.Path.{_≡_};
 ghost use Prim.Native.Nat.{_≤_};
 ghost use lib.ListN.{length};
 ghost use Rattle.kinds.specs.Limits.{mostGenerators, mostTargets};
@@ -37,7 +36,8 @@ fn pose_handed(
     }
 }
 
-// The lines under the first two: refusals 4 to 7, or the forms handed in from the start of gs and ts and the problem from the start of g and t.
+// The lines under the first two: refusals 4 to 7, or the forms handed in from the start of gs and ts, the costs from the start of cs and the problem from
+// the start of g and t.
 fn pose_lines(
     shape: Shape,
     k: u64,
@@ -46,32 +46,36 @@ fn pose_lines(
     s: &[u8],
     gs: &mut [u64],
     ts: &mut [u64],
+    cs: &mut [u64],
     g: &mut [u64],
     t: &mut [u64],
 ) -> PosedRead
-    requires { ⌜ FormRoom shape (now gs) (now ts) × (mostGenerators ≤ length (now g)) × (mostTargets ≤ length (now t)) ⌝ }
-    ensures { λ x. ⌜ Poses (posedLines shape k n m (now (s .entry))) (now (gs .exit)) (now (ts .exit)) (now (g .exit)) (now (t .exit)) x ⌝ }
+    requires { ⌜ FormRoom shape (now gs) (now ts) (now cs) × (mostGenerators ≤ length (now g)) × (mostTargets ≤ length (now t)) ⌝ }
+    ensures { λ x. ⌜ Poses (posedLines shape k n m (now (s .entry)))
+        (now (gs .exit)) (now (ts .exit)) (now (cs .exit)) (now (g .exit)) (now (t .exit)) x ⌝ }
 {
-    let e = super::handed_forms::read_lines(shape, n, m, s, gs, ts);
+    let e = super::handed_forms::read_lines(shape, n, m, s, gs, ts, cs);
     if e != 0 {
         return PosedRead::Refused(e);
     }
     let kind = shape.kind;
-    let c = super::handed_forms::handed(kind, shape.q) as usize;
-    let d = super::handed_forms::handed(kind, shape.r) as usize;
+    let c = kinds::handed(kind, shape.q) as usize;
+    let d = kinds::handed(kind, shape.r) as usize;
     pose_handed(shape, k, first_words(gs, c), first_words(ts, d), g, t)
 }
 
-// The whole file: refusals 1 to 7, or the forms handed in and the problem, likewise.
+// The whole file: refusals 1 to 7, or the forms and costs handed in and the problem, likewise.
 pub fn pose_file(
     file: &[u8],
     gs: &mut [u64],
     ts: &mut [u64],
+    cs: &mut [u64],
     g: &mut [u64],
     t: &mut [u64],
 ) -> PosedRead
-    requires { ⌜ (mostGenerators ≤ length (now gs)) × (mostTargets ≤ length (now ts)) × (mostGenerators ≤ length (now g)) × (mostTargets ≤ length (now t)) ⌝ }
-    ensures { λ x. ⌜ Poses (posedFile (now (file .entry))) (now (gs .exit)) (now (ts .exit)) (now (g .exit)) (now (t .exit)) x ⌝ }
+    requires { ⌜ (mostGenerators ≤ length (now gs)) × (mostTargets ≤ length (now ts)) × (mostGenerators ≤ length (now cs))
+        × (mostGenerators ≤ length (now g)) × (mostTargets ≤ length (now t)) ⌝ }
+    ensures { λ x. ⌜ Poses (posedFile (now (file .entry))) (now (gs .exit)) (now (ts .exit)) (now (cs .exit)) (now (g .exit)) (now (t .exit)) x ⌝ }
 {
     let HeadRead::Is(known, p, q, r, k, at) = text::heads::head_lines(file) else {
         return PosedRead::Refused(1);
@@ -88,5 +92,5 @@ pub fn pose_file(
     let Sized::Are(n, m, o) = kinds::sizes_of(shape) else {
         return PosedRead::Refused(3);
     };
-    pose_lines(shape, k, n, m, &file[at..], gs, ts, g, t)
+    pose_lines(shape, k, n, m, &file[at..], gs, ts, cs, g, t)
 }

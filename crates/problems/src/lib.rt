@@ -1,6 +1,6 @@
 // A problem on numbers: refusals 2 to 7, then its generators and targets in lent buffers, in the same way for a list and for a map.
+// prices   the prices of its generators, in a third buffer
 // What is asked of a problem: `selections`, `catalogue`, `rank`, `space_formulae`. Reading one from a file: `problem_files`.
-ghost use mathlib.Core.Path.{_≡_};
 ghost use Prim.Native.Nat.{_≤_};
 ghost use lib.ListN.{length};
 ghost use Rattle.maps.specs.form_lists.Fills.{Mapping};
@@ -11,6 +11,8 @@ use kinds::Known;
 use kinds::Shape;
 use kinds::Sized;
 use maps::Count;
+
+pub mod prices;
 
 // A refusal's number, or the numbers of generators and of targets.
 pub enum Posed {

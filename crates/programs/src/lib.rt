@@ -6,7 +6,9 @@ ghost use Prim.Native.Nat.{_≤_};
 ghost use lib.ListN.{length, take};
 ghost use Rattle.problems.specs.Problem.{problem};
 ghost use Rattle.problems.specs.Theorems.{Few};
-ghost use Rattle.programs.specs.Programs.{replyOn, problemProgram, catalogueProgram, rankProgram};
+ghost use Rattle.problems.specs.prices.Prices.{prices};
+ghost use Rattle.rank_text.specs.RankAnswers.{rankReply};
+ghost use Rattle.programs.specs.Programs.{Pricing, replyOn, problemProgram, catalogueProgram, rankProgram};
 ghost use Rattle.printing.specs.refusals.Pages.{replyPage};
 ghost use Rattle.printing.specs.fields.Written.{writtenIn};
 ghost use Rattle.printing.specs.pages.Printed.{pageAnswer, seenPrinted};
@@ -16,6 +18,25 @@ use problem_files::judging::Purpose;
 use problem_files::posing::PosedRead;
 use words::first_words;
 
+// What Rank prints of a posed problem of that kind and sizes, its generators priced first, from the start of a page; its length.
+fn priced_reply(
+    shape: Shape,
+    k: u64,
+    gens: &[u64],
+    targets: &[u64],
+    costs: &[u64],
+    page: &mut [u8],
+) -> usize
+    requires { ⌜ (length (now page) ≡ replyPage) × Few (problem (now gens) (now targets)) × Pricing shape (now costs) (now gens) ⌝ }
+    ensures { λ e. ⌜ (take e (now (page .exit)) ≡ rankReply shape k (problem (now (gens .entry)) (now (targets .entry))) (prices shape (now (costs .entry))))
+        × (e ≤ replyPage) ⌝ }
+{
+    let n = gens.len();
+    let mut v = [0u64; kinds::GENERATORS];
+    problems::prices::fill_prices(shape, costs, n, &mut v);
+    rank_text::rank_reply(shape, k, gens, targets, first_words(&v, n), page)
+}
+
 // What is printed of a posed problem of that kind and sizes, from the start of a page; its length.
 fn reply(
     purpose: Purpose,
@@ -23,14 +44,16 @@ fn reply(
     k: u64,
     gens: &[u64],
     targets: &[u64],
+    costs: &[u64],
     page: &mut [u8],
 ) -> usize
-    requires { ⌜ (length (now page) ≡ replyPage) × Few (problem (now gens) (now targets)) ⌝ }
-    ensures { λ e. ⌜ (take e (now (page .exit)) ≡ replyOn purpose shape k (problem (now (gens .entry)) (now (targets .entry)))) × (e ≤ replyPage) ⌝ }
+    requires { ⌜ (length (now page) ≡ replyPage) × Few (problem (now gens) (now targets)) × Pricing shape (now costs) (now gens) ⌝ }
+    ensures { λ e. ⌜ (take e (now (page .exit)) ≡ replyOn purpose shape k (problem (now (gens .entry)) (now (targets .entry))) (now (costs .entry)))
+        × (e ≤ replyPage) ⌝ }
 {
     match purpose {
         Purpose::Catalogue => catalogue_text::catalogue_reply(shape, k, gens, targets, page),
-        Purpose::Rank => rank_text::rank_reply(shape, k, gens, targets, page),
+        Purpose::Rank => priced_reply(shape, k, gens, targets, costs, page),
     }
 }
 
@@ -39,18 +62,24 @@ fn problem_program(purpose: Purpose, file: &[u8], page: &mut [u8]) -> usize
     requires { ⌜ length (now page) ≡ replyPage ⌝ }
     ensures { λ e. ⌜ (take e (now (page .exit)) ≡ problemProgram purpose (now (file .entry))) × (e ≤ replyPage) ⌝ }
 {
+    let mut costs = [0u64; kinds::GENERATORS];
     let mut g = [0u64; kinds::GENERATORS];
     let mut t = [0u64; kinds::TARGETS];
-    match problem_files::inputs::pose_input(file, &mut g, &mut t) {
+    match problem_files::inputs::pose_input(file, &mut costs, &mut g, &mut t) {
         PosedRead::Refused(e) => printing::refusals::refused_page(e, page),
-        PosedRead::Problem(shape, k, c, u) => reply(
-            purpose,
-            shape,
-            k,
-            first_words(&g, c),
-            first_words(&t, u),
-            page,
-        ),
+        PosedRead::Problem(shape, k, c, u) => {
+            let kind = shape.kind;
+            let handed = kinds::handed(kind, shape.q) as usize;
+            reply(
+                purpose,
+                shape,
+                k,
+                first_words(&g, c),
+                first_words(&t, u),
+                first_words(&costs, handed),
+                page,
+            )
+        }
     }
 }
 

@@ -10,9 +10,9 @@ use Rattle.rank.specs.fewest.Fewest.{seenRanked, rankNumbers}
 use Rattle.rank.specs.laws.Numbers.{rank-differ, rank-numbered}
 use Rattle.rank.specs.declared.fewest.Ranked.{Ranked}
 
-pub rank-numbers-told : (number p q r k number′ p′ q′ r′ k′ : ℕ) (gs ts old after gs′ ts′ old′ after′ : List ℕ) (x y : Ranked)
-    → rank number p q r k gs ts old ≡ seenRanked x after → rank number′ p′ q′ r′ k′ gs′ ts′ old′ ≡ seenRanked y after′
+pub rank-numbers-told : (number p q r k number′ p′ q′ r′ k′ : ℕ) (gs ts costs old after gs′ ts′ costs′ old′ after′ : List ℕ) (x y : Ranked)
+    → rank number p q r k gs ts costs old ≡ seenRanked x after → rank number′ p′ q′ r′ k′ gs′ ts′ costs′ old′ ≡ seenRanked y after′
     → rankNumbers x ≡ rankNumbers y → x ≡ y
-rank-numbers-told number p q r k number′ p′ q′ r′ k′ gs ts old after gs′ ts′ old′ after′ x y e f =
-    rank-differ x y after after′ (seen-numbered e (rank-numbered number p q r k gs ts old))
-    (seen-numbered f (rank-numbered number′ p′ q′ r′ k′ gs′ ts′ old′))
+rank-numbers-told number p q r k number′ p′ q′ r′ k′ gs ts costs old after gs′ ts′ costs′ old′ after′ x y e f =
+    rank-differ x y after after′ (seen-numbered e (rank-numbered number p q r k gs ts costs old))
+    (seen-numbered f (rank-numbered number′ p′ q′ r′ k′ gs′ ts′ costs′ old′))

@@ -1,17 +1,11 @@
-// Rank on numbers: refusals 2 to 8, the fewest products, and the first formula with so many.
+// Rank on numbers: refusals 2 to 8, the fewest products, and the cheapest formula with so many.
 // fewest     the same where the problem is made
 // What it means beside Catalogue: `theorems`. The reply as text: `rank_text`.
 ghost use mathlib.Core.Path.{_≡_};
-ghost use Prim.Native.Nat.{_≤_};
-ghost use lib.ListN.{length};
-ghost use Rattle.linear.specs.Basis.{basisOf};
-ghost use Rattle.linear.specs.Word.{word};
-ghost use Rattle.kinds.specs.Limits.{mostGenerators};
-ghost use Rattle.bases.specs.Basis.{Holds};
+ghost use Rattle.kinds.specs.Numbers.{replyNumbers};
 ghost use Rattle.problems.specs.Problem.{problem};
 ghost use Rattle.rank.specs.Rank.{rankFor, rank};
-ghost use Rattle.kinds.specs.Numbers.{replyNumbers};
-ghost use Rattle.rank.specs.fewest.Fewest.{seenRanked, lentRanking, rankNumbers, rankValues};
+ghost use Rattle.rank.specs.fewest.Fewest.{seenRanked, lentRanking, rankNumbers, rankValues, RankAsked};
 use bases::Basis;
 use fewest::Ranked;
 use problems::Posed;
@@ -20,18 +14,28 @@ use words::first_words;
 pub mod fewest;
 
 // Rank of a posed problem, the basis of whose targets is `b`; refusal 8.
-pub fn rank_posed(gens: &[u64], targets: &[u64], b: Basis, k: u64, out: &mut [u64]) -> Ranked
-    requires { ⌜ (length (now gens) ≤ mostGenerators) × Holds (basisOf word (now targets)) b ⌝ }
-    ensures { λ r. ⌜ (rankFor (problem (now (gens .entry)) (now (targets .entry))) k (now (out .entry)) ≡ seenRanked r (now (out .exit)))
-        × (now (out .exit) ≡ lentRanking (rankFor (problem (now (gens .entry)) (now (targets .entry))) k (now (out .entry))) (now (out .entry))) ⌝ }
+pub fn rank_posed(
+    gens: &[u64],
+    targets: &[u64],
+    prices: &[u64],
+    b: Basis,
+    k: u64,
+    out: &mut [u64],
+) -> Ranked
+    requires { ⌜ RankAsked (now gens) (now targets) (now prices) b ⌝ }
+    ensures { λ r. ⌜ (rankFor (problem (now (gens .entry)) (now (targets .entry))) (now (prices .entry)) k (now (out .entry)) ≡ seenRanked r (now (out .exit)))
+        × (now (out .exit)
+        ≡ lentRanking (rankFor (problem (now (gens .entry)) (now (targets .entry))) (now (prices .entry)) k (now (out .entry))) (now (out .entry))) ⌝ }
 {
     if k != 0 {
         return Ranked::Refused(8);
     }
-    fewest::rank_of(gens, targets, b, out)
+    fewest::rank_of(gens, targets, prices, b, out)
 }
 
-// The fewest generators that compute the targets, with the first formula of the first entry in `out`.
+// The fewest generators that compute the targets, with the cheapest formula of so many in `out`; `gs`, `ts` and `costs` are the generators, targets and
+// costs of a
+// list.
 pub fn rank(
     number: u64,
     p: u64,
@@ -40,21 +44,24 @@ pub fn rank(
     k: u64,
     gs: &[u64],
     ts: &[u64],
+    costs: &[u64],
     out: &mut [u64],
 ) -> Ranked
-    ensures { λ x. ⌜ (rank number p q r k (now (gs .entry)) (now (ts .entry)) (now (out .entry)) ≡ seenRanked x (now (out .exit)))
-        × (now (out .exit) ≡ lentRanking (rank number p q r k (now (gs .entry)) (now (ts .entry)) (now (out .entry))) (now (out .entry)))
-        × (rankNumbers x ≡ replyNumbers 2 rankValues (rank number p q r k (now (gs .entry)) (now (ts .entry)) (now (out .entry)))) ⌝ }
+    ensures { λ x. ⌜ (rank number p q r k (now (gs .entry)) (now (ts .entry)) (now (costs .entry)) (now (out .entry)) ≡ seenRanked x (now (out .exit)))
+        × (now (out .exit) ≡ lentRanking (rank number p q r k (now (gs .entry)) (now (ts .entry)) (now (costs .entry)) (now (out .entry))) (now (out .entry)))
+        × (rankNumbers x
+        ≡ replyNumbers 2 rankValues (rank number p q r k (now (gs .entry)) (now (ts .entry)) (now (costs .entry)) (now (out .entry)))) ⌝ }
 {
     let mut g = [0u64; kinds::GENERATORS];
     let mut t = [0u64; kinds::TARGETS];
-    match problems::pose(number, p, q, r, gs, ts, &gs[..0], &mut g, &mut t) {
+    let mut v = [0u64; kinds::GENERATORS];
+    match problems::prices::pose_priced(number, p, q, r, gs, ts, costs, &mut g, &mut t, &mut v) {
         Posed::Refused(e) => Ranked::Refused(e),
         Posed::Are(n, u) => {
             let generators = first_words(&g, n);
             let targets = first_words(&t, u);
             let b = bases::basis_of(targets);
-            rank_posed(generators, targets, b, k, out)
+            rank_posed(generators, targets, first_words(&v, n), b, k, out)
         }
     }
 }

@@ -1,6 +1,6 @@
 -- What is printed of a problem's Rank.
 --   rankAnswer .. a     == the text of Rank's answer a, for t targets of dimension ell
---   rankReply shape k x == the text of the Rank of the problem x, whose kind and sizes these are
+--   rankReply shape k x prices == the text of the Rank of the problem x, whose kind and sizes these are and whose generators have the prices
 -- The texts are in `report`. Assumes nothing.
 use Prim.Native.Nat.{ℕ}
 use mathlib.Core.Bool.{true, false}
@@ -24,5 +24,5 @@ rankAnswer shape k ell t (accepted (is n buffer)) = rankText shape k ell (take n
 rankAnswer shape k ell t (accepted above) = farRankText shape k ell true
 rankAnswer shape k ell t (accepted beyond) = farRankText shape k ell false
 
-unfoldable pub rankReply : Shape → ℕ → Problem → List ℕ
-rankReply shape k x = rankAnswer shape k (dim word (x .targets)) (length (x .targets)) (rankFor x k listingRoom)
+unfoldable pub rankReply : Shape → ℕ → Problem → List ℕ → List ℕ
+rankReply shape k x prices = rankAnswer shape k (dim word (x .targets)) (length (x .targets)) (rankFor x prices k listingRoom)

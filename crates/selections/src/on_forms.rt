@@ -8,12 +8,12 @@ ghost use Rattle.linear.specs.Word.{word};
 ghost use Rattle.kinds.specs.Limits.{mostGenerators};
 ghost use Rattle.words.specs.Buffers.{filled};
 ghost use Rattle.bases.specs.rows.Terms.{named};
-ghost use Rattle.first_formula.specs.Choice.{Chose};
+ghost use Rattle.choices.specs.Choice.{Chose};
 ghost use Rattle.problems.specs.Problem.{problem};
 ghost use Rattle.selections.specs.on_forms.Selected.{misfit, without, missedBy, redundantAnswer, seenSaid, NumbersBelow, Marked};
 ghost use Rattle.selections.specs.on_forms.Shown.{sumAnswer, shownOver, seenSummed, lentSummed, Shows, RestOver};
 use bases::rows::Rest;
-use first_formula::Choice;
+use choices::Choice;
 
 // A refusal's number, or yes or no.
 pub enum Said {
@@ -61,7 +61,7 @@ fn part_without(gens: &[u64], sel: &[u64], skip: u64) -> Choice
 {
     let mut marks = [0u8; kinds::GENERATORS];
     mark(sel, skip, &mut marks);
-    first_formula::choose(gens, &marks)
+    choices::choose(gens, &marks)
 }
 
 // The numbers that the mask names, from the start of `out`; how many they are.

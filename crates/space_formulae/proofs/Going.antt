@@ -22,18 +22,20 @@ use Rattle.linear.specs.laws.Insert.{basisOf-span}
 use Rattle.linear.specs.laws.Spread.{inner-down, full-is, spread-leaf, spread-none, spread-end, spread-skip, spread-down}
 use Rattle.bases.specs.Basis.{rowsOf, Valid, Holds}
 use Rattle.bases.specs.declared.Basis.{Basis}
-use Rattle.first_formula.specs.declared.Choice.{Choice}
-use Rattle.first_formula.specs.Choice.{numbersOf, formsOf, recordOf, formulaRecord, chose-record, Added}
-use Rattle.first_formula.specs.laws.Writing.{numbers-length, forms-length}
+use Rattle.choices.specs.declared.Choice.{Choice}
+use Rattle.choices.specs.Choice.{numbersOf, formsOf, recordOf, formulaRecord, chose-record, Added}
+use Rattle.choices.specs.laws.Writing.{numbers-length, forms-length}
 use Rattle.records.specs.declared.Tally.{Tally}
-use Rattle.records.specs.Records.{State, note, run}
+use Rattle.records.specs.Records.{State, note, runs, run, Kept}
 use Rattle.records.specs.Keep.{stateOf}
+use Rattle.records.specs.laws.Records.{note-full, run-kept}
 use Rattle.records.specs.laws.Ahead.{Ahead, ahead-as, ahead-past, ahead-full, ahead-none}
 use Rattle.space_formulae.specs.enumeration.Spread.{formulaeFrom, Branch}
 use Rattle.space_formulae.specs.formula_records.Keep.{FormulaKeeping}
 
 abbrev pub Going : (gens w targets C p : List ℕ) (missing limit : ℕ) (final : State) (size j : ℕ) (t : Tally) (out : List ℕ) → Type 0
-Going gens w targets C p missing limit final size j t out = Ahead limit final size (formulaeFrom gens w targets C p (length gens - j) j missing) (stateOf t out)
+Going gens w targets C p missing limit final size j t out = Ahead (note limit) (Kept limit size) final
+    (formulaeFrom gens w targets C p (length gens - j) j missing) (stateOf t out)
 
 -- no number is missing: the forms have the basis w, and are as many as its rows
 pub node-leaf : (gens w targets : List ℕ) (missing : ℕ) (b : Basis) (c : Choice) (t : Tally) (limit : ℕ) (out : List ℕ)
@@ -56,7 +58,7 @@ node-leaf gens w targets missing b c t limit out N z =
 pub going-leaf : (gens w targets : List ℕ) (start missing : ℕ) (b : Basis) (c : Choice) (t : Tally) (limit : ℕ) (out : List ℕ)
     → Branch gens w targets missing b c t limit out → missing ≡ 0 → (end : State)
     → end ≡ note limit (stateOf t out) (recordOf c targets) → end ≡ run limit (stateOf t out) (formulaeFrom gens w targets (rowsOf b) (numbersOf c) (length gens - start) start missing)
-unfolding run
+unfolding runs
 going-leaf gens w targets start missing b c t limit out N z end e =
     e ∙ ap (note limit (stateOf t out)) (chose-record gens (numbersOf c) targets c (N .chose))
     ∙ ap (run limit (stateOf t out)) (sym (spread-leaf word gens w (N .space) (formulaRecord gens targets) (rowsOf b) (numbersOf c) (length gens - start) start missing z (N .inner)))
@@ -69,7 +71,7 @@ module _ (gens w targets : List ℕ) (missing : ℕ) (b : Basis) (c : Choice) (t
   from i = formulaeFrom gens w targets (rowsOf b) (numbersOf c) (length gens - i) i missing
 
   pub going-full : t .found ≡ limit → stateOf t out ≡ final
-  going-full e = ahead-full I e
+  going-full e = ahead-full I (λ r. note-full limit (stateOf t out) r e)
 
   pub going-end : length gens ≤ j → stateOf t out ≡ final
   going-end g = ahead-none I (spread-end word gens w (N .space) (formulaRecord gens targets) (rowsOf b) (numbersOf c) j missing ne g)
@@ -111,7 +113,7 @@ module _ (gens w targets : List ℕ) (missing : ℕ) (b : Basis) (c : Choice) (t
                 length-append (numbersOf c) (j ∷ []),
               );
           room = N .room;
-          sane = I .sane;
+          sane = I .good .sane;
         }
 
     pub going-down : (r : Tally) (out′ : List ℕ)
@@ -123,6 +125,7 @@ module _ (gens w targets : List ℕ) (missing : ℕ) (b : Basis) (c : Choice) (t
         ahead-past I here (from (j + 1))
         (spread-down word gens w (N .space) (formulaRecord gens targets) (rowsOf b) (numbersOf c) j missing ne g e
         ∙ ap₂ (λ (x y : List ℕ). formulaeFrom gens w targets x y (length gens - (j + 1)) (j + 1) (missing - 1) ++ from (j + 1)) (sym (H .is)) (sym (A .numbers))) q
+        (run-kept here (I .good) q)
 
 -- the space can't be completed from the next number on
 pub going-stop : (gens w targets : List ℕ) (missing : ℕ) (b : Basis) (c : Choice) (limit : ℕ) → Reduced word w → Valid b → (final : State) (size j : ℕ) (t : Tally) (out : List ℕ)

@@ -5,9 +5,9 @@ use mathlib.Core.List.{List, map}
 use Prim.Native.Nat.{ℕ, _+_}
 use lib.ListN.{length, length-append, length-map}
 use Rattle.bases.specs.rows.Rows.{rowOf}
-use Rattle.first_formula.specs.declared.Choice.{Choice}
-use Rattle.first_formula.specs.Choice.{numbersOf, formsOf, Whole, recordOf}
-use Rattle.first_formula.specs.laws.Writing.{numbers-length}
+use Rattle.choices.specs.declared.Choice.{Choice}
+use Rattle.choices.specs.Choice.{numbersOf, formsOf, Whole, recordOf}
+use Rattle.choices.specs.laws.Writing.{numbers-length}
 
 pub record-length : (c : Choice) (targets : List ℕ) → Whole c → length (recordOf c targets) ≡ c .len + length targets
 record-length c targets W =

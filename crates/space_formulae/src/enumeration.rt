@@ -1,12 +1,12 @@
 // The formulae of a space, each once and in order. Each call of the recursion yields one, so there is little work between two.
 use bases::Basis;
-use first_formula::Choice;
+use choices::Choice;
 use records::Tally;
 ghost use mathlib.Core.Path.{_≡_};
 ghost use Prim.Native.Nat.{_-_};
 ghost use lib.ListN.{length};
 ghost use Rattle.bases.specs.Basis.{rowsOf};
-ghost use Rattle.first_formula.specs.Choice.{numbersOf};
+ghost use Rattle.choices.specs.Choice.{numbersOf};
 ghost use Rattle.records.specs.Records.{run};
 ghost use Rattle.records.specs.Keep.{stateOf};
 ghost use Rattle.space_formulae.specs.enumeration.Spread.{formulaeFrom, Branch};
@@ -48,7 +48,7 @@ pub fn spread(
                 j + 1,
                 missing - 1,
                 b.insert(g),
-                first_formula::add(c, j, g),
+                choices::add(c, j, g),
                 counts,
                 limit,
                 out,

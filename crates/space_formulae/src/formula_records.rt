@@ -1,8 +1,8 @@
 // The records of formulae, counted and written one after the other.
-use first_formula::Choice;
+use choices::Choice;
 use records::Tally;
 ghost use mathlib.Core.Path.{_≡_};
-ghost use Rattle.first_formula.specs.Choice.{recordOf};
+ghost use Rattle.choices.specs.Choice.{recordOf};
 ghost use Rattle.records.specs.Records.{note};
 ghost use Rattle.records.specs.Keep.{stateOf};
 ghost use Rattle.space_formulae.specs.formula_records.Keep.{FormulaKeeping};
@@ -16,6 +16,6 @@ pub fn keep(c: Choice, targets: &[u64], t: Tally, limit: u64, out: &mut [u64]) -
     if r.shown == t.shown {
         return r;
     }
-    first_formula::write_formula(c, targets, out, t.at);
+    choices::write_formula(c, targets, out, t.at);
     r
 }

@@ -1,6 +1,6 @@
 // The formulae of a space, on forms.
 use bases::Basis;
-use first_formula::Choice;
+use choices::Choice;
 use records::Tally;
 ghost use Rattle.space_formulae.specs.spaces.Spaces.{SpaceAccepted, FormulaeTold, Rows};
 

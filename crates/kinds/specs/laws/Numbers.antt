@@ -1,5 +1,5 @@
 -- No answer is refused by 0, and replies with the same numbers are the same.
---   need-numbered, refuse-numbered, follow-numbered   each step's number is at least 1
+--   need-numbered, refuse-numbered, follow-numbered, also-numbered   each step's number is at least 1
 --   told, told-lent                                   a reply that is seen as what a definition says has that one's numbers
 --   seen-numbered                                     and is not refused by 0 either
 --   numbers-differ                                    replies that can be told from their numbers are the same where those are
@@ -11,8 +11,8 @@ use mathlib.Core.List.{List}
 use mathlib.Core.Option.{Option}
 use Prim.Native.Nat.{ℕ, zero, suc, _≤_}
 use lib.ListN.{replicate, getD}
-use Rattle.kinds.specs.Refusal.{Answer, need, refuse, follow}
-use Rattle.kinds.specs.laws.Refusal.{need-only, refuse-only, follow-only}
+use Rattle.kinds.specs.Refusal.{Answer, need, refuse, follow, also}
+use Rattle.kinds.specs.laws.Refusal.{need-only, refuse-only, follow-only, also-only}
 use Rattle.kinds.specs.Numbers.{refusalNumbers, replyNumbers, NotByZero}
 
 pub need-numbered : {A B : Type 0} (e : ℕ) (o : Option A) (f : A → Answer B) → 1 ≤ e → ((a : A) → NotByZero (f a)) → NotByZero (need e o f)
@@ -23,6 +23,9 @@ refuse-numbered e b o h g = refuse-only (λ e. 1 ≤ e) e b o h g
 
 pub follow-numbered : {A B : Type 0} (o : Answer A) (f : A → Answer B) → NotByZero o → ((a : A) → NotByZero (f a)) → NotByZero (follow o f)
 follow-numbered o f h g = follow-only (λ e. 1 ≤ e) o f h g
+
+pub also-numbered : {A : Type 0} (e : ℕ) (b : Bool) (o : Answer A) → 1 ≤ e → NotByZero o → NotByZero (also e b o)
+also-numbered e b o h g = also-only (λ e. 1 ≤ e) e b o h g
 
 pub told : {A : Type 0} (count : ℕ) (values : A → List ℕ) {o s : Answer A} {numbers : List ℕ} → numbers ≡ replyNumbers count values s → o ≡ s
     → (o ≡ s) × (numbers ≡ replyNumbers count values o)

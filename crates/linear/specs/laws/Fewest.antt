@@ -1,82 +1,46 @@
--- What Rank says, and that it is the rank.
---   least-some         what `leastFrom` finds is the first entry of the least number of dimensions with one
---   least-none         where it finds nothing, none of the numbers of dimensions has an entry
---   fewest-formula     a formula that Rank says has as many products as the rank
---   fewest-exactly     it says one exactly if ℓ + 6 or fewer generators compute the targets
---   fewest-above, fewest-beyond   when it says above and beyond
---   fewest-entry       how it is found
+-- What Rank says: that it is the rank, and at the least price.
+--   Least n k fs                    == fs is the cheapest formula for the least number of dimensions with an entry, out of k, .., k + n - 1
+--   least-some                      what `leastFrom` finds is the cheapest formula for the least number of dimensions with an entry
+--   least-none                      where it finds nothing, none of the numbers of dimensions has an entry
+--   fewest-formula                  a formula that Rank says has as many products as the rank, and no other with so many is cheaper or as cheap and earlier
+--   fewest-exactly                  it says one exactly if ℓ + 6 or fewer generators compute the targets
+--   fewest-above, fewest-beyond     when it says above and beyond
+--   fewest-some, fewest-none, fewest-missed   how it is found; `came`: the three answers, with what they come from
 -- Assumes nothing.
 use mathlib.Core.Path.{_≡_, refl, sym, ap, _∙_, subst}
-use mathlib.Core.Logic.{_≢_, _↔_}
+use mathlib.Core.Logic.{_⊎_, inl, inr, _↔_}
 use mathlib.Core.Bool.{Bool, true, false, not, cond, true≢false}
-use mathlib.Core.List.{List, [], List·Memᴰ, List·Memᴰ·head, List·Memᴰ·not-nil}
+use mathlib.Core.List.{List, [], List·Memᴰ, List·Memᴰ·not-nil}
 use mathlib.Core.Option.{Option, none, some}
-use Prim.Native.Nat.{ℕ, zero, suc, _+_, _-_, _<_, _≤_}
+use Prim.Native.Nat.{ℕ, zero, suc, _+_, _<_, _≤_}
 use native.Mathlib.Omega.{arith}
-use native.Mathlib.Decide.{decLe, ℕ-discrete}
+use native.Mathlib.Decide.{decLt, decLe, ℕ-discrete}
 use lib.ListN.{length}
 use Rattle.linear.specs.Space.{Space}
-use Rattle.linear.specs.Span.{Span, Independent}
+use Rattle.linear.specs.Span.{Span}
 use Rattle.linear.specs.Basis.{basisOf, dim}
-use Rattle.linear.specs.Order.{Rising}
+use Rattle.linear.specs.Order.{Before}
 use Rattle.linear.specs.Entry.{inside, chosen, Solution, space, entries}
 use Rattle.linear.specs.Rank.{Chosen, Computes, Rank}
-use Rattle.linear.specs.Formulae.{first, orElse, Fewest, formula, above, beyond, formulae, leastFrom, missed, firstFormula, ofEntry, fewest, Formula, RankFormula}
+use Rattle.linear.specs.Sorted.{sorted}
+use Rattle.linear.specs.Prices.{total, cheapest}
+use Rattle.linear.specs.Formulae.{orElse, Fewest, formula, above, beyond, formulae, allFormulae}
+use Rattle.linear.specs.Formulae.{leastFrom, missed, firstFormula, fewest, Formula, RankFormula}
 use Rattle.linear.specs.laws.Span.{span-mem, span-bind, span-mono}
 use Rattle.linear.specs.laws.Insert.{basisOf-reduced, basisOf-span}
 use Rattle.linear.specs.laws.Dimension.{dim-le, dim-length}
 use Rattle.linear.specs.laws.Select.{anyOf-no, no-anyOf}
 use Rattle.linear.specs.laws.Entry.{inside-yes, yes-inside, entries-sound}
-use Rattle.linear.specs.Extension.{extension}
 use Rattle.linear.specs.laws.Extension.{chosen-length, entries-complete}
-use Rattle.linear.specs.laws.Formulae.{first-none, first-some, formulae-are, first-formula}
+use Rattle.linear.specs.laws.Prices.{total-sorted, before-total, Precedes, Cheapest, cheapest-is, cheapest-none}
+use Rattle.linear.specs.laws.Formulae.{formulae-are}
+use Rattle.linear.specs.laws.AllFormulae.{allFormulae-mem, allFormulae-none, sorted-listed, least-listed}
 use Rattle.linear.specs.laws.Rank.{chosen-gens, generatorsIn-mem, solution-from, rank-is}
 
+-- ---- what the generators span
 module _ (S : Space) (gens targets : List (S .Vec)) where
   open Space S using (Vec)
 
-  -- ---- the least number of dimensions with an entry
-  pub record Least (n k : ℕ) (es : List ℕ) : Type 0 where
-    pub dims : ℕ
-    pub from : k ≤ dims
-    pub below : dims < k + n
-    pub is : first (entries S gens targets dims) ≡ some es
-    pub none : (j : ℕ) → k ≤ j → j < dims → entries S gens targets j ≡ []
-
-  pub least-some : (n k : ℕ) (es : List ℕ) → leastFrom S gens targets n k ≡ some es → Least n k es
-  unfolding leastFrom
-  least-some zero k es e = absurd (let z : _≡_ {A = ℕ} 0 1 = cc in omega arith)
-  least-some (suc n) k es e = go (first (entries S gens targets k)) refl e (least-some n (suc k) es)
-    where
-      go : (o : Option (List ℕ)) → first (entries S gens targets k) ≡ o → orElse o (leastFrom S gens targets n (suc k)) ≡ some es
-          → (leastFrom S gens targets n (suc k) ≡ some es → Least n (suc k) es) → Least (suc n) k es
-      go (some x) q e ih = record { dims = k; from = omega arith; below = omega arith; is = q ∙ e; none = λ j a b. absurd (omega arith) }
-      go none q e ih =
-          let L = ih e in
-          record {
-            dims = L .dims;
-            from = (let a = L .from in omega arith);
-            below = (let a = L .below in omega arith);
-            is = L .is;
-            none = λ j a b. at j a L b (ℕ-discrete j k);
-          }
-        where
-          at : (j : ℕ) → k ≤ j → (L : Least n (suc k) es) → j < L .dims → Dec (j ≡ k) → entries S gens targets j ≡ []
-          at j a L b (yes d) = ap (entries S gens targets) d ∙ first-none (entries S gens targets k) q
-          at j a L b (no d) = L .none j (omega arith) b
-
-  pub least-none : (n k : ℕ) → leastFrom S gens targets n k ≡ none → (j : ℕ) → k ≤ j → j < k + n → entries S gens targets j ≡ []
-  unfolding leastFrom
-  least-none zero k e j a b = absurd (omega arith)
-  least-none (suc n) k e j a b = go (first (entries S gens targets k)) refl e (ℕ-discrete j k) (λ d. least-none n (suc k) d j)
-    where
-      go : (o : Option (List ℕ)) → first (entries S gens targets k) ≡ o → orElse o (leastFrom S gens targets n (suc k)) ≡ none → Dec (j ≡ k)
-          → (leastFrom S gens targets n (suc k) ≡ none → suc k ≤ j → j < suc k + n → entries S gens targets j ≡ []) → entries S gens targets j ≡ []
-      go (some x) q e d ih = absurd (let z : _≡_ {A = ℕ} 0 1 = cc in omega arith)
-      go none q e (yes d) ih = ap (entries S gens targets) d ∙ first-none (entries S gens targets k) q
-      go none q e (no d) ih = ih e (omega arith) (omega arith)
-
-  -- ---- what the generators span
   missed-no : missed S gens targets ≡ false → Computes S targets gens
   unfolding missed
   missed-no e t m = go (inside S (basisOf S gens) t) refl (anyOf-no (λ t. not (inside S (basisOf S gens) t)) targets e t m)
@@ -120,156 +84,199 @@ module _ (S : Space) (gens targets : List (S .Vec)) where
           (length xs, (let a = size xs c in let b = dim-length S xs in omega arith), omega arith, E .0, E .1)
       go (no l) = (dim S gens, size gens all, omega arith, basisOf S gens, whole all)
 
-  -- ---- Rank
-  pub fewest-beyond : (fewest S gens targets ≡ beyond) ↔ ((Computes S targets gens) → ⊥)
-  unfolding fewest
-  fewest-beyond = (
-    λ e h. go (missed S gens targets) (no-missed h) e,
-    λ n. ap (λ b. cond b beyond (ofEntry S gens targets (leastFrom S gens targets 7
-        (dim S targets)))) (out n),
-  )
+module _ (S : Space) (gens targets : List (S .Vec)) (prices : List ℕ) where
+  open Space S using (Vec)
+
+  -- what is found in n numbers of dimensions, from k on
+  abbrev found : ℕ → ℕ → Option (List ℕ)
+  found n k = leastFrom S gens targets prices n k
+
+  -- ---- the least number of dimensions with an entry
+  pub record Least (n k : ℕ) (fs : List ℕ) : Type 0 where
+    pub dims : ℕ
+    pub from : k ≤ dims
+    pub below : dims < k + n
+    pub is : cheapest prices (allFormulae S gens targets dims) ≡ some fs
+    pub none : (j : ℕ) → k ≤ j → j < dims → entries S gens targets j ≡ []
+
+  -- no cheapest formula: no entry
+  no-entries : (k : ℕ) → cheapest prices (allFormulae S gens targets k) ≡ none → entries S gens targets k ≡ []
+  no-entries k q = allFormulae-none S gens targets k .0 (cheapest-none prices (allFormulae S gens targets k) .0 q)
+
+  pub least-some : (n k : ℕ) (fs : List ℕ) → leastFrom S gens targets prices n k ≡ some fs → Least n k fs
+  unfolding leastFrom
+  least-some zero k fs e = absurd (let z : _≡_ {A = ℕ} 0 1 = cc in omega arith)
+  least-some (suc n) k fs e = go (cheapest prices (allFormulae S gens targets k)) refl e (least-some n (suc k) fs)
     where
-      other : (o : Option (List ℕ)) → firstFormula S gens targets o ≡ beyond → ⊥
-      other none e = let z : _≡_ {A = ℕ} 0 1 = cc in omega arith
-      other (some fs) e = let z : _≡_ {A = ℕ} 0 1 = cc in omega arith
-
-      never : (o : Option (List ℕ)) → ofEntry S gens targets o ≡ beyond → ⊥
-      never none e = let z : _≡_ {A = ℕ} 0 1 = cc in omega arith
-      never (some es) e = other (first (formulae S gens (space S gens targets es))) e
-
-      go : (b : Bool) → b ≡ false → cond b beyond (ofEntry S gens targets (leastFrom S gens targets 7 (dim S targets))) ≡ beyond → ⊥
-      go true q e = true≢false q
-      go false q e = never (leastFrom S gens targets 7 (dim S targets)) e
-
-      out : ((Computes S targets gens) → ⊥) → missed S gens targets ≡ true
-      out n = at (missed S gens targets) refl
+      go : (o : Option (List ℕ)) → cheapest prices (allFormulae S gens targets k) ≡ o → orElse o (found n (suc k)) ≡ some fs
+          → (found n (suc k) ≡ some fs → Least n (suc k) fs) → Least (suc n) k fs
+      go (some x) q e ih = record { dims = k; from = omega arith; below = omega arith; is = q ∙ e; none = λ j a b. absurd (omega arith) }
+      go none q e ih =
+          let L = ih e in
+          record {
+            dims = L .dims;
+            from = (let a = L .from in omega arith);
+            below = (let a = L .below in omega arith);
+            is = L .is;
+            none = λ j a b. at j a L b (ℕ-discrete j k);
+          }
         where
-          at : (b : Bool) → missed S gens targets ≡ b → missed S gens targets ≡ true
-          at true q = q
-          at false q = absurd (n (missed-no q))
+          at : (j : ℕ) → k ≤ j → (L : Least n (suc k) fs) → j < L .dims → Dec (j ≡ k) → entries S gens targets j ≡ []
+          at j a L b (yes d) = ap (entries S gens targets) d ∙ no-entries k q
+          at j a L b (no d) = L .none j (omega arith) b
 
-  at-entry : {es : List ℕ} (L : Least 7 (dim S targets) es) → Solution S gens targets (L .dims) (space S gens targets es)
-  at-entry {es} L =
-      let r = first-some (entries S gens targets (L .dims)) es (L .is) in
-      entries-sound S gens targets (L .dims) es (subst (List·Memᴰ es) (sym (r .1)) (List·Memᴰ·head refl))
+  pub least-none : (n k : ℕ) → leastFrom S gens targets prices n k ≡ none → (j : ℕ) → k ≤ j → j < k + n → entries S gens targets j ≡ []
+  unfolding leastFrom
+  least-none zero k e j a b = absurd (omega arith)
+  least-none (suc n) k e j a b = go (cheapest prices (allFormulae S gens targets k)) refl e (ℕ-discrete j k) (λ d. least-none n (suc k) d j)
+    where
+      go : (o : Option (List ℕ)) → cheapest prices (allFormulae S gens targets k) ≡ o → orElse o (found n (suc k)) ≡ none → Dec (j ≡ k)
+          → (found n (suc k) ≡ none → suc k ≤ j → j < suc k + n → entries S gens targets j ≡ []) → entries S gens targets j ≡ []
+      go (some x) q e d ih = absurd (let z : _≡_ {A = ℕ} 0 1 = cc in omega arith)
+      go none q e (yes d) ih = ap (entries S gens targets) d ∙ no-entries k q
+      go none q e (no d) ih = ih e (omega arith) (omega arith)
 
-  pub fewest-entry : (es : List ℕ) → missed S gens targets ≡ false → leastFrom S gens targets 7 (dim S targets) ≡ some es
-      → fewest S gens targets ≡ formula (extension S gens [] (space S gens targets es))
+  -- ---- Rank
+  abbrev says : Bool → Fewest
+  says b = cond b beyond (firstFormula (found 7 (dim S targets)))
+
+  pub fewest-some : (fs : List ℕ) → missed S gens targets ≡ false → leastFrom S gens targets prices 7 (dim S targets) ≡ some fs
+      → fewest S gens targets prices ≡ formula fs
   unfolding fewest
-  fewest-entry es b e =
-      let L = least-some 7 (dim S targets) es e in
-      ap (λ x. cond x beyond (ofEntry S gens targets (leastFrom S gens targets 7 (dim S targets)))) b ∙ ap (ofEntry S gens targets) e
-      ∙ ap (firstFormula S gens targets) (first-formula S gens targets (L .dims) (space S gens targets es) (at-entry L))
+  fewest-some fs b e = ap says b ∙ ap firstFormula e
 
-  pub fewest-none : missed S gens targets ≡ false → leastFrom S gens targets 7 (dim S targets) ≡ none → fewest S gens targets ≡ above
+  pub fewest-none : missed S gens targets ≡ false → leastFrom S gens targets prices 7 (dim S targets) ≡ none → fewest S gens targets prices ≡ above
   unfolding fewest
-  fewest-none b e = ap (λ x. cond x beyond (ofEntry S gens targets (leastFrom S gens targets 7 (dim S targets)))) b ∙ ap (ofEntry S gens targets) e
+  fewest-none b e = ap says b ∙ ap firstFormula e
 
-  pub fewest-missed : missed S gens targets ≡ true → fewest S gens targets ≡ beyond
+  pub fewest-missed : missed S gens targets ≡ true → fewest S gens targets prices ≡ beyond
   unfolding fewest
-  fewest-missed b = ap (λ x. cond x beyond (ofEntry S gens targets (leastFrom S gens targets 7 (dim S targets)))) b
+  fewest-missed b = ap says b
 
   -- the three answers, with what they come from
   pub data Came : Fewest → Type 0 where
     far : missed S gens targets ≡ true → Came beyond
-    high : missed S gens targets ≡ false → leastFrom S gens targets 7 (dim S targets) ≡ none → Came above
-    here : (es : List ℕ) → missed S gens targets ≡ false → leastFrom S gens targets 7 (dim S targets) ≡ some es
-        → Came (formula (extension S gens [] (space S gens targets es)))
+    high : missed S gens targets ≡ false → leastFrom S gens targets prices 7 (dim S targets) ≡ none → Came above
+    here : (fs : List ℕ) → missed S gens targets ≡ false → leastFrom S gens targets prices 7 (dim S targets) ≡ some fs → Came (formula fs)
 
-  pub came : Came (fewest S gens targets)
-  came = go (missed S gens targets) refl (leastFrom S gens targets 7 (dim S targets)) refl
+  pub came : Came (fewest S gens targets prices)
+  came = go (missed S gens targets) refl (found 7 (dim S targets)) refl
     where
-      go : (b : Bool) → missed S gens targets ≡ b → (o : Option (List ℕ)) → leastFrom S gens targets 7 (dim S targets) ≡ o → Came (fewest S gens targets)
+      go : (b : Bool) → missed S gens targets ≡ b → (o : Option (List ℕ)) → found 7 (dim S targets) ≡ o → Came (fewest S gens targets prices)
       go true q o e = subst Came (sym (fewest-missed q)) (far q)
       go false q none e = subst Came (sym (fewest-none q e)) (high q e)
-      go false q (some es) e = subst Came (sym (fewest-entry es q e)) (here es q e)
+      go false q (some fs) e = subst Came (sym (fewest-some fs q e)) (here fs q e)
 
-  rank-formula : (es : List ℕ) → leastFrom S gens targets 7 (dim S targets) ≡ some es → RankFormula S gens targets (extension S gens [] (space S gens targets es))
-  rank-formula es e =
+  pub fewest-beyond : (fewest S gens targets prices ≡ beyond) ↔ (Computes S targets gens → ⊥)
+  fewest-beyond = (λ e h. from (fewest S gens targets prices) came e h, λ n. to n (missed S gens targets) refl)
+    where
+      from : (a : Fewest) → Came a → a ≡ beyond → Computes S targets gens → ⊥
+      from beyond (far q) e h = true≢false (sym q ∙ no-missed S gens targets h)
+      from above (high q r) e h = let z : _≡_ {A = ℕ} 0 1 = cc in omega arith
+      from (formula gs) (here fs q r) e h = let z : _≡_ {A = ℕ} 0 1 = cc in omega arith
+
+      to : (Computes S targets gens → ⊥) → (b : Bool) → missed S gens targets ≡ b → fewest S gens targets prices ≡ beyond
+      to n true q = fewest-missed q
+      to n false q = absurd (n (missed-no S gens targets q))
+
+  -- ---- what is said
+  rank-formula : (fs : List ℕ) → found 7 (dim S targets) ≡ some fs → RankFormula S gens targets prices fs
+  rank-formula fs e =
       record {
-        entry = es;
-        first-entry = ap (λ (k : ℕ). first (entries S gens targets k)) size ∙ L .is;
-        first-formula-of = ff;
+        entry = m .0;
+        an-entry = subst (λ k. List·Memᴰ (m .0) (entries S gens targets k)) (sym size) (m .1);
+        formula-of = m .2;
         rising = F .rising;
         independent = F .independent;
-        computes = λ t m. F .spanning .1 t (E .holds t m);
+        computes = λ t n. F .spanning .1 t (E .holds t n);
         near = (let a = L .below in omega (arith, size, a));
-        rank = subst (Rank S gens targets) (sym size) (rank-is S gens targets (L .dims) es member (L .none));
+        rank = subst (Rank S gens targets) (sym size) R;
+        none-cheaper = λ es h l c. dear es (C .first (sorted es) (sorted-listed S gens targets (L .dims) R es h (l ∙ size) c))
+            (decLt (total prices es) (total prices fs));
+        first-of-equals = λ es h l c q. tied es (C .first es (least-listed S gens targets (L .dims) R es .1 (h, l ∙ size, c))) q (before-total fs es);
       }
     where
-      L : Least 7 (dim S targets) es
-      L = least-some 7 (dim S targets) es e
+      L : Least 7 (dim S targets) fs
+      L = least-some 7 (dim S targets) fs e
 
-      E : Solution S gens targets (L .dims) (space S gens targets es)
-      E = at-entry L
+      C : Cheapest prices (allFormulae S gens targets (L .dims)) fs
+      C = cheapest-is prices (allFormulae S gens targets (L .dims)) fs (L .is)
 
-      fs : List ℕ
-      fs = extension S gens [] (space S gens targets es)
+      m : (es : List ℕ) × List·Memᴰ es (entries S gens targets (L .dims)) × List·Memᴰ fs (formulae S gens (space S gens targets es))
+      m = allFormulae-mem S gens targets (L .dims) fs (C .member)
 
-      ff : first (formulae S gens (space S gens targets es)) ≡ some fs
-      ff = first-formula S gens targets (L .dims) (space S gens targets es) E
+      E : Solution S gens targets (L .dims) (space S gens targets (m .0))
+      E = entries-sound S gens targets (L .dims) (m .0) (m .1)
 
-      F : Formula S gens (space S gens targets es) fs
-      F = formulae-are S gens (space S gens targets es) (E .reduced) fs .0 (let r = first-some (formulae S gens (space S gens targets es)) fs ff in subst
-          (List·Memᴰ fs) (sym (r .1)) (List·Memᴰ·head refl))
+      F : Formula S gens (space S gens targets (m .0)) fs
+      F = formulae-are S gens (space S gens targets (m .0)) (E .reduced) fs .0 (m .2)
 
       size : length fs ≡ L .dims
       size = F .number ∙ E .size
 
-      member : List·Memᴰ es (entries S gens targets (L .dims))
-      member = let r = first-some (entries S gens targets (L .dims)) es (L .is) in subst (List·Memᴰ es) (sym (r .1)) (List·Memᴰ·head refl)
+      R : Rank S gens targets (L .dims)
+      R = rank-is S gens targets (L .dims) (m .0) (m .1) (L .none)
 
-  pub fewest-formula : (fs : List ℕ) → fewest S gens targets ≡ formula fs → RankFormula S gens targets fs
-  fewest-formula fs e = go (fewest S gens targets) came e
+      dear : (es : List ℕ) → ¬ Precedes prices (sorted es) fs → Dec (total prices es < total prices fs) → total prices fs ≤ total prices es
+      dear es n (yes h) = absurd (n (inl (omega (arith, total-sorted prices es, h))))
+      dear es n (no h) = omega arith
+
+      tied : (es : List ℕ) → ¬ Precedes prices es fs → total prices es ≡ total prices fs → (fs ≡ es) ⊎ (Before fs es ⊎ Before es fs) → (fs ≡ es) ⊎ Before fs es
+      tied es n q (inl p) = inl p
+      tied es n q (inr (inl b)) = inr b
+      tied es n q (inr (inr b)) = absurd (n (inr (q, b)))
+
+  pub fewest-formula : (fs : List ℕ) → fewest S gens targets prices ≡ formula fs → RankFormula S gens targets prices fs
+  fewest-formula fs e = go (fewest S gens targets prices) came e
     where
-      go : (a : Fewest) → Came a → a ≡ formula fs → RankFormula S gens targets fs
+      go : (a : Fewest) → Came a → a ≡ formula fs → RankFormula S gens targets prices fs
       go beyond (far q) e = absurd (let z : _≡_ {A = ℕ} 0 1 = cc in omega arith)
       go above (high q r) e = absurd (let z : _≡_ {A = ℕ} 0 1 = cc in omega arith)
-      go (formula gs) (here es q r) e = subst (RankFormula S gens targets) (let z : extension S gens [] (space S gens targets es) ≡ fs = cc in z) (rank-formula es r)
+      go (formula gs) (here es q r) e = subst (RankFormula S gens targets prices) (let z : es ≡ fs = cc in z) (rank-formula es r)
 
   -- it is said exactly if ℓ + 6 or fewer generators compute the targets
-  pub fewest-exactly : ((fs : List ℕ) × (fewest S gens targets ≡ formula fs)) ↔ ((xs : List Vec) × Chosen S gens xs ×
+  pub fewest-exactly : ((fs : List ℕ) × (fewest S gens targets prices ≡ formula fs)) ↔ ((xs : List Vec) × Chosen S gens xs ×
       (length xs ≤ dim S targets + 6) × Computes S targets xs)
   fewest-exactly = (λ (fs, e). from fs (fewest-formula fs e), λ (xs, h, l, c). to xs h l c)
     where
-      from : (fs : List ℕ) → RankFormula S gens targets fs → (xs : List Vec) × Chosen S gens xs × (length xs ≤ dim S targets + 6) × Computes S targets xs
+      from : (fs : List ℕ) → RankFormula S gens targets prices fs
+          → (xs : List Vec) × Chosen S gens xs × (length xs ≤ dim S targets + 6) × Computes S targets xs
       from fs R = (
         chosen S gens fs,
         chosen-gens S gens targets 0 fs (R .rising),
-        (let a = R .near in omega
-            (arith, a, chosen-length S gens [] fs)),
+        (let a = R .near in omega (arith, a, chosen-length S gens [] fs)),
         R .computes,
       )
 
-      to : (xs : List Vec) → Chosen S gens xs → length xs ≤ dim S targets + 6 → Computes S targets xs → (fs : List ℕ) × (fewest S gens targets ≡ formula fs)
-      to xs h l c = go (leastFrom S gens targets 7 (dim S targets)) refl
+      to : (xs : List Vec) → Chosen S gens xs → length xs ≤ dim S targets + 6 → Computes S targets xs
+          → (fs : List ℕ) × (fewest S gens targets prices ≡ formula fs)
+      to xs h l c = go (found 7 (dim S targets)) refl
         where
           q : missed S gens targets ≡ false
-          q = no-missed (λ t m. span-mono S h (c t m))
+          q = no-missed S gens targets (λ t m. span-mono S h (c t m))
 
-          go : (o : Option (List ℕ)) → leastFrom S gens targets 7 (dim S targets) ≡ o → (fs : List ℕ) × (fewest S gens targets ≡ formula fs)
-          go (some es) e = (extension S gens [] (space S gens targets es), fewest-entry es q e)
+          go : (o : Option (List ℕ)) → found 7 (dim S targets) ≡ o → (fs : List ℕ) × (fewest S gens targets prices ≡ formula fs)
+          go (some fs) e = (fs, fewest-some fs q e)
           go none e =
-              let s = some-entry xs h c in
+              let s = some-entry S gens targets xs h c in
               let m = entries-complete S gens targets (s .0) (s .3) (s .4) in
               absurd (List·Memᴰ·not-nil (subst (List·Memᴰ (m .0)) (least-none 7 (dim S targets) e (s .0) (s .1)
               (let a : s .0 ≤ length xs = s .2 in omega arith)) (m .1)))
 
-  pub fewest-above : (fewest S gens targets ≡ above) ↔ (Computes S targets gens ×
+  pub fewest-above : (fewest S gens targets prices ≡ above) ↔ (Computes S targets gens ×
       ((k : ℕ) → dim S targets ≤ k → k ≤ dim S targets + 6 → entries S gens targets k ≡ []))
-  fewest-above = (λ e. from (fewest S gens targets) came e, λ (h, n). to h n (leastFrom S gens targets 7 (dim S targets)) refl)
+  fewest-above = (λ e. from (fewest S gens targets prices) came e, λ (h, n). to h n (found 7 (dim S targets)) refl)
     where
       from : (a : Fewest) → Came a → a ≡ above
           → Computes S targets gens × ((k : ℕ) → dim S targets ≤ k → k ≤ dim S targets + 6 → entries S gens targets k ≡ [])
       from beyond (far q) e = absurd (let z : _≡_ {A = ℕ} 0 1 = cc in omega arith)
-      from above (high q r) e = (missed-no q, λ k a b. least-none 7 (dim S targets) r k a (omega arith))
-      from (formula gs) (here es q r) e = absurd (let z : _≡_ {A = ℕ} 0 1 = cc in omega arith)
+      from above (high q r) e = (missed-no S gens targets q, λ k a b. least-none 7 (dim S targets) r k a (omega arith))
+      from (formula gs) (here fs q r) e = absurd (let z : _≡_ {A = ℕ} 0 1 = cc in omega arith)
 
       to : Computes S targets gens → ((k : ℕ) → dim S targets ≤ k → k ≤ dim S targets + 6 → entries S gens targets k ≡ []) → (o : Option (List ℕ))
-          → leastFrom S gens targets 7 (dim S targets) ≡ o
-          → fewest S gens targets ≡ above
-      to h n none e = fewest-none (no-missed h) e
-      to h n (some es) e =
-          let L = least-some 7 (dim S targets) es e in
-          let r = first-some (entries S gens targets (L .dims)) es (L .is) in
-          absurd (List·Memᴰ·not-nil (subst (List·Memᴰ es) (sym (r .1) ∙ n (L .dims) (L .from) (let a = L .below in omega arith)) (List·Memᴰ·head refl)))
+          → found 7 (dim S targets) ≡ o → fewest S gens targets prices ≡ above
+      to h n none e = fewest-none (no-missed S gens targets h) e
+      to h n (some fs) e =
+          let L = least-some 7 (dim S targets) fs e in
+          let m = allFormulae-mem S gens targets (L .dims) fs (cheapest-is prices (allFormulae S gens targets (L .dims)) fs (L .is) .member) in
+          absurd (List·Memᴰ·not-nil (subst (List·Memᴰ (m .0)) (n (L .dims) (L .from) (let a = L .below in omega arith)) (m .1)))

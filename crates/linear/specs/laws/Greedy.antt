@@ -1,4 +1,6 @@
 -- The greedy choice: of the numbers in order, each that passes a test and whose generator is not yet in the span of what is taken.
+-- It is the choice along the list of these numbers (`greedy-along`). Of the choice along any list: each number is one of the list and passes (`along-mem`),
+-- the generators are new over C (`along-fresh`), and all that pass are in the span (`along-covers`).
 -- It rises (`greedy-rising`), each number passes (`greedy-passes`), it is independent of C (`greedy-fresh`), spans what the generators of the numbers that pass
 -- span (`greedy-covers`, `greedy-skip`), and no other such list of its length stands before it (`greedy-first`). Tests that agree
 -- choose alike (`greedy-agree`, `greedy-same`); new generators are all taken, where no other number passes (`greedy-own`). Assumes nothing.
@@ -23,6 +25,21 @@ use Rattle.linear.specs.laws.Dimension.{Fresh, fresh-sub}
 use Rattle.linear.specs.laws.Order.{rising-from, rising-mem}
 use Rattle.linear.specs.laws.Entry.{inside-yes, yes-inside, no-inside}
 use Rattle.linear.specs.Greedy.{wanted, greedy}
+use Rattle.linear.specs.Prices.{along}
+
+-- the numbers i, .., i + n - 1
+unfoldable pub numbersFrom : ℕ → ℕ → List ℕ
+numbersFrom zero i = []
+numbersFrom (suc n) i = i ∷ numbersFrom n (suc i)
+
+numbersFrom-mem : (n i j : ℕ) → i ≤ j → j < i + n → List·Memᴰ j (numbersFrom n i)
+unfolding numbersFrom
+numbersFrom-mem zero i j a b = absurd (omega arith)
+numbersFrom-mem (suc n) i j a b = go (ℕ-discrete j i) (λ k. numbersFrom-mem n (suc i) j k (omega arith))
+  where
+    go : Dec (j ≡ i) → (suc i ≤ j → List·Memᴰ j (numbersFrom n (suc i))) → List·Memᴰ j (i ∷ numbersFrom n (suc i))
+    go (yes e) ih = List·Memᴰ·head e
+    go (no e) ih = List·Memᴰ·tail (ih (omega arith))
 
 module _ (S : Space) (gens : List (S .Vec)) where
   open Space S using (Vec)
@@ -70,7 +87,56 @@ module _ (S : Space) (gens : List (S .Vec)) where
   insert-within : (C : List Vec) (g : Vec) → Within S C (insert S C g)
   insert-within C g v s = insert-span S C g v .1 (span-weak S s)
 
-  -- ---- what is taken, for a test on numbers
+  -- ---- what is taken along a list
+  module _ (ok : ℕ → Bool) where
+    -- the choice from C on, by whether j is wanted
+    abbrev pub stepAlong : List Vec → ℕ → List ℕ → Bool → List ℕ
+    stepAlong C j js t = cond t (j ∷ along S gens ok (cond t (insert S C (gen j)) C) js) (along S gens ok (cond t (insert S C (gen j)) C) js)
+
+    pub along-mem : (js : List ℕ) (C : List Vec) (e : ℕ) → List·Memᴰ e (along S gens ok C js) → List·Memᴰ e js × (ok e ≡ true)
+    unfolding along
+    along-mem [] C = λ e m. absurd (List·Memᴰ·not-nil m)
+    along-mem (j ∷ js) C = go (wanted S gens ok C j) refl (along-mem js)
+      where
+        go : (t : Bool) → wanted S gens ok C j ≡ t → ((D : List Vec) (e : ℕ) → List·Memᴰ e (along S gens ok D js) → List·Memᴰ e js × (ok e ≡ true))
+            → (e : ℕ) → List·Memᴰ e (stepAlong C j js t) → List·Memᴰ e (j ∷ js) × (ok e ≡ true)
+        go true q ih =
+            mem-cons {P = λ e. List·Memᴰ e (j ∷ js) × (ok e ≡ true)} (List·Memᴰ·head refl, wanted-passes ok C j q)
+            (λ e m. let r = ih (insert S C (gen j)) e m in (List·Memᴰ·tail (r .0), r .1))
+        go false q ih = λ e m. let r = ih C e m in (List·Memᴰ·tail (r .0), r .1)
+
+    pub along-fresh : (js : List ℕ) (C : List Vec) → Reduced S C → Fresh S C (gensAt (along S gens ok C js))
+    unfolding along chosen
+    along-fresh [] C ρ = tt
+    along-fresh (j ∷ js) C ρ = go (wanted S gens ok C j) refl (along-fresh js)
+      where
+        go : (t : Bool) → wanted S gens ok C j ≡ t → ((D : List Vec) → Reduced S D → Fresh S D (gensAt (along S gens ok D js)))
+            → Fresh S C (gensAt (stepAlong C j js t))
+        go true q ih = (
+          wanted-new ok C ρ j q,
+          fresh-sub S (gensAt (along S gens ok (insert S C (gen j)) js)) (gen j ∷ C) (insert S C (gen j)) (λ v s. insert-span S C (gen j) v .1 s)
+              (ih (insert S C (gen j)) (insert-reduced S C (gen j) ρ)),
+        )
+        go false q ih = ih C ρ
+
+    -- every generator that passes is in the span of what is taken
+    pub along-covers : (js : List ℕ) (C : List Vec) (i : ℕ) → List·Memᴰ i js → ok i ≡ true → Span S (inserts S C (gensAt (along S gens ok C js))) (gen i)
+    unfolding along chosen inserts
+    along-covers [] C = λ i m. absurd (List·Memᴰ·not-nil m)
+    along-covers (j ∷ js) C = go (wanted S gens ok C j) refl (along-covers js)
+      where
+        go : (t : Bool) → wanted S gens ok C j ≡ t
+            → ((D : List Vec) (i : ℕ) → List·Memᴰ i js → ok i ≡ true → Span S (inserts S D (gensAt (along S gens ok D js))) (gen i))
+            → (i : ℕ) → List·Memᴰ i (j ∷ js) → ok i ≡ true → Span S (inserts S C (gensAt (stepAlong C j js t))) (gen i)
+        go true q ih =
+            let D = insert S C (gen j) in
+            mem-cons {P = λ i. ok i ≡ true → Span S (inserts S D (gensAt (along S gens ok D js))) (gen i)}
+            (λ p. inserts-within (gensAt (along S gens ok D js)) D (gen j) (insert-span S C (gen j) (gen j) .1 (span-head S (gen j) C))) (ih D)
+        go false q ih =
+            mem-cons {P = λ i. ok i ≡ true → Span S (inserts S C (gensAt (along S gens ok C js))) (gen i)}
+            (λ p. inserts-within (gensAt (along S gens ok C js)) C (gen j) (wanted-no ok C j q p)) (ih C)
+
+  -- ---- what is taken of the numbers in order
   module _ (ok : ℕ → Bool) where
     pub greedy-rising : (n i hi : ℕ) (C : List Vec) → i + n ≡ hi → Rising i hi (greedy S gens ok C n i)
     unfolding greedy
@@ -82,52 +148,24 @@ module _ (S : Space) (gens : List (S .Vec)) where
         go true ih = (omega arith, omega arith, ih (insert S C (gen i)))
         go false ih = rising-from i (suc i) hi (greedy S gens ok C n (suc i)) (omega arith) (ih C)
 
+    pub greedy-along : (n i : ℕ) (C : List Vec) → greedy S gens ok C n i ≡ along S gens ok C (numbersFrom n i)
+    unfolding greedy along numbersFrom
+    greedy-along zero i C = refl
+    greedy-along (suc n) i C =
+        let t = wanted S gens ok C i in ap (λ (r : List ℕ). cond t (i ∷ r) r) (greedy-along n (suc i) (cond t (insert S C (gen i)) C))
+
     -- each number taken passes
     pub greedy-passes : (n i : ℕ) (C : List Vec) (e : ℕ) → List·Memᴰ e (greedy S gens ok C n i) → ok e ≡ true
-    unfolding greedy
-    greedy-passes zero i C = λ e m. absurd (List·Memᴰ·not-nil m)
-    greedy-passes (suc n) i C = go (wanted S gens ok C i) refl (λ D. greedy-passes n (suc i) D)
-      where
-        go : (t : Bool) → wanted S gens ok C i ≡ t → ((D : List Vec) (e : ℕ) → List·Memᴰ e (greedy S gens ok D n (suc i)) → ok e ≡ true)
-            → (e : ℕ) → List·Memᴰ e (cond t (i ∷ greedy S gens ok (cond t (insert S C (gen i)) C) n (suc i)) (greedy S gens ok (cond t (insert S C (gen i)) C) n
-            (suc i))) → ok e ≡ true
-        go true q ih = mem-cons {P = λ e. ok e ≡ true} (wanted-passes ok C i q) (ih (insert S C (gen i)))
-        go false q ih = ih C
+    greedy-passes n i C e m = along-mem ok (numbersFrom n i) C e (subst (List·Memᴰ e) (greedy-along n i C) m) .1
 
     pub greedy-fresh : (n i : ℕ) (C : List Vec) → Reduced S C → Fresh S C (gensAt (greedy S gens ok C n i))
-    unfolding greedy chosen
-    greedy-fresh zero i C σ = tt
-    greedy-fresh (suc n) i C σ = go (wanted S gens ok C i) refl (λ D. greedy-fresh n (suc i) D)
-      where
-        go : (t : Bool) → wanted S gens ok C i ≡ t → ((D : List Vec) → Reduced S D → Fresh S D (gensAt (greedy S gens ok D n (suc i))))
-            → Fresh S C (gensAt (cond t (i ∷ greedy S gens ok (cond t (insert S C (gen i)) C) n (suc i))
-            (greedy S gens ok (cond t (insert S C (gen i)) C) n (suc i))))
-        go true q ih = (
-          wanted-new ok C σ i q,
-          fresh-sub S (gensAt (greedy S gens ok (insert S C (gen i)) n (suc i))) (gen i ∷ C) (insert S C (gen i)) (λ v s. insert-span S C (gen i) v .1 s)
-              (ih (insert S C (gen i)) (insert-reduced S C (gen i) σ)),
-        )
-        go false q ih = ih C σ
+    greedy-fresh n i C σ = subst (λ es. Fresh S C (gensAt es)) (sym (greedy-along n i C)) (along-fresh ok (numbersFrom n i) C σ)
 
     -- the generator of every number that passes is in the span of what is taken
     pub greedy-covers : (n i : ℕ) (C : List Vec) → (j : ℕ) → i ≤ j → j < i + n → ok j ≡ true → Span S (inserts S C (gensAt (greedy S gens ok C n i))) (gen j)
-    unfolding greedy chosen inserts
-    greedy-covers zero i C j a b s = absurd (omega arith)
-    greedy-covers (suc n) i C j a b s = go (wanted S gens ok C i) refl (ℕ-discrete j i) (λ D k. greedy-covers n (suc i) D j k (omega arith) s)
-      where
-        go : (t : Bool) → wanted S gens ok C i ≡ t → Dec (j ≡ i)
-            → ((D : List Vec) → suc i ≤ j → Span S (inserts S D (gensAt (greedy S gens ok D n (suc i)))) (gen j))
-            → Span S (inserts S C (gensAt (cond t (i ∷ greedy S gens ok (cond t (insert S C (gen i)) C) n (suc i))
-            (greedy S gens ok (cond t (insert S C (gen i)) C) n (suc i))))) (gen j)
-        go true q (yes e) ih =
-            subst (λ x. Span S (inserts S (insert S C (gen i)) (gensAt (greedy S gens ok (insert S C (gen i)) n (suc i)))) (gen x)) (sym e)
-            (inserts-within (gensAt (greedy S gens ok (insert S C (gen i)) n (suc i))) (insert S C (gen i)) (gen i)
-            (insert-span S C (gen i) (gen i) .1 (span-head S (gen i) C)))
-        go true q (no e) ih = ih (insert S C (gen i)) (omega arith)
-        go false q (yes e) ih =
-            inserts-within (gensAt (greedy S gens ok C n (suc i))) C (gen j)
-            (subst (λ x. Span S C (gen x)) (sym e) (wanted-no ok C i q (ap ok (sym e) ∙ s)))
-        go false q (no e) ih = ih C (omega arith)
+    greedy-covers n i C j a b s =
+        subst (λ es. Span S (inserts S C (gensAt es)) (gen j)) (sym (greedy-along n i C))
+        (along-covers ok (numbersFrom n i) C j (numbersFrom-mem n i j a b) s)
 
     -- no rising list of numbers that pass, with new generators and of that length, stands before it
     pub greedy-first : (n i hi : ℕ) (C : List Vec) → i + n ≡ hi → Reduced S C → (fs : List ℕ) → Rising i hi fs → Fresh S C (gensAt fs)

@@ -3,6 +3,7 @@
 --   less-new                       what is new over more is new over less
 --   over-append, over-gather       joined lists bring in no more than each by itself, summed up
 --   over-sub, over-some            a part brings in no more; what brings in something has a member
+--   gather-mem, gather-from        the members of joined lists are those of each
 --   alike-mem, mem-alike           the members of `alike`
 --   pigeon                         some member has at least its part of a total
 --   others-count                   a list of n vectors has 2 ^ n - 1 nonempty sublists
@@ -39,6 +40,16 @@ gather-mem f b [] = λ a m. absurd (List·Memᴰ·not-nil m)
 gather-mem f b (u ∷ l) =
     mem-cons {P = λ a. List·Memᴰ b (f a) → List·Memᴰ b (f u ++ gather f l)} (λ k. Memᴰ·append-left (gather f l) k) (λ a m k. Memᴰ·append-right (f u)
     (gather-mem f b l a m k))
+
+pub gather-from : {A B : Type 0} (f : A → List B) (b : B) (l : List A) → List·Memᴰ b (gather f l) → (a : A) × List·Memᴰ a l × List·Memᴰ b (f a)
+unfolding gather
+gather-from f b [] m = absurd (List·Memᴰ·not-nil m)
+gather-from {A} f b (u ∷ l) m = go (List·Memᴰ·append-cases (f u) m) (gather-from f b l)
+  where
+    go : List·Memᴰ b (f u) ⊎ List·Memᴰ b (gather f l) → (List·Memᴰ b (gather f l) → (a : A) × List·Memᴰ a l × List·Memᴰ b (f a))
+        → (a : A) × List·Memᴰ a (u ∷ l) × List·Memᴰ b (f a)
+    go (inl k) ih = (u, List·Memᴰ·head refl, k)
+    go (inr k) ih = let r = ih k in (r .0, List·Memᴰ·tail (r .1), r .2)
 
 pub only-length : {A : Type 0} (p : A → Bool) (l : List A) → length (only p l) ≤ length l
 unfolding only

@@ -40,10 +40,10 @@ problem-numbers : (o : Answer ProblemFile) → problemReadNumbers (problemReply 
 problem-numbers (refused e) = refl
 problem-numbers (accepted f) = refl
 
--- A and B are what is promised of the lent buffers
-pub problem-told : {A B : Type 0} (o : Answer ProblemFile) (x : ProblemRead) → (x ≡ problemReply o) × A × B
-    → (x ≡ problemReply o) × A × B × (problemReadNumbers x ≡ replyNumbers 5 problemReadValues o)
-problem-told o x P = (P .0, P .1, P .2, ap problemReadNumbers (P .0) ∙ problem-numbers o)
+-- A, B and C are what is promised of the lent buffers
+pub problem-told : {A B C : Type 0} (o : Answer ProblemFile) (x : ProblemRead) → (x ≡ problemReply o) × A × B × C
+    → (x ≡ problemReply o) × A × B × C × (problemReadNumbers x ≡ replyNumbers 5 problemReadValues o)
+problem-told o x P = (P .0, P .1, P .2, P .3, ap problemReadNumbers (P .0) ∙ problem-numbers o)
 
 -- the reply with those numbers
 named : Option Kind → (p q r k : ℕ) → ProblemRead
@@ -92,16 +92,16 @@ posed-numbered s =
     need-numbered 3 (sizes (shapeOf kd (h .0 .p) (h .0 .q) (h .0 .r))) _ (omega arith) λ z.
     posed-lines-numbered (shapeOf kd (h .0 .p) (h .0 .q) (h .0 .r)) (h .0 .k) (z .0) (z .1) (h .1)
 
-settled-numbered : (a : Purpose) (u v : ℕ) (F : ProblemFile) → NotByZero (settled a u v F)
+settled-numbered : (a : Purpose) (u v w : ℕ) (F : ProblemFile) → NotByZero (settled a u v w F)
 unfolding settled
-settled-numbered a u v F =
-    refuse-numbered 8 (beyond a (F .k) (F .problem .targets)) _ (omega arith) (refuse-numbered 9 (short (F .shape) u v) _ (omega arith) tt)
+settled-numbered a u v w F =
+    refuse-numbered 8 (beyond a (F .k) (F .problem .targets)) _ (omega arith) (refuse-numbered 9 (short (F .shape) u v w) _ (omega arith) tt)
 
-pub problem-numbered : (a : Purpose) (s : List ℕ) (u v : ℕ) → NotByZero (problemFile a s u v)
+pub problem-numbered : (a : Purpose) (s : List ℕ) (u v w : ℕ) → NotByZero (problemFile a s u v w)
 unfolding problemFile
-problem-numbered a s u v = follow-numbered (posedFile s) _ (posed-numbered s) (settled-numbered a u v)
+problem-numbered a s u v w = follow-numbered (posedFile s) _ (posed-numbered s) (settled-numbered a u v w)
 
-pub input-numbered : (a : Purpose) (s : List ℕ) (u v : ℕ) → NotByZero (inputFile a s u v)
+pub input-numbered : (a : Purpose) (s : List ℕ) (u v w : ℕ) → NotByZero (inputFile a s u v w)
 unfolding inputFile posedInput
-input-numbered a s u v =
-    follow-numbered (posedInput s) _ (refuse-numbered 1 (ltb mostBytes (length s)) _ (omega arith) (posed-numbered s)) (settled-numbered a u v)
+input-numbered a s u v w =
+    follow-numbered (posedInput s) _ (refuse-numbered 1 (ltb mostBytes (length s)) _ (omega arith) (posed-numbered s)) (settled-numbered a u v w)

@@ -2,3 +2,5 @@
 pub mod Line
 pub mod Loop
 pub mod Body
+pub mod Read
+pub mod Costs

@@ -1,5 +1,6 @@
 -- The problem of a file: the first refusal of 1 to 7 that applies, or what it poses.
---   ProblemFile             == the kind and sizes, k, the forms that the file hands in, and the problem that they pose
+--   ProblemFile             == the kind and sizes, k, the forms that the file hands in and its generators' costs (none of a map), and the problem that
+--     the forms pose
 --   posedLines shape k n m s == 4 to 7 of the lines s under the first two: `bodyOf` (handed_forms), then `shaped` (problems)
 --   posedFile s             == 1 to 7 of the text s
 -- Document 01, "Refused, in this order":
@@ -20,16 +21,17 @@ pub record ProblemFile : Type 0 where
   pub k : ℕ
   pub generators : List ℕ
   pub targets : List ℕ
+  pub costs : List ℕ
   pub problem : Problem
 
-abbrev pub problemOf : Shape → ℕ → (gs ts : List ℕ) → Problem → ProblemFile
-problemOf shape k gs ts P = record { shape = shape; k = k; generators = gs; targets = ts; problem = P }
+abbrev pub problemOf : Shape → ℕ → (gs ts cs : List ℕ) → Problem → ProblemFile
+problemOf shape k gs ts cs P = record { shape = shape; k = k; generators = gs; targets = ts; costs = cs; problem = P }
 
 unfoldable pub posedLines : Shape → (k n m : ℕ) → List ℕ → Answer ProblemFile
 posedLines shape k n m s =
     follow (bodyOf shape n m s) λ f.
     follow (shaped shape (f .0) (f .1) []) λ P.
-    accepted (problemOf shape k (f .0) (f .1) P)
+    accepted (problemOf shape k (f .0) (f .1) (f .2) P)
 
 unfoldable pub posedFile : List ℕ → Answer ProblemFile
 posedFile s =

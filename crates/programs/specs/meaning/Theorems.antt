@@ -1,6 +1,6 @@
 -- What the Catalogue and Rank programs print of an input that is accepted: an answer, never a refusal, and what it means. To be read from top to bottom.
 --   CatalogueAnswered, catalogue-answered   the Catalogue's text, of an answer that lists every entry, none twice
---   RankAnswered, rank-answered             Rank's text, of an answer that is the least number of products
+--   RankAnswered, rank-answered             Rank's text, of an answer that is the least number of products, none cheaper
 --   problem-read-enough                     what either program reads of an input, at most 65,537 bytes, is answered as the whole input
 -- So a program refuses exactly the inputs that are refused when read (`inputOf`). The definitions: inputOf (problem_files, inputs), catalogueProgram, rankProgram (programs), catalogueText (catalogue_text, report),
 -- rankAnswer (rank_text), CatalogueMeans and RankMeans (theorems, catalogue_and_rank). Assumes nothing.
@@ -19,6 +19,8 @@ use Rattle.records.specs.Length.{recordLength}
 use Rattle.catalogue.specs.listing.laws.Run.{fitting-le}
 use Rattle.printing.specs.record_lines.RecordLines.{entryText, recordLines}
 use Rattle.problems.specs.Problem.{Problem, shaped}
+use Rattle.problems.specs.prices.Prices.{prices}
+use Rattle.problem_files.specs.handed_forms.ProblemLines.{CostsFit}
 use Rattle.problem_files.specs.posing.Posing.{ProblemFile}
 use Rattle.problem_files.specs.declared.judging.Purpose.{Purpose}
 use Rattle.problem_files.specs.declared.judging.Purpose.the-variants as purpose
@@ -51,8 +53,10 @@ pub record CatalogueAnswered (s : List ℕ) (P : ProblemFile) : Type 0 where
 
 pub record RankAnswered (s : List ℕ) (P : ProblemFile) : Type 0 where
   pub posed-as : shaped (P .shape) (P .generators) (P .targets) [] ≡ accepted (P .problem)
+  -- a list hands in a cost of at most 16 bits for each generator, another kind none
+  pub costs-fit : CostsFit (P .shape) (P .costs)
   pub said : Ranking
-  pub means : RankMeans (P .problem .generators) (P .problem .targets) listingRoom said
+  pub means : RankMeans (P .problem .generators) (P .problem .targets) (prices (P .shape) (P .costs)) listingRoom said
   pub prints : rankProgram s ≡ rankAnswer (P .shape) (P .k) (dim word (P .problem .targets)) (length (P .problem .targets)) (accepted said)
 
 -- the lines of what a Catalogue's listing holds
@@ -83,7 +87,7 @@ listing-lines gens targets k old c M =
 pub catalogue-answered : (s : List ℕ) (P : ProblemFile) → inputOf purpose.Catalogue s ≡ accepted P → CatalogueAnswered s P
 unfolding problemProgram catalogueReply catalogueText
 catalogue-answered s P e =
-    let I = input-poses purpose.Catalogue s programWords programWords P e in
+    let I = input-poses purpose.Catalogue s programWords programWords programWords P e in
     let x : Problem = P .problem in
     let c = catalogue-accepted x (P .k) listingRoom (I .within) in
     let M = catalogue-of-means x (P .k) listingRoom (c .0) (c .1) .1 in
@@ -103,13 +107,15 @@ catalogue-answered s P e =
 pub rank-answered : (s : List ℕ) (P : ProblemFile) → inputOf purpose.Rank s ≡ accepted P → RankAnswered s P
 unfolding problemProgram rankReply
 rank-answered s P e =
-    let I = input-poses purpose.Rank s programWords programWords P e in
+    let I = input-poses purpose.Rank s programWords programWords programWords P e in
     let x : Problem = P .problem in
-    let a = rank-accepted x (P .k) (I .few) (I .within) in
+    let v : List ℕ = prices (P .shape) (P .costs) in
+    let a = rank-accepted x v (P .k) (I .few) (I .within) in
     record {
       posed-as = I .posed-as;
+      costs-fit = I .priced;
       said = a .0;
-      means = rank-of-means x (P .k) listingRoom (a .0) (a .1) .1;
+      means = rank-of-means x v (P .k) listingRoom (a .0) (a .1) .1;
       prints =
           ap (λ (o : Answer ProblemFile). answerText (follow o λ Q. accepted (replyTo purpose.Rank Q))) e
           ∙ ap (rankAnswer (P .shape) (P .k) (dim word (x .targets)) (length (x .targets))) (a .1);
@@ -119,4 +125,5 @@ rank-answered s P e =
 pub problem-read-enough : (a : Purpose) (s : List ℕ) → problemProgram a (take inputRoom s) ≡ problemProgram a s
 unfolding problemProgram inputFile
 problem-read-enough a s =
-    ap (λ (o : Answer ProblemFile). answerText (follow (follow o (settled a programWords programWords)) λ P. accepted (replyTo a P))) (posed-enough s)
+    ap (λ (o : Answer ProblemFile). answerText (follow (follow o (settled a programWords programWords programWords)) λ P. accepted (replyTo a P)))
+    (posed-enough s)

@@ -9,7 +9,9 @@ use Rattle.linear.specs.Basis.{clear, reduce, norm, place, insert, inserts, bas
 use Rattle.linear.specs.Coefficients.{coefficient, coefficients}
 use Rattle.linear.specs.Order.{risingLists}
 use Rattle.linear.specs.Select.{anyOf, only, firstOfEach}
-use Rattle.linear.specs.Formulae.{formulae, leastFrom, missed, fewest}
+use Rattle.linear.specs.Formulae.{formulae, allFormulae, leastFrom, missed, fewest}
+use Rattle.linear.specs.Prices.{total, earlier, precedes, cheaper, cheapestFrom}
+use Rattle.linear.specs.Share.{gather}
 use Rattle.linear.specs.Entry.{sameVec, sameBasis, inside, generator, chosen, generatorsIn, fits, space, entries}
 use Rattle.kinds.specs.Kinds.{kindNumbered}
 use Rattle.kinds.specs.Sizes.{within, polySizes}
@@ -17,13 +19,15 @@ use Rattle.words.specs.Masks.{wide, zeroIn}
 use Rattle.forms.specs.products.Product.{formOf, productForm}
 use Rattle.maps.specs.Target.{pairFor, targetForm}
 use Rattle.maps.specs.Generators.{generatorCount, firstMask, secondMask, generatorForm, listOf, generatorForms, countOf}
+use Rattle.maps.specs.Costs.{generatorCost, generatorCosts}
 use Rattle.problems.specs.Problem.{targetForms, mapped, shaped, posed}
+use Rattle.problems.specs.prices.Prices.{prices}
 use Rattle.catalogue.specs.listing.Listing.{records, flat, fitting}
 use Rattle.bases.specs.rows.Rows.{maskOf, rowOf}
-use Rattle.first_formula.specs.Choice.{formulaRecord}
+use Rattle.choices.specs.Choice.{formulaRecord}
 use Rattle.rank.specs.fewest.Fewest.{ranking}
 use Rattle.catalogue.specs.Catalogue.{entryListing, catalogueOf, catalogue}
-use Rattle.rank.specs.Rank.{rankFor, rank}
+use Rattle.rank.specs.Rank.{rankFor}
 use Rattle.text.specs.Line.{cut, field, nameLine}
 use Rattle.text.specs.Numeral.{digits, numeral}
 use Rattle.text.specs.heads.Head.{countFields, headLine, headLines}
@@ -52,7 +56,8 @@ pub worked-catalogue : catalogueProgram (107 ∷ 105 ∷ 110 ∷ 100 ∷ 44 ∷ 
 unfolding bit digitsOf top clear reduce norm place insert inserts basisOf dim risingLists anyOf only firstOfEach sameVec sameBasis inside generator
     chosen generatorsIn fits space entries kindNumbered within polySizes wide zeroIn formOf productForm pairFor targetForm generatorCount firstMask
     secondMask generatorForm listOf generatorForms countOf targetForms mapped shaped posed records flat fitting entryListing catalogueOf catalogue
-    numeralText sizesText spacedText innerText listsText entryText recordLines countsText catalogueText cut field nameLine digits numeral countFields headLine headLines
+    numeralText sizesText spacedText innerText listsText entryText recordLines countsText catalogueText cut field nameLine digits numeral countFields
+    headLine headLines
     ended mapLines settled posedLines posedFile catalogueReply posedInput inputFile problemProgram
 worked-catalogue = refl
 
@@ -64,6 +69,7 @@ pub worked-rank : rankProgram (107 ∷ 105 ∷ 110 ∷ 100 ∷ 44 ∷ 112 ∷ 44
 unfolding bit digitsOf top clear reduce norm place insert inserts basisOf dim risingLists anyOf only firstOfEach sameVec sameBasis inside generator
     chosen generatorsIn fits space entries kindNumbered within polySizes wide zeroIn formOf productForm pairFor targetForm generatorCount firstMask
     secondMask generatorForm listOf generatorForms countOf targetForms mapped shaped posed formulae leastFrom missed fewest coefficient coefficients
-    maskOf rowOf formulaRecord ranking rankFor rank numeralText sizesText spacedText innerText listsText rankHead rankText cut field nameLine digits
+    maskOf rowOf formulaRecord allFormulae gather total earlier precedes cheaper cheapestFrom generatorCost generatorCosts prices ranking rankFor
+    numeralText sizesText spacedText innerText listsText rankHead rankText cut field nameLine digits
     numeral countFields headLine headLines ended mapLines settled posedLines posedFile rankReply posedInput inputFile problemProgram
 worked-rank = refl

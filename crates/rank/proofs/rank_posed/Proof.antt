@@ -7,20 +7,18 @@ use Rattle.rank.specs.fewest.Fewest.{lentRanking}
 use Rattle.rank.specs.laws.Replies.{rank-far, rank-near}
 use Rattle.rank.proofs.rank_posed.Statement.{statement}
 use Rattle.rank.proofs.rank_posed.Tie as tie
-use Rattle.rank.proofs.rank_posed.Reads as reads
-use Rattle.rank.proofs.rank_posed.Lts as lts
-use Rattle.rank.proofs.fewest.rank_of.Reads as rank-of-reads
 
 returns : tie.Need-returns
 returns c =
-    let a = c .before .before .before .before .args in
-    replied-as (λ r. lentRanking r (a .out .now)) (rank-far (problem (a .gens .now) (a .targets .now)) (a .k) (a .out .now) (c .if1 .taken)) (refl, refl)
+    let a = c .before .before .before .before .before .args in
+    replied-as (λ r. lentRanking r (a .out .now)) (rank-far (problem (a .gens .now) (a .targets .now)) (a .prices .now) (a .k) (a .out .now) (c .if1 .taken))
+    (refl, refl)
 
 returns-2 : tie.Need-returns-2
 returns-2 c =
-    let a = c .before .before .before .before .before .before .before .before .args in
+    let a = c .before .before .before .before .before .before .before .before .before .args in
     replied-as (λ r. lentRanking r (a .out .now))
-    (rank-near (problem (a .gens .now) (a .targets .now)) (a .k) (a .out .now) (c .before .before .before .before .if1 .left))
+    (rank-near (problem (a .gens .now) (a .targets .now)) (a .prices .now) (a .k) (a .out .now) (c .before .before .before .before .if1 .left))
     (c .before .before .rank-of .ensures)
 
 pub rank-posed-spec : {M : Type 1} → statement M

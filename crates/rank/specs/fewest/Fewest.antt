@@ -1,33 +1,40 @@
 -- What Rank says of forms, with what it writes.
 --   Ranking                  == r with the buffer's content, above, or beyond
---   ranking gens targets old == what is said of the generators and targets, in a buffer that holds old
+--   ranking gens targets prices old == what is said of the generators, their prices and the targets, in a buffer that holds old
 --   seenRanked r after       == what the code's answer r says, the buffer holding `after`
 --   rankNumbers r            == its numbers: the refusal's; 0 for a rank, 1 above, 2 beyond; the rank; `rankValues`, the same of what is accepted
 --   lentRanking a old        == the buffer's content at exit: as it was, unless a formula was written
--- Document 01: "Rank replies r with the first formula of the first entry for r"; refusal 9: "in a Rank, too short for the very formula it would reply".
+-- Document 02: "Rank's formula becomes the cheapest among all formulae with r products in any entry, the dictionary-first among equals"; document 01,
+-- refusal 9: "in a
+-- Rank, too short for the very formula it would reply".
 -- What `fewest` is and that it is the rank: linear's `Theorems` (rank-formula, rank-exactly, rank-above, rank-beyond). Assumes nothing.
+use mathlib.Core.Path.{_≡_}
+use mathlib.Core.Bool.{false}
 use mathlib.Core.List.{List, [], _∷_}
-use Prim.Native.Nat.{ℕ, _+_, _-_, _≤_}
+use mathlib.Core.Option.{none, some}
+use Prim.Native.Nat.{ℕ, _+_, _≤_}
 use lib.ListN.{length, take, drop}
 use lib.Dec.{ltb}
+use Rattle.kinds.specs.Limits.{mostGenerators, mostProducts, costBits}
 use Rattle.kinds.specs.Refusal.{Answer, refused, accepted, refuse}
 use Rattle.kinds.specs.Numbers.{refusalNumbers, answerNumbers}
 use Rattle.words.specs.Buffers.{filled}
+use Rattle.words.specs.Masks.{wide}
+use Rattle.words.specs.laws.Masks.{AllBelow}
+use Rattle.linear.specs.Basis.{basisOf}
+use Rattle.linear.specs.Entry.{chosen}
 use Rattle.linear.specs.Formulae as formulae
-use Rattle.linear.specs.Formulae.{Fewest, fewest, first, leastFrom, missed}
+use Rattle.linear.specs.Formulae.{Fewest, fewest, leastFrom}
+use Rattle.linear.specs.Prices.{byPrice}
 use Rattle.linear.specs.Word.{word}
-use Rattle.first_formula.specs.Choice.{formulaRecord}
-use Rattle.rank.specs.declared.fewest.Ranked.{Ranked}
-use Rattle.rank.specs.declared.fewest.Ranked.the-variants as ranked
-use mathlib.Core.Path.{_≡_}
-use mathlib.Core.Bool.{false}
-use mathlib.Core.Option.{none, some}
-use Rattle.linear.specs.Basis.{basisOf, dim}
-use Rattle.linear.specs.Entry.{space}
 use Rattle.bases.specs.Basis.{Valid, Holds}
 use Rattle.bases.specs.declared.Basis.{Basis}
+use Rattle.cheapest.specs.Offers.{priceBase}
+use Rattle.catalogue.specs.noting.Noting.{PricedMenu, formulaRoom}
+use Rattle.choices.specs.Choice.{Solves, formulaRecord}
+use Rattle.rank.specs.declared.fewest.Ranked.{Ranked}
+use Rattle.rank.specs.declared.fewest.Ranked.the-variants as ranked
 use Rattle.rank.specs.declared.fewest.Least.{Least as Answered}
-use Rattle.kinds.specs.Limits.{mostGenerators}
 use Rattle.rank.specs.declared.fewest.Least.the-variants as answered
 
 pub data Ranking : Type 0 where
@@ -40,8 +47,8 @@ written gens targets old (formulae.formula es) = refuse 9 (ltb (length old) (len
 written gens targets old formulae.above = accepted above
 written gens targets old formulae.beyond = accepted beyond
 
-unfoldable pub ranking : (gens targets old : List ℕ) → Answer Ranking
-ranking gens targets old = written gens targets old (fewest word gens targets)
+unfoldable pub ranking : (gens targets prices old : List ℕ) → Answer Ranking
+ranking gens targets prices old = written gens targets old (fewest word gens targets prices)
 
 -- the answer of the code
 abbrev pub seenRanked : Ranked → List ℕ → Answer Ranking
@@ -69,32 +76,31 @@ lentRanking (accepted above) old = old
 lentRanking (accepted beyond) old = old
 
 -- what the steps of the search ask and say
-pub record Asking (gens : List ℕ) (b : Basis) (buffer : List ℕ) : Type 0 where
+pub record Asking (gens : List ℕ) (b : Basis) (order prices buffer : List ℕ) : Type 0 where
   pub small : length gens ≤ mostGenerators
   pub valid : Valid b
-  pub room : length buffer ≡ 128
+  pub priced : PricedMenu gens order prices
+  pub by-price : order ≡ byPrice priceBase prices
+  pub room : formulaRoom ≤ length buffer
 
-module _ (gens targets : List ℕ) where
-  -- the first entry for the least number of dimensions, k, and where its rows stand
-  pub record Here (ell k : ℕ) (buffer : List ℕ) : Type 0 where
-    pub entry : List ℕ
-    pub least : leastFrom word gens targets 7 ell ≡ some entry
-    pub rows : take k (drop (k - ell) buffer) ≡ space word gens targets entry
-    pub from : ell ≤ k
-    pub near : k ≤ ell + 6
-    pub room : length buffer ≡ 128
-
-  abbrev pub LeastFound : ℕ → Answered → List ℕ → Type 0
-  LeastFound ell answered.No buffer = leastFrom word gens targets 7 ell ≡ none
-  LeastFound ell (answered.Is k) buffer = Here ell k buffer
-
-  pub record Finishing (w : List ℕ) : Type 0 where
-    pub entry : List ℕ
-    pub least : leastFrom word gens targets 7 (dim word targets) ≡ some entry
-    pub rows : w ≡ space word gens targets entry
-    pub all : missed word gens targets ≡ false
-    pub small : length gens ≤ mostGenerators
+-- the cheapest formula of the least number of dimensions, k, stands behind its cost
+abbrev pub LeastFound : (gens targets prices : List ℕ) → ℕ → Answered → List ℕ → Type 0
+LeastFound gens targets prices ell answered.No buffer = leastFrom word gens targets prices 7 ell ≡ none
+LeastFound gens targets prices ell (answered.Is k) buffer = leastFrom word gens targets prices 7 ell ≡ some (take k (drop 1 buffer))
 
 -- the entries are those of the targets' space: any targets that span it have them
-abbrev pub LeastFrom : List ℕ → Basis → Answered → List ℕ → Type 0
-LeastFrom gens b r buffer = (targets : List ℕ) → Holds (basisOf word targets) b → LeastFound gens targets (b .len) r buffer
+abbrev pub LeastFrom : (gens : List ℕ) → Basis → List ℕ → Answered → List ℕ → Type 0
+LeastFrom gens b prices r buffer = (targets : List ℕ) → Holds (basisOf word targets) b → LeastFound gens targets prices (b .len) r buffer
+
+pub record Finishing (gens targets numbers : List ℕ) : Type 0 where
+  pub small : length gens ≤ mostGenerators
+  pub below : AllBelow (length gens) numbers
+  pub few : length numbers ≤ mostProducts
+  pub solves : Solves (chosen word gens numbers) targets
+
+-- what Rank asks of the generators, the targets' basis and the prices: a price of at most 16 bits for each generator
+pub record RankAsked (gens targets prices : List ℕ) (b : Basis) : Type 0 where
+  pub few : length gens ≤ mostGenerators
+  pub each : length prices ≡ length gens
+  pub narrow : wide costBits prices ≡ false
+  pub basis : Holds (basisOf word targets) b

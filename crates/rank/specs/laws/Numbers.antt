@@ -16,8 +16,8 @@ use Rattle.kinds.specs.laws.Numbers.{told-lent, numbers-differ, refuse-numbered
 use Rattle.linear.specs.Formulae as formulae
 use Rattle.linear.specs.Formulae.{Fewest, fewest}
 use Rattle.linear.specs.Word.{word}
-use Rattle.problems.specs.Problem.{posed}
-use Rattle.problems.specs.laws.Numbered.{posed-numbered}
+use Rattle.problems.specs.prices.Prices.{priced}
+use Rattle.problems.specs.prices.laws.Numbered.{priced-numbered}
 use Rattle.rank.specs.Rank.{rankFor, rank}
 use Rattle.rank.specs.fewest.Fewest.{Ranking, written, ranking, seenRanked, rankNumbers, rankValues}
 use Rattle.rank.specs.declared.fewest.Ranked.{Ranked}
@@ -59,9 +59,9 @@ written-numbered gens targets old (formulae.formula es) = refuse-numbered 9 (ltb
 written-numbered gens targets old formulae.above = tt
 written-numbered gens targets old formulae.beyond = tt
 
-pub rank-numbered : (number p q r k : ℕ) (gs ts old : List ℕ) → NotByZero (rank number p q r k gs ts old)
+pub rank-numbered : (number p q r k : ℕ) (gs ts costs old : List ℕ) → NotByZero (rank number p q r k gs ts costs old)
 unfolding rank rankFor ranking
-rank-numbered number p q r k gs ts old =
-    follow-numbered (posed number p q r gs ts []) _ (posed-numbered number p q r gs ts []) λ x.
+rank-numbered number p q r k gs ts costs old =
+    follow-numbered (priced number p q r gs ts costs) _ (priced-numbered number p q r gs ts costs) λ x.
     refuse-numbered 8 (not (eqb k 0)) _ (omega arith)
-    (written-numbered (x .generators) (x .targets) old (fewest word (x .generators) (x .targets)))
+    (written-numbered (x .problem .generators) (x .problem .targets) old (fewest word (x .problem .generators) (x .problem .targets) (x .prices)))

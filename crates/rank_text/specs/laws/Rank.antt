@@ -66,50 +66,54 @@ formula-room gens targets old n after (formulae.formula es) e =
 formula-room gens targets old n after formulae.above e = absurd (let z : _≡_ {A = ℕ} 0 1 = cc in omega arith)
 formula-room gens targets old n after formulae.beyond e = absurd (let z : _≡_ {A = ℕ} 0 1 = cc in omega arith)
 
-rank-room : (x : Problem) (k : ℕ) (old : List ℕ) (n : ℕ) (after : List ℕ) → rankFor x k old ≡ accepted (is n after) → n + length (x .targets) ≤ length old
+rank-room : (x : Problem) (prices : List ℕ) (k : ℕ) (old : List ℕ) (n : ℕ) (after : List ℕ) → rankFor x prices k old ≡ accepted (is n after)
+    → n + length (x .targets) ≤ length old
 unfolding rankFor ranking
-rank-room x k old n after e =
-    formula-room (x .generators) (x .targets) old n after (fewest word (x .generators) (x .targets)) (refuse-inv 8 (not (eqb k 0)) (ranking (x .generators) (x .targets) old) (is n after) e .1)
+rank-room x prices k old n after e =
+    formula-room (x .generators) (x .targets) old n after (fewest word (x .generators) (x .targets) prices)
+    (refuse-inv 8 (not (eqb k 0)) (ranking (x .generators) (x .targets) prices old) (is n after) e .1)
 
 -- ---- the reply, from the code's answer x
-module _ (shape : Shape) (k : ℕ) (P : Problem) (ell : ℕ) (x : Ranked) (after : List ℕ) where
+module _ (shape : Shape) (k : ℕ) (P : Problem) (prices : List ℕ) (ell : ℕ) (x : Ranked) (after : List ℕ) where
   pub record Said : Type 0 where
     pub dimension : ell ≡ dim word (P .targets)
-    pub answer : rankFor P k listingRoom ≡ seenRanked x after
+    pub answer : rankFor P prices k listingRoom ≡ seenRanked x after
     pub size : length after ≡ programWords
 
   module _ (S : Said) where
-    rank-is : (y : Ranked) → x ≡ y → rankFor P k listingRoom ≡ seenRanked y after
+    rank-is : (y : Ranked) → x ≡ y → rankFor P prices k listingRoom ≡ seenRanked y after
     rank-is y h = S .answer ∙ ap (λ (z : Ranked). seenRanked z after) h
 
-    reply-is : (y : Ranked) → x ≡ y → rankReply shape k P ≡ rankAnswer shape k ell (length (P .targets)) (seenRanked y after)
+    reply-is : (y : Ranked) → x ≡ y → rankReply shape k P prices ≡ rankAnswer shape k ell (length (P .targets)) (seenRanked y after)
     unfolding rankReply
     reply-is y h =
         ap (rankAnswer shape k (dim word (P .targets)) (length (P .targets))) (rank-is y h)
         ∙ ap (λ (l : ℕ). rankAnswer shape k l (length (P .targets)) (seenRanked y after)) (sym (S .dimension))
 
-    pub said-refused : (e n : ℕ) (d : List ℕ) → x ≡ ranked.Refused e → (take n d ≡ refusedText e) × (n ≤ 32) → (take n d ≡ rankReply shape k P) × (n ≤ replyPage)
+    pub said-refused : (e n : ℕ) (d : List ℕ) → x ≡ ranked.Refused e → (take n d ≡ refusedText e) × (n ≤ 32)
+        → (take n d ≡ rankReply shape k P prices) × (n ≤ replyPage)
     said-refused e n d h Q = (Q .0 ∙ sym (reply-is (ranked.Refused e) h), (let a = Q .1 in omega arith))
 
     pub said-room : (n : ℕ) → x ≡ ranked.Is n → n + length (P .targets) ≤ programWords
-    said-room n h = rank-room P k listingRoom n after (rank-is (ranked.Is n) h)
+    said-room n h = rank-room P prices k listingRoom n after (rank-is (ranked.Is n) h)
 
     pub said-formula : (n : ℕ) → x ≡ ranked.Is n → (d d₁ : List ℕ) (e : ℕ) → length d ≡ replyPage
-        → Piece d 0 (rankText shape k ell (take n after) (take (length (P .targets)) (drop n after))) 86188 d₁ e → (take e d₁ ≡ rankReply shape k P) × (e ≤ replyPage)
+        → Piece d 0 (rankText shape k ell (take n after) (take (length (P .targets)) (drop n after))) 86188 d₁ e → (take e d₁ ≡ rankReply shape k P prices) ×
+        (e ≤ replyPage)
     said-formula n h d d₁ e w Q =
         let f : 86188 ≤ length d = omega arith in (
           whole (rankText shape k ell (take n after) (take (length (P .targets)) (drop n after))) d d₁ 86188 e Q f ∙ sym (reply-is (ranked.Is n) h),
           omega (arith, Q .after, Q .most),
         )
 
-    far : (far-off : Bool) → rankReply shape k P ≡ farRankText shape k ell far-off → (d d₁ : List ℕ) (e : ℕ) → length d ≡ replyPage
-        → Piece d 0 (farRankText shape k ell far-off) 140 d₁ e → (take e d₁ ≡ rankReply shape k P) × (e ≤ replyPage)
+    far : (far-off : Bool) → rankReply shape k P prices ≡ farRankText shape k ell far-off → (d d₁ : List ℕ) (e : ℕ) → length d ≡ replyPage
+        → Piece d 0 (farRankText shape k ell far-off) 140 d₁ e → (take e d₁ ≡ rankReply shape k P prices) × (e ≤ replyPage)
     far b h d d₁ e w Q = (whole (farRankText shape k ell b) d d₁ 140 e Q (omega arith) ∙ sym h, omega (arith, Q .after, Q .most))
 
     pub said-above : x ≡ ranked.Above → (d d₁ : List ℕ) (e : ℕ) → length d ≡ replyPage
-        → Piece d 0 (farRankText shape k ell true) 140 d₁ e → (take e d₁ ≡ rankReply shape k P) × (e ≤ replyPage)
+        → Piece d 0 (farRankText shape k ell true) 140 d₁ e → (take e d₁ ≡ rankReply shape k P prices) × (e ≤ replyPage)
     said-above h = far true (reply-is ranked.Above h)
 
     pub said-beyond : x ≡ ranked.Beyond → (d d₁ : List ℕ) (e : ℕ) → length d ≡ replyPage
-        → Piece d 0 (farRankText shape k ell false) 140 d₁ e → (take e d₁ ≡ rankReply shape k P) × (e ≤ replyPage)
+        → Piece d 0 (farRankText shape k ell false) 140 d₁ e → (take e d₁ ≡ rankReply shape k P prices) × (e ≤ replyPage)
     said-beyond h = far false (reply-is ranked.Beyond h)

@@ -1,37 +1,29 @@
--- A loop that writes records: those ahead, written, give the final state.
---   Ahead limit final size rs s == so it is at the state s with the records rs ahead, in a buffer of that size
---   ahead-as                       the records ahead are others
---   ahead-past                     the first of them are written
---   ahead-full, ahead-none         the limit is reached, or no record is ahead: the state is the final one
+-- A loop that takes steps: those ahead, taken, give the final state.
+--   Ahead step Good final xs s == so it is at the state s, which is good, with the steps for xs ahead
+--   ahead-as                      what is ahead is otherwise written
+--   ahead-past                    the first steps are taken
+--   ahead-full, ahead-none        no step changes anything, or none is ahead: the state is the final one
 -- Assumes nothing.
-use mathlib.Core.Path.{_≡_, sym, ap, _∙_, subst}
+use mathlib.Core.Path.{_≡_, sym, ap, _∙_}
 use mathlib.Core.List.{List, [], _++_}
-use Prim.Native.Nat.{ℕ}
-use lib.ListN.{length}
-use Rattle.records.specs.Records.{State, run, Sane}
-use Rattle.records.specs.laws.Records.{run-append, run-full, run-sane}
+use Rattle.records.specs.Records.{State, runs}
+use Rattle.records.specs.laws.Records.{runs-append, runs-still}
 
-pub record Ahead (limit : ℕ) (final : State) (size : ℕ) (rs : List (List ℕ)) (s : State) : Type 0 where
-  pub rest : run limit s rs ≡ final
-  pub sane : Sane limit s
-  pub same : length (s .buf) ≡ size
+pub record Ahead {A : Type 0} (step : State → A → State) (Good : State → Type 0) (final : State) (xs : List A) (s : State) : Type 0 where
+  pub rest : runs step s xs ≡ final
+  pub good : Good s
 
-module _ {limit : ℕ} {final : State} {size : ℕ} {rs : List (List ℕ)} {s : State} (A : Ahead limit final size rs s) where
-  pub ahead-as : {qs : List (List ℕ)} → rs ≡ qs → Ahead limit final size qs s
-  ahead-as e = record { rest = ap (run limit s) (sym e) ∙ A .rest; sane = A .sane; same = A .same }
+module _ {A : Type 0} {step : State → A → State} {Good : State → Type 0} {final : State} {xs : List A} {s : State} (H : Ahead step Good final xs s) where
+  pub ahead-as : {ys : List A} → xs ≡ ys → Ahead step Good final ys s
+  ahead-as e = record { rest = ap (runs step s) (sym e) ∙ H .rest; good = H .good }
 
-  pub ahead-past : (xs ys : List (List ℕ)) → rs ≡ xs ++ ys → {s′ : State} → s′ ≡ run limit s xs → Ahead limit final size ys s′
-  ahead-past xs ys e q =
-      let v = run-sane limit s xs (A .sane) in
-      record {
-        rest = ap (λ (x : State). run limit x ys) q ∙ sym (run-append limit s xs ys) ∙ ap (run limit s) (sym e) ∙ A .rest;
-        sane = subst (Sane limit) (sym q) (v .0);
-        same = ap (λ (x : State). length (x .buf)) q ∙ v .1 ∙ A .same;
-      }
+  pub ahead-past : (ps qs : List A) → xs ≡ ps ++ qs → {s′ : State} → s′ ≡ runs step s ps → Good s′ → Ahead step Good final qs s′
+  ahead-past ps qs e q g =
+      record { rest = ap (λ (x : State). runs step x qs) q ∙ sym (runs-append step s ps qs) ∙ ap (runs step s) (sym e) ∙ H .rest; good = g }
 
-  pub ahead-full : s .found ≡ limit → s ≡ final
-  ahead-full e = sym (run-full limit s rs e) ∙ A .rest
+  pub ahead-full : ((x : A) → step s x ≡ s) → s ≡ final
+  ahead-full h = sym (runs-still step s xs h) ∙ H .rest
 
-  pub ahead-none : rs ≡ [] → s ≡ final
-  unfolding run
-  ahead-none e = ap (run limit s) (sym e) ∙ A .rest
+  pub ahead-none : xs ≡ [] → s ≡ final
+  unfolding runs
+  ahead-none e = ap (runs step s) (sym e) ∙ H .rest

@@ -28,8 +28,8 @@ use Rattle.linear.specs.Word.{word}
 use Rattle.bases.specs.declared.rows.Rest.{Rest}
 use Rattle.bases.specs.rows.Rows.{rowOf}
 use Rattle.bases.specs.rows.Terms.{named, terms}
-use Rattle.first_formula.specs.declared.Choice.{Choice}
-use Rattle.first_formula.specs.Choice.{numbersOf, formsOf, Whole}
+use Rattle.choices.specs.declared.Choice.{Choice}
+use Rattle.choices.specs.Choice.{numbersOf, formsOf, Whole}
 use Rattle.selections.specs.on_forms.Selected.{misfit, summed}
 use Rattle.selections.specs.declared.on_forms.Summed.{Summed}
 use Rattle.selections.specs.declared.on_forms.Summed.the-variants as said

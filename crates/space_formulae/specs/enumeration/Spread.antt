@@ -13,8 +13,8 @@ use Rattle.linear.specs.Word.{word}
 use Rattle.linear.specs.Spread.{spread, Inner}
 use Rattle.bases.specs.Basis.{rowsOf, Valid}
 use Rattle.bases.specs.declared.Basis.{Basis}
-use Rattle.first_formula.specs.declared.Choice.{Choice}
-use Rattle.first_formula.specs.Choice.{numbersOf, formsOf, Chose, formulaRecord}
+use Rattle.choices.specs.declared.Choice.{Choice}
+use Rattle.choices.specs.Choice.{numbersOf, formsOf, Chose, formulaRecord}
 use Rattle.records.specs.declared.Tally.{Tally}
 use Rattle.records.specs.Records.{Sane}
 use Rattle.records.specs.Keep.{stateOf}

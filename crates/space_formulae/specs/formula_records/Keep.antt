@@ -3,8 +3,8 @@
 -- Assumes nothing.
 use mathlib.Core.List.{List}
 use Prim.Native.Nat.{ℕ}
-use Rattle.first_formula.specs.declared.Choice.{Choice}
-use Rattle.first_formula.specs.Choice.{Whole, Solves, formsOf}
+use Rattle.choices.specs.declared.Choice.{Choice}
+use Rattle.choices.specs.Choice.{Whole, Solves, formsOf}
 use Rattle.records.specs.declared.Tally.{Tally}
 use Rattle.records.specs.Records.{Sane}
 use Rattle.records.specs.Keep.{stateOf}

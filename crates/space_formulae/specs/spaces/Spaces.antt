@@ -24,7 +24,7 @@ use Rattle.linear.specs.Entry.{sameBasis, inside, fits, Solution}
 use Rattle.linear.specs.Formulae.{formulae}
 use Rattle.linear.specs.Word.{word}
 use Rattle.catalogue.specs.listing.Listing.{flat, fitting}
-use Rattle.first_formula.specs.Choice.{formulaRecord}
+use Rattle.choices.specs.Choice.{formulaRecord}
 use Rattle.space_formulae.specs.declared.spaces.Listed.{Listed as Reply}
 use Rattle.space_formulae.specs.declared.spaces.Listed.the-variants as reply
 use mathlib.Core.Path.{_≡_}

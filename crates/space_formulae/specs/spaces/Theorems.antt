@@ -1,13 +1,13 @@
 -- What the formulae of a space are, in the words of document 01's demand: none missing, none twice. To be read from top to bottom.
 --   FormulaeMeans, formulae-means, formulae-for-means   an accepted reply lists, in dictionary order, the first of exactly all sets of k independent generators that span the space
---   RankFirst, rank-first           Rank's formula is the first of the list for the first entry's space
+--   RankListed, rank-listed         Rank's formula is in the list for an entry's space
 --   entry-exactly                   the test behind refusal 10 holds exactly for the reduced bases of entries
--- The definitions: formulaeOf, isEntry (Spaces), posed (problems), Solution (linear, Entry), Formula (linear, Formulae), formulaRecord (first_formula, Choice). Assumes nothing.
+-- The definitions: formulaeOf, isEntry (Spaces), posed (problems), Solution (linear, Entry), Formula (linear, Formulae), formulaRecord (choices, Choice).
+-- Assumes nothing.
 use mathlib.Core.Path.{_≡_, refl, sym, _∙_, subst}
 use mathlib.Core.Logic.{_↔_}
 use mathlib.Core.Bool.{true, false, not}
-use mathlib.Core.List.{List, [], _++_, map, List·Memᴰ, List·Memᴰ·head}
-use mathlib.Core.Option.{some}
+use mathlib.Core.List.{List, [], _++_, map, List·Memᴰ}
 use Prim.Native.Nat.{ℕ, _+_, _*_, _^_, _<_}
 use lib.ListN.{length, take, drop}
 use lib.Dec.{ltb}
@@ -19,15 +19,15 @@ use Rattle.problems.specs.Problem.{Problem, posed}
 use Rattle.linear.specs.Basis.{dim}
 use Rattle.linear.specs.Order.{Before, Ordered}
 use Rattle.linear.specs.Entry.{Solution, chosen, space, entries}
-use Rattle.linear.specs.Formulae.{first, formula, formulae, fewest, Formula}
+use Rattle.linear.specs.Formulae.{formula, formulae, fewest, Formula}
 use Rattle.linear.specs.Word.{word}
 use Rattle.linear.specs.Theorems.{entry-solves, formulae-exactly, rank-formula}
 use Rattle.linear.specs.laws.Extension.{chosen-length}
-use Rattle.linear.specs.laws.Formulae.{first-some, formulae-ordered}
+use Rattle.linear.specs.laws.Formulae.{formulae-ordered}
 use Rattle.bases.specs.rows.Rows.{rowOf}
 use Rattle.bases.specs.rows.laws.Rows.{row-sum, row-only}
 use Rattle.catalogue.specs.listing.Listing.{flat, fitting}
-use Rattle.first_formula.specs.Choice.{formulaRecord}
+use Rattle.choices.specs.Choice.{formulaRecord}
 use Rattle.space_formulae.specs.spaces.Spaces.{Formulae, isEntry, recordSize, formulaeListing, formulaeFor, formulaeOf}
 use Rattle.space_formulae.specs.spaces.laws.Entry.{is-entry}
 
@@ -97,22 +97,23 @@ formulae-means number p q r gs ts rows old f e =
     let m = formulae-for-means (i .0) rows old f (i .2) in
     (i .0, i .1, m .0, m .1)
 
--- Rank says the first formula of the first entry's space. The rows of that space are accepted, and the list for them begins with Rank's formula.
-pub record RankFirst (gens targets es : List ℕ) : Type 0 where
+-- Rank's formula is a formula of an entry's space. The rows of that space are accepted, and the list for them has Rank's formula. (At equal prices it is the
+-- first of
+-- the list for the first entry: linear's `rank-at-equal-prices`.)
+pub record RankListed (gens targets es : List ℕ) : Type 0 where
   pub entry : List ℕ
-  pub first-entry : first (entries word gens targets (length es)) ≡ some entry
+  pub an-entry : List·Memᴰ entry (entries word gens targets (length es))
   pub accepted-rows : isEntry gens targets (space word gens targets entry) ≡ true
-  pub first-listed : first (formulae word gens (space word gens targets entry)) ≡ some es
+  pub listed : List·Memᴰ es (formulae word gens (space word gens targets entry))
 
-pub rank-first : (gens targets es : List ℕ) → fewest word gens targets ≡ formula es → RankFirst gens targets es
-rank-first gens targets es e =
-    let R = rank-formula word gens targets es e in
+pub rank-listed : (gens targets prices es : List ℕ) → fewest word gens targets prices ≡ formula es → RankListed gens targets es
+rank-listed gens targets prices es e =
+    let R = rank-formula word gens targets prices es e in
     let W : List ℕ = space word gens targets (R .entry) in
-    let l = first-some (entries word gens targets (length es)) (R .entry) (R .first-entry) in
-    let E = entry-solves word gens targets (length es) (R .entry) (subst (List·Memᴰ (R .entry)) (sym (l .1)) (List·Memᴰ·head refl)) in
+    let E = entry-solves word gens targets (length es) (R .entry) (R .an-entry) in
     record {
       entry = R .entry;
-      first-entry = R .first-entry;
+      an-entry = R .an-entry;
       accepted-rows = is-entry gens targets W .1 (subst (λ (k : ℕ). Solution word gens targets k W) (sym (E .size)) E);
-      first-listed = R .first-formula-of;
+      listed = R .formula-of;
     }

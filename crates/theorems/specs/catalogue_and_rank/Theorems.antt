@@ -2,7 +2,9 @@
 --   CatalogueMeans, catalogue-means, catalogue-of-means   found counts every space of k dimensions that contains the targets and is spanned by generators, each once
 --   catalogue-pinned                  no other reply means that
 --   look-up-means                     an entry asked for by its number is that entry's record
---   RankMeans, rank-means, rank-of-means   r is the least number of generators that compute the targets, and the buffer holds a formula with r products
+--   RankMeans, rank-means, rank-of-means   r is the least number of generators that compute the targets, the buffer holds a formula with r products, and
+-- none is cheaper
+--   rank-pinned                       no other reply means that
 -- The definitions: catalogue (Catalogue), rank (Rank), posed (problems), entries and Solution (linear, Entry), Rank and Computes (linear, Rank). Assumes nothing.
 use mathlib.Core.Path.{_≡_, refl, sym, ap, ap₂, _∙_, subst}
 use mathlib.Core.Logic.{_⊎_, inl, inr, _↔_}
@@ -14,22 +16,24 @@ use native.Mathlib.Decide.{decLt}
 use lib.ListN.{length, take, drop, getD, length-append, length-take, length-drop}
 use lib.Dec.{ltb, eqb}
 use borrow.Author.Tests.{eqb-true, ltb-false, not-false}
-use Rattle.kinds.specs.Refusal.{accepted, refuse}
+use Rattle.kinds.specs.Refusal.{accepted}
 use Rattle.kinds.specs.laws.Refusal.{accepted-inj, follow-inv, refuse-inv}
 use Rattle.words.specs.Buffers.{filled}
 use Rattle.forms.specs.Row.{rowForm}
 use Rattle.problems.specs.Problem.{Problem, posed}
+use Rattle.problems.specs.prices.Prices.{PricedProblem, priced}
 use Rattle.linear.specs.Basis.{dim}
 use Rattle.linear.specs.Order.{Before, Rising, Ordered}
 use Rattle.linear.specs.Select.{Once}
 use Rattle.linear.specs.Span.{SameSpan}
 use Rattle.linear.specs.Entry.{Solution, SolutionSpace, space, entries, chosen}
-use Rattle.linear.specs.Rank.{Chosen, Computes}
+use Rattle.linear.specs.Prices.{total}
+use Rattle.linear.specs.Rank.{Chosen, Computes, Rank}
 use Rattle.linear.specs.Formulae as formulae
 use Rattle.linear.specs.Formulae.{Fewest, formula, fewest, RankFormula}
 use Rattle.linear.specs.Word.{word}
 use Rattle.linear.specs.Theorems.{one-basis, entry-solves, solution-listed, spaces-once, space-once, entry-space, entries-in-order, extension-shape, extension-first, no-fewer, rank-formula, rank-exactly, rank-above, rank-beyond}
-use Rattle.linear.specs.laws.Order.{before-asym, ordered-same, mem-getD, mem-map, mem-map-inv}
+use Rattle.linear.specs.laws.Order.{before-asym, ordered-same, rising-mem, mem-getD, mem-map, mem-map-inv}
 use Rattle.linear.specs.laws.Entry.{space-reduced}
 use Rattle.linear.specs.laws.Rank.{solution-within, entries-below}
 use Rattle.bases.specs.rows.Rows.{rowOf}
@@ -37,7 +41,7 @@ use Rattle.bases.specs.rows.laws.Rows.{row-sum, row-only}
 use Rattle.catalogue.specs.listing.laws.Run.{fitting-le, fitting-none}
 use Rattle.catalogue.specs.listing.laws.Placed.{entry-placed}
 use Rattle.catalogue.specs.listing.Listing.{records, flat, fitting}
-use Rattle.first_formula.specs.Choice.{formulaRecord}
+use Rattle.choices.specs.Choice.{formulaRecord}
 use Rattle.rank.specs.fewest.Fewest.{Ranking, is, above, beyond, written, ranking}
 use Rattle.catalogue.specs.Catalogue.{Catalogued, entryListing, catalogueOf, catalogue}
 use Rattle.rank.specs.Rank.{rankFor, rank}
@@ -81,11 +85,12 @@ pub record CatalogueMeans (gens targets : List ℕ) (k : ℕ) (old : List ℕ) (
   pub none : c .found ≡ 0 → k ≤ dim word gens → (xs : List ℕ) → Chosen word gens xs → length xs ≤ k → Computes word targets xs → ⊥
 
 -- ---- Rank
-pub record RankMeans (gens targets old : List ℕ) (a : Ranking) : Type 0 where
-  -- a number r: the products are r independent generators that compute the targets, those of the first formula of the first entry for r; no choice of
-  -- fewer generators computes the targets (`RankFormula`); the buffer holds the products and the rows, then its old content
+pub record RankMeans (gens targets prices old : List ℕ) (a : Ranking) : Type 0 where
+  -- a number r: the products are r independent generators that compute the targets, a formula of an entry for r; no choice of fewer generators computes the
+  -- targets; none is cheaper: any r generators that compute the targets, in whatever order, cost at least as much; and of those that cost as much none, written
+  -- ascending, comes before these in a dictionary (`RankFormula`); the buffer holds the products and the rows, then its old content
   pub number : (r : ℕ) (buffer : List ℕ) → a ≡ is r buffer
-      → (es : List ℕ) × (length es ≡ r) × RankFormula word gens targets es × (buffer ≡ filled (es ++ map (rowOf (chosen word gens es)) targets) old)
+      → (es : List ℕ) × (length es ≡ r) × RankFormula word gens targets prices es × (buffer ≡ filled (es ++ map (rowOf (chosen word gens es)) targets) old)
       -- each target is the sum that its row says, and no other row of r bits says it
       × ((t : ℕ) → List·Memᴰ t targets → rowForm (chosen word gens es) (rowOf (chosen word gens es) t) 0 ≡ t)
       × ((t row : ℕ) → row < 2 ^ length (chosen word gens es) → rowForm (chosen word gens es) row 0 ≡ t → row ≡ rowOf (chosen word gens es) t)
@@ -248,13 +253,14 @@ look-up-means gens targets k old c M number = (
           length-drop (number * recordLength (c .ell) k) (c .buffer),
         ))
 
-module _ (gens targets old : List ℕ) where
-  formula-means : (es : List ℕ) → RankFormula word gens targets es → (t : ℕ) → List·Memᴰ t targets → rowForm (chosen word gens es) (rowOf (chosen word gens es) t) 0 ≡ t
+module _ (gens targets prices old : List ℕ) where
+  formula-means : (es : List ℕ) → RankFormula word gens targets prices es → (t : ℕ) → List·Memᴰ t targets
+      → rowForm (chosen word gens es) (rowOf (chosen word gens es) t) 0 ≡ t
   formula-means es R t m = row-sum (chosen word gens es) t (R .computes t m)
 
-  ranking-means : (a : Ranking) → ranking gens targets old ≡ accepted a → RankMeans gens targets old a
+  ranking-means : (a : Ranking) → ranking gens targets prices old ≡ accepted a → RankMeans gens targets prices old a
   unfolding ranking formulaRecord
-  ranking-means a e = go (fewest word gens targets) refl e
+  ranking-means a e = go (fewest word gens targets prices) refl e
     where
       clash : {P : Type 0} → _≡_ {A = ℕ} 0 1 → P
       clash z = absurd (omega arith)
@@ -262,53 +268,120 @@ module _ (gens targets old : List ℕ) where
       Few : Type 0
       Few = (xs : List ℕ) × Chosen word gens xs × (length xs ≤ dim word targets + 6) × Computes word targets xs
 
-      go : (f : Fewest) → fewest word gens targets ≡ f → written gens targets old f ≡ accepted a → RankMeans gens targets old a
+      go : (f : Fewest) → fewest word gens targets prices ≡ f → written gens targets old f ≡ accepted a → RankMeans gens targets prices old a
       go (formula es) q w =
           let j = refuse-inv 9 (ltb (length old) (length es + length targets)) (accepted (is (length es) (filled (formulaRecord gens targets es) old))) a w in
-          subst (RankMeans gens targets old) (accepted-inj (is (length es) (filled (formulaRecord gens targets es) old)) a (j .1))
+          subst (RankMeans gens targets prices old) (accepted-inj (is (length es) (filled (formulaRecord gens targets es) old)) a (j .1))
           (record {
             number = (
                 λ r buffer p. (
                   es,
                   (let z : length es ≡ r = cc in z),
-                  rank-formula word gens targets es q,
+                  rank-formula word gens targets prices es q,
                   (let z : filled (formulaRecord gens targets es) old ≡ buffer = cc in sym z),
-                  formula-means es (rank-formula word gens targets es q),
-                  λ t row h e. row-only (chosen word gens es) t row (rank-formula word gens targets es q .independent) h e,
+                  formula-means es (rank-formula word gens targets prices es q),
+                  λ t row h e. row-only (chosen word gens es) t row (rank-formula word gens targets prices es q .independent) h e,
                 )
                 );
-            exactly = (λ m. rank-exactly word gens targets .0 (es, q), λ m. (length es, filled (formulaRecord gens targets es) old, refl));
-            above-exactly = (λ p. clash cc, λ h. clash (let z = rank-above word gens targets .1 h in let y : formula es ≡ formulae.above = sym q ∙ z in cc));
-            beyond-exactly = (λ p. clash cc, λ h. clash (let z = rank-beyond word gens targets .1 h in let y : formula es ≡ formulae.beyond = sym q ∙ z in cc));
+            exactly = (λ m. rank-exactly word gens targets prices .0 (es, q), λ m. (length es, filled (formulaRecord gens targets es) old, refl));
+            above-exactly = (
+              λ p. clash cc,
+              λ h. clash (let z = rank-above word gens targets prices .1 h in let y : formula es ≡ formulae.above = sym q
+                  ∙ z in cc),
+            );
+            beyond-exactly = (
+              λ p. clash cc,
+              λ h. clash (let z = rank-beyond word gens targets prices .1 h in let y : formula es ≡ formulae.beyond = sym q
+                  ∙ z in cc),
+            );
           })
       go formulae.above q w =
-          subst (RankMeans gens targets old) (accepted-inj above a w)
+          subst (RankMeans gens targets prices old) (accepted-inj above a w)
           (record {
             number = λ r buffer p. clash cc;
-            exactly = (λ m. clash (let y : above ≡ is (m .0) (m .1) = m .2 in cc), λ (m : Few). clash (let z = rank-exactly word gens targets .1 m in let y : formulae.above ≡ formula (z .0) = sym q ∙ z .1 in cc));
-            above-exactly = (λ p. rank-above word gens targets .0 q, λ h. refl);
-            beyond-exactly = (λ p. clash cc, λ h. clash (let z = rank-beyond word gens targets .1 h in let y : formulae.above ≡ formulae.beyond = sym q ∙ z in cc));
+            exactly = (
+              λ m. clash (let y : above ≡ is (m .0) (m .1) = m .2 in cc),
+              λ (m : Few). clash
+                  (let z = rank-exactly word gens targets prices .1 m in let y : formulae.above ≡ formula (z .0) = sym q ∙ z .1 in cc),
+            );
+            above-exactly = (λ p. rank-above word gens targets prices .0 q, λ h. refl);
+            beyond-exactly = (
+              λ p. clash cc,
+              λ h. clash (let z = rank-beyond word gens targets prices .1 h in let y : formulae.above
+                  ≡ formulae.beyond = sym q ∙ z in cc),
+            );
           })
       go formulae.beyond q w =
-          subst (RankMeans gens targets old) (accepted-inj beyond a w)
+          subst (RankMeans gens targets prices old) (accepted-inj beyond a w)
           (record {
             number = λ r buffer p. clash cc;
-            exactly = (λ m. clash (let y : beyond ≡ is (m .0) (m .1) = m .2 in cc), λ (m : Few). clash (let z = rank-exactly word gens targets .1 m in let y : formulae.beyond ≡ formula (z .0) = sym q ∙ z .1 in cc));
-            above-exactly = (λ p. clash cc, λ h. clash (let z = rank-above word gens targets .1 h in let y : formulae.beyond ≡ formulae.above = sym q ∙ z in cc));
-            beyond-exactly = (λ p. rank-beyond word gens targets .0 q, λ h. refl);
+            exactly = (
+              λ m. clash (let y : beyond ≡ is (m .0) (m .1) = m .2 in cc),
+              λ (m : Few). clash
+                  (let z = rank-exactly word gens targets prices .1 m in let y : formulae.beyond ≡ formula (z .0) = sym q ∙ z .1 in cc),
+            );
+            above-exactly = (
+              λ p. clash cc,
+              λ h. clash (let z = rank-above word gens targets prices .1 h in let y : formulae.beyond ≡ formulae.above = sym q
+                  ∙ z in cc),
+            );
+            beyond-exactly = (λ p. rank-beyond word gens targets prices .0 q, λ h. refl);
           })
 
--- of a posed problem
-pub rank-of-means : (x : Problem) (k : ℕ) (old : List ℕ) (a : Ranking) → rankFor x k old ≡ accepted a → (k ≡ 0) × RankMeans (x .generators) (x .targets) old a
-unfolding rankFor
-rank-of-means x k old a e =
-    let j = refuse-inv 8 (not (eqb k 0)) (ranking (x .generators) (x .targets) old) a e in
-    (eqb-true k 0 (not-false (eqb k 0) (j .0)), ranking-means (x .generators) (x .targets) old a (j .1))
+-- ---- what Rank says is the only reply that means this
+module _ (gens targets prices old : List ℕ) (a b : Ranking) (M : RankMeans gens targets prices old a) (N : RankMeans gens targets prices old b) where
+  -- of two formulae neither is cheaper, nor before the other
+  one-formula : (es fs : List ℕ) → RankFormula word gens targets prices es → RankFormula word gens targets prices fs → length es ≡ length fs → es ≡ fs
+  one-formula es fs E F l =
+      go (E .first-of-equals fs (F .rising) (sym l) (F .computes) (sym even)) (F .first-of-equals es (E .rising) l (E .computes) even)
+    where
+      below : (hs : List ℕ) → RankFormula word gens targets prices hs → (e : ℕ) → List·Memᴰ e hs → e < length gens
+      below hs H e m = rising-mem 0 (length gens) hs (H .rising) e m .1
 
-pub rank-means : (number p q r k : ℕ) (gs ts old : List ℕ) (a : Ranking) → rank number p q r k gs ts old ≡ accepted a
-    → (x : Problem) × (posed number p q r gs ts [] ≡ accepted x) × (k ≡ 0) × RankMeans (x .generators) (x .targets) old a
+      even : total prices es ≡ total prices fs
+      even = omega (arith, E .none-cheaper fs (below fs F) (sym l) (F .computes), F .none-cheaper es (below es E) l (E .computes))
+
+      go : (es ≡ fs) ⊎ Before es fs → (fs ≡ es) ⊎ Before fs es → es ≡ fs
+      go (inl e) f = e
+      go (inr e) (inl f) = sym f
+      go (inr e) (inr f) = absurd (before-asym es fs e f)
+
+  -- the number of one is that of the other
+  same-number : (r s : ℕ) (u v : List ℕ) → a ≡ is r u → b ≡ is s v → a ≡ b
+  same-number r s u v p q =
+      let X = M .number r u p in
+      let Y = N .number s v q in
+      let l : r ≡ s = least (X .2 .rank) (Y .2 .rank) (X .1) (Y .1) in
+      let e : X .0 ≡ Y .0 = one-formula (X .0) (Y .0) (X .2) (Y .2) (X .1 ∙ l ∙ sym (Y .1)) in
+      p ∙ ap₂ is l (X .3 ∙ ap (λ (es : List ℕ). filled (es ++ map (rowOf (chosen word gens es)) targets) old) e ∙ sym (Y .3)) ∙ sym q
+    where
+      least : {m n : ℕ} → Rank word gens targets m → Rank word gens targets n → m ≡ r → n ≡ s → r ≡ s
+      least A B x y =
+          let f = A .least (B .some .0) (B .some .2) (B .some .3) in
+          let g = B .least (A .some .0) (A .some .2) (A .some .3) in
+          omega (arith, f, g, A .some .1, B .some .1, x, y)
+
+  pub rank-pinned : a ≡ b
+  rank-pinned = go a refl
+    where
+      go : (x : Ranking) → a ≡ x → a ≡ b
+      go (is r u) p = let n = N .exactly .1 (M .exactly .0 (r, u, p)) in same-number r (n .0) u (n .1) p (n .2)
+      go above p = p ∙ sym (N .above-exactly .1 (M .above-exactly .0 p))
+      go beyond p = p ∙ sym (N .beyond-exactly .1 (M .beyond-exactly .0 p))
+
+-- of a posed problem
+pub rank-of-means : (x : Problem) (prices : List ℕ) (k : ℕ) (old : List ℕ) (a : Ranking) → rankFor x prices k old ≡ accepted a
+    → (k ≡ 0) × RankMeans (x .generators) (x .targets) prices old a
+unfolding rankFor
+rank-of-means x prices k old a e =
+    let j = refuse-inv 8 (not (eqb k 0)) (ranking (x .generators) (x .targets) prices old) a e in
+    (eqb-true k 0 (not-false (eqb k 0) (j .0)), ranking-means (x .generators) (x .targets) prices old a (j .1))
+
+pub rank-means : (number p q r k : ℕ) (gs ts costs old : List ℕ) (a : Ranking) → rank number p q r k gs ts costs old ≡ accepted a
+    → (x : PricedProblem) × (priced number p q r gs ts costs ≡ accepted x) × (k ≡ 0)
+    × RankMeans (x .problem .generators) (x .problem .targets) (x .prices) old a
 unfolding rank
-rank-means number p q r k gs ts old a e =
-    let i = follow-inv (posed number p q r gs ts []) (λ x. rankFor x k old) a e in
-    let m = rank-of-means (i .0) k old a (i .2) in
+rank-means number p q r k gs ts costs old a e =
+    let i = follow-inv (priced number p q r gs ts costs) (λ x. rankFor (x .problem) (x .prices) k old) a e in
+    let m = rank-of-means (i .0 .problem) (i .0 .prices) k old a (i .2) in
     (i .0, i .1, m .0, m .1)

@@ -11,6 +11,7 @@ use mathlib.Core.List.{List, [], _++_, map, List·Memᴰ}
 use Prim.Native.Nat.{ℕ, _<_, _≤_}
 use lib.ListN.{length, getD}
 use Rattle.kinds.specs.Refusal.{accepted}
+use Rattle.problems.specs.prices.Theorems.{priced-posed}
 use Rattle.problems.specs.Problem.{Problem, posed}
 use Rattle.words.specs.Buffers.{filled}
 use Rattle.linear.specs.Bit.{bit}
@@ -44,20 +45,21 @@ formulae-rows-shown number p q r gs ts rows old f e =
           (F .spanning .1 t (m .3 .entry .holds t k)) h in (s .0, s .1, s .3),
     )
 
-pub rank-rows-shown : (number p q r k : ℕ) (gs ts old : List ℕ) (n : ℕ) (buffer : List ℕ) → rank number p q r k gs ts old ≡ accepted (is n buffer)
+pub rank-rows-shown : (number p q r k : ℕ) (gs ts costs old : List ℕ) (n : ℕ) (buffer : List ℕ) → rank number p q r k gs ts costs old ≡ accepted (is n buffer)
     → (x : Problem) × (posed number p q r gs ts [] ≡ accepted x)
     × ((es : List ℕ) × (length es ≡ n) × (buffer ≡ filled (es ++ map (rowOf (chosen word (x .generators) es)) (x .targets)) old)
     × RowsShown number p q r gs ts x es)
-rank-rows-shown number p q r k gs ts old n buffer e =
-    let m = rank-means number p q r k gs ts old (is n buffer) e in
+rank-rows-shown number p q r k gs ts costs old n buffer e =
+    let m = rank-means number p q r k gs ts costs old (is n buffer) e in
+    let P = priced-posed p q r gs ts costs (m .0) number (m .1) in
     let N = m .3 .number n buffer refl in (
-      m .0,
-      m .1,
+      m .0 .problem,
+      P,
       (
         N .0,
         N .1,
         N .3,
-        λ t j room h. let s = row-shown number p q r gs ts [] (m .0) (m .1) t j (N .0) room (N .2 .rising) (N .2 .independent) (N .2 .computes t j) h in
+        λ t j room h. let s = row-shown number p q r gs ts [] (m .0 .problem) P t j (N .0) room (N .2 .rising) (N .2 .independent) (N .2 .computes t j) h in
             (s .0, s .1, s .3),
       ),
     )

@@ -15,7 +15,9 @@ use Rattle.linear.specs.Coefficients.{coefficient, coefficients}
 use Rattle.linear.specs.Order.{risingLists}
 use Rattle.linear.specs.Select.{anyOf, only, firstOfEach}
 use Rattle.linear.specs.Entry.{sameVec, sameBasis, inside, generator, chosen, generatorsIn, fits, space, entries}
-use Rattle.linear.specs.Formulae.{formulae, leastFrom, missed, fewest}
+use Rattle.linear.specs.Formulae.{formulae, allFormulae, leastFrom, missed, fewest}
+use Rattle.linear.specs.Prices.{total, earlier, precedes, cheaper, cheapestFrom}
+use Rattle.linear.specs.Share.{gather}
 use Rattle.linear.specs.laws.Span.{mem-cons}
 use Rattle.kinds.specs.Kinds.{kindNumbered}
 use Rattle.kinds.specs.Sizes.{within, polySizes, listSizes}
@@ -26,11 +28,13 @@ use Rattle.forms.specs.Weight.{weight}
 use Rattle.maps.specs.Target.{pairFor, targetForm}
 use Rattle.maps.specs.Generators.{generatorCount, firstMask, secondMask, generatorForm, listOf, generatorForms, countOf}
 use Rattle.words.specs.lists.Lists.{repeats}
+use Rattle.maps.specs.Costs.{generatorCost, generatorCosts}
 use Rattle.problems.specs.Problem.{targetForms, listed, mapped, shaped, posed}
+use Rattle.problems.specs.prices.Prices.{unpriced, prices, pricedShape, priced}
 use Rattle.bases.specs.rows.Rows.{maskOf, rowOf}
-use Rattle.first_formula.specs.Choice.{formulaRecord}
+use Rattle.choices.specs.Choice.{formulaRecord}
 use Rattle.catalogue.specs.listing.Listing.{records, flat, fitting}
-use Rattle.rank.specs.fewest.Fewest.{Ranking, is, above, beyond, ranking}
+use Rattle.rank.specs.fewest.Fewest.{Ranking, is, beyond, ranking}
 use Rattle.catalogue.specs.Catalogue.{Catalogued, entryListing, catalogueOf, catalogue}
 use Rattle.rank.specs.Rank.{rankFor, rank}
 use Rattle.space_formulae.specs.spaces.Spaces as space
@@ -45,14 +49,14 @@ pub data WorkedLine : Type 0 where
   -- a Catalogue: the kind's number, p, q, r, k, the generators and targets of a list, the buffer; the reply is ℓ, found, shown and the buffer
   catalogued : (number p q r k : ℕ) (gs ts old : List ℕ) → Answer Catalogued → WorkedLine
   -- a Rank: the same with k = 0; the reply is the rank with the buffer, above or beyond
-  ranked : (number p q r : ℕ) (gs ts old : List ℕ) → Answer Ranking → WorkedLine
+  ranked : (number p q r : ℕ) (gs ts costs old : List ℕ) → Answer Ranking → WorkedLine
   -- the formulae of a space: the problem as for a Catalogue, the rows, the buffer; the reply is how many are listed, whether these are all, and the buffer
   listedFormulae : (number p q r : ℕ) (gs ts rows old : List ℕ) → Answer space.Formulae → WorkedLine
 
 abbrev pub LineHolds : WorkedLine → Type 0
 LineHolds (checked number p q r k xs ys rows reply) = check number p q r k xs ys rows ≡ reply
 LineHolds (catalogued number p q r k gs ts old reply) = catalogue number p q r k gs ts old ≡ reply
-LineHolds (ranked number p q r gs ts old reply) = rank number p q r 0 gs ts old ≡ reply
+LineHolds (ranked number p q r gs ts costs old reply) = rank number p q r 0 gs ts costs old ≡ reply
 LineHolds (listedFormulae number p q r gs ts rows old reply) = formulaeOf number p q r gs ts rows old ≡ reply
 
 abbrev pub entriesOf : (ell found shown : ℕ) (buffer : List ℕ) → Answer Catalogued
@@ -95,14 +99,14 @@ listFormulae =
 
 -- P: "list of 2 bits, menu 1, target 2: Beyond. Target 0 instead: Rank 0."
 abbrev pub far : WorkedLine
-far = ranked 4 2 1 1 (1 ∷ []) (2 ∷ []) [] (accepted beyond)
+far = ranked 4 2 1 1 (1 ∷ []) (2 ∷ []) (5 ∷ []) [] (accepted beyond)
 
 abbrev pub nothing : WorkedLine
-nothing = ranked 4 2 1 1 (1 ∷ []) (0 ∷ []) (7 ∷ []) (accepted (is 0 (0 ∷ [])))
+nothing = ranked 4 2 1 1 (1 ∷ []) (0 ∷ []) (5 ∷ []) (7 ∷ []) (accepted (is 0 (0 ∷ [])))
 
 -- P: "poly 1,1 has Rank 1."
 abbrev pub one : WorkedLine
-one = ranked 0 1 1 0 [] [] (7 ∷ 7 ∷ 7 ∷ []) (accepted (is 1 (0 ∷ 1 ∷ 7 ∷ [])))
+one = ranked 0 1 1 0 [] [] [] (7 ∷ 7 ∷ 7 ∷ []) (accepted (is 1 (0 ∷ 1 ∷ 7 ∷ [])))
 
 abbrev pub table : List WorkedLine
 table = threeProducts ∷ karatsuba ∷ fourProducts ∷ fiveProducts ∷ right ∷ wrongRow ∷ listOne ∷ listTwo ∷ listFormulae ∷ far ∷ nothing ∷ one ∷ []
@@ -124,16 +128,18 @@ held-checks = (refl, refl)
 -- Rank's lines
 held-ranks : LineHolds far × LineHolds nothing × LineHolds one
 unfolding bit digitsOf top clear reduce norm place insert inserts basisOf dim risingLists anyOf only firstOfEach sameVec sameBasis inside generator
-    chosen generatorsIn fits space entries formulae leastFrom missed fewest kindNumbered within polySizes listSizes wide zeroIn formOf
+    chosen generatorsIn fits space entries formulae allFormulae gather total earlier precedes cheaper cheapestFrom leastFrom missed fewest
+    kindNumbered within polySizes listSizes wide zeroIn formOf
     productForm pairFor targetForm generatorCount firstMask secondMask generatorForm listOf generatorForms countOf targetForms repeats listed
-    mapped shaped posed coefficient coefficients maskOf rowOf formulaRecord ranking rankFor rank
+    mapped shaped posed unpriced prices generatorCost generatorCosts pricedShape priced coefficient coefficients maskOf rowOf formulaRecord ranking rankFor rank
 held-ranks = (refl, refl, refl)
 
 -- The lines of formulae
 held-formulae : LineHolds karatsuba × LineHolds listFormulae
 unfolding bit digitsOf top clear reduce norm place insert inserts basisOf dim risingLists anyOf only sameVec sameBasis inside generator chosen
     generatorsIn fits formulae kindNumbered within polySizes listSizes wide zeroIn formOf productForm pairFor targetForm generatorCount firstMask
-    secondMask generatorForm listOf generatorForms countOf targetForms repeats listed mapped shaped posed coefficient coefficients maskOf rowOf
+    secondMask generatorForm listOf generatorForms countOf targetForms repeats listed mapped shaped posed unpriced prices generatorCost generatorCosts
+    pricedShape priced coefficient coefficients maskOf rowOf
     formulaRecord flat fitting isEntry space.formulaeListing formulaeFor formulaeOf
 held-formulae = (refl, refl)
 

@@ -2,15 +2,15 @@
 --   record-length   every record has the length that its definition says
 --   found-all       with at most 4,095 generators and k at most ℓ + 6 the limit 2 ^ 64 - 1 cuts nothing
 --   listed-below    there is no entry for k below the targets' dimension
---   listed-run      the state after the walk's records is the listing
+--   listed-run      the state after the entries' records is the listing
 -- Assumes nothing.
 use mathlib.Core.Path.{_≡_, refl, sym, ap, ap₂, _∙_}
-use mathlib.Core.List.{List, [], _++_, map, List·Memᴰ}
+use mathlib.Core.List.{List, _++_, map, List·Memᴰ}
 use Prim.Native.Nat.{ℕ, _+_, _-_, _*_, _^_, _<_, _≤_, min}
 use native.Mathlib.Omega.{arith}
 use lib.ListN.{length, take, drop, length-append, length-map, length-take}
 use lib.Seq.{take-take}
-use Rattle.linear.specs.Basis.{basisOf, dim}
+use Rattle.linear.specs.Basis.{dim}
 use Rattle.linear.specs.Entry.{entries, space}
 use Rattle.linear.specs.Word.{word}
 use Rattle.linear.specs.laws.Order.{mem-map-inv}
@@ -20,10 +20,8 @@ use Rattle.linear.specs.laws.Count.{entries-count}
 use Rattle.records.specs.declared.Tally.{Tally}
 use Rattle.records.specs.Records.{State, run}
 use Rattle.records.specs.Keep.{stateOf}
-use Rattle.catalogue.specs.walk.Walk.{search}
-use Rattle.catalogue.specs.walk.laws.Search.{search-is}
 use Rattle.catalogue.specs.declared.listing.Listing.{Listing}
-use Rattle.catalogue.specs.listing.Walked.{start}
+use Rattle.catalogue.specs.meeting.Meeting.{start}
 use Rattle.catalogue.specs.listing.Listing.{records, flat, fitting, Listed}
 use Rattle.catalogue.specs.listing.laws.Run.{fitting-le, fitting-none, afterAll, run-limit}
 use Rattle.records.specs.Length.{recordLength}
@@ -58,10 +56,10 @@ listed-below gens targets k l limit buffer e h =
       buffer = ap (λ (x : ℕ). drop x buffer) (let q : 0 ≡ 0 * recordLength (dim word targets) k = omega arith in q);
     }
 
-pub listed-run : (gens targets : List ℕ) (k limit : ℕ) (buffer : List ℕ) → dim word targets ≤ k → (l : ℕ) → l ≡ dim word targets → (t : Tally) (last : List ℕ)
-    → stateOf t last ≡ run limit (start buffer) (search gens k (basisOf word targets) [] (length gens) 0 (k - dim word targets))
+pub listed-run : (gens targets : List ℕ) (k limit : ℕ) (buffer : List ℕ) (l : ℕ) → l ≡ dim word targets → (t : Tally) (last : List ℕ)
+    → stateOf t last ≡ run limit (start buffer) (map (λ es. es ++ space word gens targets es) (entries word gens targets k))
     → Listed gens targets k limit buffer last (record { ell = l; found = t .found; shown = t .shown })
-listed-run gens targets k limit buffer h l e t last q =
+listed-run gens targets k limit buffer l e t last q =
     record { ell = e; found = count; shown = shown; buffer = content }
   where
     n : ℕ
@@ -81,7 +79,7 @@ listed-run gens targets k limit buffer h l e t last q =
 
     all : stateOf t last ≡ afterAll n (start buffer) (take limit rs) s
     all =
-        q ∙ ap (run limit (start buffer)) (search-is gens targets k h ∙ same) ∙ run-limit limit n rs buffer (record-length gens targets k)
+        q ∙ ap (run limit (start buffer)) same ∙ run-limit limit n rs buffer (record-length gens targets k)
 
     found : t .found ≡ c
     found = ap (λ (x : State). x .found) all ∙ (let z : 0 + c ≡ c = omega arith in z)

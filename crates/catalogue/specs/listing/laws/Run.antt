@@ -14,7 +14,7 @@ use native.Mathlib.Nat.{div-eq-of-lt, div-eq-sub-div, div-mul-le-self, le-refl, 
 use lib.ListN.{length, take, drop, length-take, take-append-drop}
 use lib.Seq.{paste, length-paste, take-paste, drop-paste, take-length, drop-drop, take-nil}
 use Rattle.linear.specs.laws.Span.{mem-cons}
-use Rattle.records.specs.Records.{State, note, run}
+use Rattle.records.specs.Records.{State, note, runs, run}
 use Rattle.records.specs.laws.Records.{note-fits, note-short, run-full}
 use Rattle.catalogue.specs.listing.Listing.{flat, fitting}
 
@@ -75,7 +75,7 @@ state-eq e₁ e₂ e₃ e₄ = cc
 
 pub run-law : (limit n : ℕ) (rs : List (List ℕ)) (st : State) → ((r : List ℕ) → List·Memᴰ r rs → length r ≡ n) → st .found + length rs ≤ limit → st .at ≤ length (st .buf)
     → run limit st rs ≡ afterAll n st rs (fitting n (length rs) (length (st .buf) - st .at))
-unfolding run flat
+unfolding runs flat
 run-law limit n [] st h l i =
     start (fitting n 0 (length (st .buf) - st .at)) (fitting-none n (length (st .buf) - st .at))
   where
@@ -156,10 +156,10 @@ run-take limit (r ∷ rs) st h = go (ℕ-discrete (st .found) limit) (λ l. run-
         first ∙ ih (omega arith) ∙ sym (ap (λ (m : ℕ). run limit st (take m (r ∷ rs))) a ∙ second (limit - note limit st r .found))
       where
         first : run limit st (r ∷ rs) ≡ run limit (note limit st r) rs
-        first = unfold run in refl
+        first = unfold runs in refl
 
         second : (m : ℕ) → run limit st (take (suc m) (r ∷ rs)) ≡ run limit (note limit st r) (take m rs)
-        second m = unfold run in refl
+        second m = unfold runs in refl
 
 mem-take : {A : Type 0} (P : A → Type 0) (n : ℕ) (l : List A) → ((x : A) → List·Memᴰ x l → P x) → (x : A) → List·Memᴰ x (take n l) → P x
 mem-take P zero l h = λ x m. absurd (List·Memᴰ·not-nil m)

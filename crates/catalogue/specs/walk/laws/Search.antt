@@ -1,6 +1,6 @@
--- The walk's records, one number after the other.
---   search-is                      from the targets' space the records are those of the entries
---   leaf-yes, leaf-no              no number is missing: the record, or none
+-- What the walk meets, one number after the other.
+--   search-is                      from the targets' space it meets the entries
+--   leaf-yes, leaf-no              no number is missing: an entry, or none
 --   turn-end                       there is no number left
 --   turn-skip, turn-down           a known number is passed over; another is gone into
 --   turn-drop                      nothing comes of a number whose child is barren
@@ -26,12 +26,13 @@ use Rattle.residues.specs.children.Residues.{residues, known, withResidue}
 use Rattle.residues.specs.children.laws.Known.{known-yes, known-no}
 use Rattle.residues.specs.children.laws.Child.{with-zero}
 use Rattle.residues.specs.children.Barren.{Barren}
-use Rattle.records.specs.Records.{State, note, run}
+use Rattle.records.specs.Records.{State, runs}
 use Rattle.catalogue.specs.walk.Walk.{search}
 
 pub search-is : (gens targets : List ℕ) (k : ℕ) → dim word targets ≤ k
-    → search gens k (basisOf word targets) [] (length gens) 0 (k - dim word targets) ≡ map (λ es. es ++ space word gens targets es) (entries word gens targets k)
-search-is gens targets k h = walk-is word gens targets (λ C i. known (residues gens C) i) (known-yes gens) (known-no gens) k h (λ p C. p ++ C)
+    → search gens k (basisOf word targets) [] (length gens) 0 (k - dim word targets) ≡ map (λ es. (es, space word gens targets es))
+    (entries word gens targets k)
+search-is gens targets k h = walk-is word gens targets (λ C i. known (residues gens C) i) (known-yes gens) (known-no gens) k h (λ p C. (p, C))
 
 module _ (gens : List ℕ) (k : ℕ) (C p : List ℕ) where
   search-end : (n j m : ℕ) → m ≢ 0 → n ≡ 0 → search gens k C p n j m ≡ []
@@ -56,21 +57,22 @@ module _ (gens : List ℕ) (k : ℕ) (C p : List ℕ) where
   unfolding spans
   leaf-test h l = ap (λ (x : List ℕ). eqb (dim word x) k) (ap (withResidue 0 gens) l ∙ with-zero gens C)
 
-  leaf : (h : List ℕ) (n j m limit : ℕ) (st : State) (r : Bool) → m ≡ 0 → h ≡ residues gens C → r ≡ eqb (dim word (withResidue 0 gens h)) k
-      → run limit st (search gens k C p n j m) ≡ run limit st (cond r ((p ++ C) ∷ []) [])
-  unfolding walk
-  leaf h n j zero limit st r z l d = ap (λ (t : Bool). run limit st (cond t ((p ++ C) ∷ []) [])) (sym (d ∙ leaf-test h l))
-  leaf h n j (suc m) limit st r z l d = absurd (omega arith)
+  module _ (step : State → List ℕ × List ℕ → State) where
+    leaf : (h : List ℕ) (n j m : ℕ) (st : State) (r : Bool) → m ≡ 0 → h ≡ residues gens C → r ≡ eqb (dim word (withResidue 0 gens h)) k
+        → runs step st (search gens k C p n j m) ≡ runs step st (cond r ((p, C) ∷ []) [])
+    unfolding walk
+    leaf h n j zero st r z l d = ap (λ (t : Bool). runs step st (cond t ((p, C) ∷ []) [])) (sym (d ∙ leaf-test h l))
+    leaf h n j (suc m) st r z l d = absurd (omega arith)
 
-  -- no number is missing, and the test's result is r
-  module _ (h : List ℕ) (n j m limit : ℕ) (st : State) (r : Bool) (z : m ≡ 0) (l : h ≡ residues gens C) (d : r ≡ eqb (dim word (withResidue 0 gens h)) k) where
-    pub leaf-yes : r ≡ true → (end : State) → end ≡ note limit st (p ++ C) → end ≡ run limit st (search gens k C p n j m)
-    unfolding run
-    leaf-yes e end q = q ∙ sym (leaf h n j m limit st r z l d ∙ ap (λ (t : Bool). run limit st (cond t ((p ++ C) ∷ []) [])) e)
+    -- no number is missing, and the test's result is r
+    module _ (h : List ℕ) (n j m : ℕ) (st : State) (r : Bool) (z : m ≡ 0) (l : h ≡ residues gens C) (d : r ≡ eqb (dim word (withResidue 0 gens h)) k) where
+      pub leaf-yes : r ≡ true → (end : State) → end ≡ step st (p, C) → end ≡ runs step st (search gens k C p n j m)
+      unfolding runs
+      leaf-yes e end q = q ∙ sym (leaf h n j m st r z l d ∙ ap (λ (t : Bool). runs step st (cond t ((p, C) ∷ []) [])) e)
 
-    pub leaf-no : r ≡ false → st ≡ run limit st (search gens k C p n j m)
-    unfolding run
-    leaf-no e = sym (leaf h n j m limit st r z l d ∙ ap (λ (t : Bool). run limit st (cond t ((p ++ C) ∷ []) [])) e)
+      pub leaf-no : r ≡ false → st ≡ runs step st (search gens k C p n j m)
+      unfolding runs
+      leaf-no e = sym (leaf h n j m st r z l d ∙ ap (λ (t : Bool). runs step st (cond t ((p, C) ∷ []) [])) e)
 
   module _ (h : List ℕ) (j m : ℕ) (l : h ≡ residues gens C) (ne : m ≢ 0) where
     pub turn-end : length gens ≤ j → search gens k C p (length gens - j) j m ≡ []
@@ -95,7 +97,8 @@ module _ (gens : List ℕ) (k : ℕ) (C p : List ℕ) where
     pub turn-drop : Reduced word C → j < length gens → false ≡ known h j → Barren gens h j k m
         → search gens k (insert word C (generator word gens j)) (p ++ j ∷ []) (length gens - (j + 1)) (j + 1) (m - 1) ≡ []
     turn-drop ρ g e B =
-        walk-none word gens (λ D i. known (residues gens D) i) (spans word gens k) (λ q D. q ++ D) (insert word C f) (p ++ j ∷ []) (length gens - (j + 1)) (j + 1) (m - 1) (length gens) (omega arith)
+        walk-none word gens (λ D i. known (residues gens D) i) (spans word gens k) (λ q D. (q, D)) (insert word C f) (p ++ j ∷ []) (length gens - (j + 1))
+        (j + 1) (m - 1) (length gens) (omega arith)
         (λ a. B .none C ρ l nx (a .numbers) (a .rising .0) (steps (a .numbers) (a .rising .1) (a .free)) (passes (inserts word (insert word C f) (chosen word gens (a .numbers))) (a .good)))
       where
         f : ℕ

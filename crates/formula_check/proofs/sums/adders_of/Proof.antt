@@ -7,7 +7,8 @@ use Prim.Native.Nat.{_+_, _-_, _*_, _≤_}
 use lib.ListN.{length, getD, drop}
 use Rattle.forms.specs.Weight.{weight}
 use Rattle.formula_check.specs.sums.Sums.{addersOf}
-use Rattle.formula_check.specs.sums.laws.Loops.{weight-most, adders-next, adders-end}
+use Rattle.forms.specs.laws.Weight.{weight-most}
+use Rattle.formula_check.specs.sums.laws.Loops.{adders-next, adders-end}
 use native.Mathlib.Omega.{arith}
 use Rattle.formula_check.proofs.sums.adders_of.Statement.{statement}
 use Rattle.formula_check.proofs.sums.adders_of.Tie as tie

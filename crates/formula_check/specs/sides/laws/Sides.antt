@@ -22,7 +22,7 @@ use Rattle.words.specs.tables.Table.{slotFrom, tries, Numbered}
 use Rattle.words.specs.tables.laws.Seek.{either, apart, slot-owner, slot-kept, slot-own}
 use Rattle.forms.specs.Weight.{weight}
 use Rattle.formula_check.specs.sums.Sums.{sideAdders}
-use Rattle.formula_check.specs.sums.laws.Loops.{weight-most}
+use Rattle.forms.specs.laws.Weight.{weight-most}
 use Rattle.formula_check.specs.sums.laws.Sharing.{sides-known, sides-new, sides-light, sides-end}
 use Rattle.formula_check.specs.sides.Sides.{maskSlots, maskSlot, InTable, Entered, Entering, MaskAdded, Counting}
 

@@ -4,13 +4,13 @@
 --   row-set, row-unset, row-end                the form of a row
 -- Assumes nothing.
 use mathlib.Core.Path.{_≡_, sym, ap, ap₂, _∙_}
-use mathlib.Core.Bool.{Bool, true, false, cond}
+use mathlib.Core.Bool.{Bool}
 use mathlib.Core.List.{List, [], _∷_, _++_, append-assoc, append-nil}
-use Prim.Native.Nat.{ℕ, zero, suc, _+_, _-_, _/_, _^_, _<_, _≤_}
+use Prim.Native.Nat.{ℕ, _+_, _-_, _/_, _^_, _<_, _≤_}
 use native.Mathlib.Numerals.{add-one}
 use native.Mathlib.Omega.{arith}
 use lib.ListN.{length, getD, take, drop, set, drop-of-length-le}
-use lib.Seq.{drop-cons, take-suc-set}
+use lib.Seq.{take-suc-set}
 use lib.Bits.{bitXor, bitAnd, xor-zero-r, xor-zero-l}
 use Rattle.linear.specs.Bit.{bit}
 use Rattle.linear.specs.Word.{word, scaleW}
@@ -23,15 +23,6 @@ use Rattle.forms.specs.Row.{rowForm}
 use Rattle.formula_check.specs.sums.Sums.{productForms, addersOf}
 
 -- ---- adders
-pub weight-most : (w x : ℕ) → weight w x ≤ w
-unfolding weight
-weight-most zero x = omega arith
-weight-most (suc w) x = go (bit x w) (weight-most w x)
-  where
-    go : (t : Bool) → weight w x ≤ w → cond t (suc (weight w x)) (weight w x) ≤ suc w
-    go true h = omega arith
-    go false h = omega arith
-
 pub adders-next : (xs : List ℕ) (i s s′ A : ℕ) → i < length xs → s + addersOf (drop i xs) ≡ A → s′ ≡ s + (weight 64 (getD xs i 0) - 1)
     → s′ + addersOf (drop (i + 1) xs) ≡ A
 unfolding addersOf

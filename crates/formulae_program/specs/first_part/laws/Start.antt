@@ -6,7 +6,7 @@
 --   shown-few                     at most 4,096 entries are shown
 -- Assumes nothing.
 use Prim.Native.Nat.{ℕ, _≤_}
-use mathlib.Core.Path.{_≡_, refl, sym, ap, ap₂, _∙_, subst}
+use mathlib.Core.Path.{_≡_, refl, sym, ap, _∙_, subst}
 use mathlib.Core.Bool.{Bool, true, false, _||_}
 use mathlib.Core.List.{List}
 use native.Mathlib.Omega.{arith}
@@ -18,7 +18,7 @@ use Rattle.kinds.specs.declared.Shape.{Shape}
 use Rattle.kinds.specs.Limits.{mostGenerators, mostTargets}
 use Rattle.kinds.specs.Refusal.{Answer, refused, accepted, refuse, follow}
 use Rattle.kinds.specs.laws.Refusal.{accepted-inj, refuse-inv, follow-inv, neither}
-use Rattle.words.specs.Buffers.{filled, zeros}
+use Rattle.words.specs.Buffers.{zeros}
 use Rattle.words.specs.laws.Buffers.{pasted}
 use Rattle.problems.specs.Problem.{Problem, problem}
 use Rattle.problems.specs.Theorems.{Few, shaped-few}
@@ -42,7 +42,8 @@ use Rattle.formulae_program.specs.declared.plan.Plan.{Plan}
 use Rattle.formulae_program.specs.declared.plan.Started.{Started}
 use Rattle.formulae_program.specs.declared.plan.Started.the-variants as started
 use Rattle.formulae_program.specs.first_part.Listed.{PlanListed, listedEntries, listedIn, listedFile, formulaeNames, formulaeHead}
-use Rattle.formulae_program.specs.first_part.Starts.{planFor, planOf, startedOf, generatorsHeld, targetsHeld, listingAfter, startedFor, formsHeld, Planned, Starts, firstText}
+use Rattle.formulae_program.specs.first_part.Starts.{planFor, startedOf, generatorsHeld, targetsHeld, listingAfter}
+use Rattle.formulae_program.specs.first_part.Starts.{startedFor, formsHeld, Planned, Starts, firstText}
 
 -- ---- the first lines
 pub head-put : (shape : Shape) (k ell found shown a e : ℕ) (d d₁ d₂ : List ℕ)
@@ -106,9 +107,10 @@ module _ (s gs ts old : List ℕ) where
       → Starts s gs ts old (started.Refused 9) g t old
   start-short g t h a b = starts-as s gs ts old (refused 9) (file-as s (length gs) (length ts) old true h) (started.Refused 9) g t old refl a b refl
 
-  module _ {xs ys : List ℕ} {y : PosedRead} (h : (ltb (length gs) mostGenerators || ltb (length ts) mostTargets) ≡ false) (P : PosesIn (posedInput s) xs ys y) where
+  module _ {cs xs ys : List ℕ} {y : PosedRead} (h : (ltb (length gs) mostGenerators || ltb (length ts) mostTargets) ≡ false)
+      (P : PosesIn (posedInput s) cs xs ys y) where
     abbrev seen : PosedRead → Answer ProblemFile
-    seen z = seenPosing (P .first) (P .second) xs ys z
+    seen z = seenPosing (P .first) (P .second) cs xs ys z
 
     listed-as : (z : PosedRead) → y ≡ z → listedFile s (length gs) (length ts) old ≡ follow (seen z) (listedEntries old)
     unfolding listedIn
@@ -121,11 +123,12 @@ module _ (s gs ts old : List ℕ) where
 
     module _ {shape : Shape} {k c u : ℕ} {G T : List ℕ} (q : y ≡ posed.Problem shape k c u) (i : G ≡ take c xs) (j : T ≡ take u ys) where
       abbrev F : ProblemFile
-      F = fileOf s xs ys P q i j
+      F = fileOf s cs xs ys P q i j
 
       pub start-listed : (x : Started) (g t listing : List ℕ) → Planned shape k (problem G T) gs ts old x g t listing → Starts s gs ts old x g t listing
       start-listed x g t listing R =
-          let S : Planned shape k (F .problem) gs ts old x g t listing = subst (λ (z : Problem). Planned shape k z gs ts old x g t listing) (sym (same-parts s xs ys P q i j)) R in
+          let S : Planned shape k (F .problem) gs ts old x g t listing =
+          subst (λ (z : Problem). Planned shape k z gs ts old x g t listing) (sym (same-parts s cs xs ys P q i j)) R in
           go (catalogueOf (F .problem) k old) refl S
         where
           go : (o : Answer Catalogued) → catalogueOf (F .problem) k old ≡ o → Planned shape k (F .problem) gs ts old x g t listing → Starts s gs ts old x g t listing

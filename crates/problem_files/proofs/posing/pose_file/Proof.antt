@@ -1,5 +1,5 @@
 -- `problem_files::posing::pose_file` meets its contract. Assumes nothing.
-use mathlib.Core.Path.{_≡_, ap, _∙_}
+use mathlib.Core.Path.{ap, _∙_}
 use borrow.Author.Needs.{needs}
 use Rattle.kinds.specs.Kinds.{seenKind}
 use Rattle.kinds.specs.Sizes.{shapeOf, seenSizes}
@@ -12,12 +12,12 @@ use Rattle.problem_files.proofs.posing.pose_file.Tie as tie
 
 returns : tie.Need-returns
 returns c =
-    let args = c .before .before .before .before .before .before .before .before .args in
+    let args = c .before .before .before .before .before .before .before .before .before .args in
     record { answer = file-1 _ (c .before .before .head-lines .ensures .0 ∙ ap (seenHead (args .file .now)) (c .enum-told .given .1)); fits = tt }
 
 returns-2 : tie.Need-returns-2
 returns-2 c =
-    let args = c .before .before .before .before .before .before .before .before .before .before .before .args in
+    let args = c .before .before .before .before .before .before .before .before .before .before .before .before .args in
     let known = c .before .before .before .known in
     let head = c .before .before .before .before .before .head-lines .ensures .0 ∙ ap (seenHead (args .file .now)) (known .given .1) in
     record {
@@ -28,13 +28,14 @@ returns-2 c =
 returns-3 : tie.Need-returns-3
 returns-3 c =
     let far = c .before .before .before .before .before .before .before .before .before .before .before .before in
-    let args = far .before .before .before .args in
+    let known2 = c .before .before .before .before .known2 in
+    let args = far .before .before .before .before .args in
     let known = c .before .before .before .before .before .before .before .known in
     let head-lines = c .before .before .before .before .before .before .before .before .before .head-lines in
     let head = head-lines .ensures .0 ∙ ap (seenHead (args .file .now)) (known .given .1) in
     record {
       answer =
-          file-3 _ _ _ head _ (ap seenKind (c .before .before .before .before .known2 .given .1))
+          file-3 _ _ _ head _ (ap seenKind (known2 .given .1))
           (c .before .before .sizes-of .ensures ∙ ap seenSizes (c .enum-told3 .given .1));
       fits = tt;
     }
@@ -53,33 +54,43 @@ part-pose-lines-start c =
 
 pose-lines-requires : tie.Need-pose-lines-requires
 pose-lines-requires c κs =
-    let g = c .before .before .before .before .before .before .before .before .before .before .before .before .before .known .given .0 in
-    let K = c .before .before .before .before .before .before .before .before .before .before .known2 .given in
     let far = c .before .before .before .before .before .before .before .before .before .before .before .before in
-    let sizes-of = c .before .before .before .before .before .before .before .before .sizes-of in
-    let n = c .before .before .before .before .before .before .n in
+    let known = far .before .before .known in
+    let known2 = c .before .before .before .before .before .before .before .before .before .before .before .known2 in
+    let pre = far .before .before .before .before .before .before .before .before .before .before .before .pre in
+    let g = known .given .0 in
+    let K = known2 .given in
+    let sizes-of = c .before .before .before .before .before .before .before .before .before .sizes-of in
+    let n = c .before .before .before .before .before .before .before .n in
     let few = body-targets (shapeOf (K .0 .0) (g .1 .0) (g .1 .1 .0) (g .1 .1 .1 .0)) _ (sizes-of .ensures ∙ ap seenSizes (n .given .1)) in
-    let pre = far .before .before .before .before .before .before .before .before .before .pre in (
-      record { generators = pre .0; targets = pre .1; few = few },
-      pre .2,
+    let pre = pre in (
+      record { generators = pre .0; targets = pre .1; costs = pre .2; few = few },
       pre .3,
+      pre .4,
     )
 
 returns-4 : tie.Need-returns-4
 returns-4 c =
     let far = c .before .before .before .before .before .before .before .before .before .before .before .before in
     let further = far .before .before .before .before .before .before .before .before .before .before .before .before in
-    let args = further .before .before .before .before .before .before .args in
-    let known = far .before .before .before .before .before .before .before .before .before .before .known in
-    let known2 = far .before .before .before .before .before .before .before .known2 in
-    let pose-lines = c .before .before .before .before .before .before .before .before .pose-lines in
-    file-read (args .file .now) _ _ _ _ _ (known .given .0 .1 .1 .1 .1 .1 .0) _ _ _ _ (pose-lines .result)
-    (further .head-lines .ensures .0 ∙ ap (seenHead (args .file .now)) (known .given .1)) (ap seenKind (known2 .given .1))
-    (far .before .before .before .before .before .sizes-of .ensures ∙ ap seenSizes (far .before .before .before .n .given .1)) (pose-lines .ensures)
+    let args = further .before .before .before .before .before .before .before .before .before .before .args in
+    let known = further .before .known in
+    let known2 = far .before .before .before .before .before .before .before .before .before .before .known2 in
+    let head-lines = further .before .before .before .head-lines in
+    let sizes-of = far .before .before .before .before .before .before .before .before .sizes-of in
+    let n = far .before .before .before .before .before .before .n in
+    let pose-lines = c .before .before .before .before .before .before .before .before .before .before .pose-lines in
+    file-read (args .file .now) _ _ _ _ _ (known .given .0 .1 .1 .1 .1 .1 .0) _ _ _ _ _ (pose-lines .result)
+    (head-lines .ensures .0 ∙ ap (seenHead (args .file .now)) (known .given .1)) (ap seenKind (known2 .given .1))
+    (sizes-of .ensures ∙ ap seenSizes (n .given .1)) (pose-lines .ensures)
 
 pub pose-file-spec : {M : Type 1} → statement M
 pose-file-spec =
     tie.close
     (tie.spec (λ c κs. search needs) (λ c. search needs) (λ c. search needs) returns (λ c. search needs) (λ c. search needs) returns-2
-    (λ c κs. search needs) (λ c. search needs) (λ c. search needs) returns-3 sub-pose-lines part-pose-lines-start (λ c. search needs)
-    pose-lines-requires (λ c. search needs) (λ c. search needs) (λ c. search needs) (λ c. search needs) returns-4)
+    (λ c κs. search needs) (λ c. search needs) (λ c. search needs) returns-3 sub-pose-lines part-pose-lines-start (λ c. search needs) pose-lines-requires
+    (λ c. c .before .before .before .before .before .before .before .before .before .before .pose-lines .kept .1 .1 .1 .1 .1 .0)
+    (λ c. c .before .before .before .before .before .before .before .before .before .before .pose-lines .kept .1 .1 .1 .1 .1 .1 .0)
+    (λ c. c .before .before .before .before .before .before .before .before .before .before .pose-lines .kept .1 .1 .1 .1 .1 .1 .1 .0)
+    (λ c. c .before .before .before .before .before .before .before .before .before .before .pose-lines .kept .1 .1 .1 .1 .1 .1 .1 .1 .0)
+    (λ c. c .before .before .before .before .before .before .before .before .before .before .pose-lines .kept .1 .1 .1 .1 .1 .1 .1 .1 .1 .0) returns-4)

@@ -14,7 +14,7 @@ use Rattle.kinds.specs.Limits.{mostGenerators, mostTargets}
 use Rattle.kinds.specs.Refusal.{accepted}
 use Rattle.problems.specs.Problem.{Problem, shaped}
 use Rattle.problems.specs.Theorems.{shaped-few, shaped-map, shaped-list}
-use Rattle.problem_files.specs.handed_forms.ProblemLines.{handed}
+use Rattle.kinds.specs.Kinds.{handed}
 use Rattle.problem_files.specs.posing.Posing.{ProblemFile, posedFile}
 use Rattle.problem_files.specs.laws.Accepted.{file-poses}
 

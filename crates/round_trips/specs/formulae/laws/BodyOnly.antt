@@ -12,7 +12,8 @@ use Rattle.kinds.specs.laws.Sizes.{given-some}
 use Rattle.text.specs.Reading.{_>>=_}
 use Rattle.text.specs.Line.{LF, comma, nameLine, maskField, maskLine}
 use Rattle.printing.specs.Print.{maskText}
-use Rattle.round_trips.specs.formulae.laws.HeadOnly.{inv, inj, name-only, field-only}
+use Rattle.text.specs.laws.Reading.{inv, inj}
+use Rattle.round_trips.specs.formulae.laws.HeadOnly.{name-only, field-only}
 use Rattle.formula_files.specs.lines.Formula.{productLine, products, rows, body, ended, productNames, rowName}
 use Rattle.formula_text.specs.BodyText.{productsText, rowsText, bodyText}
 

@@ -1,5 +1,4 @@
 -- What is read is the text that is printed for it: nothing else is accepted.
---   inv, inj       a reading of two steps has both; `some` is one to one
 --   numeral-only, cut-only, name-only, field-only
 --   head-only      the first two lines of a kind that is known
 -- Assumes nothing.
@@ -18,20 +17,13 @@ use Rattle.kinds.specs.Sizes.{shapeOf, given}
 use Rattle.kinds.specs.names.laws.Same.{same-only}
 use Rattle.kinds.specs.laws.Sizes.{given-some}
 use Rattle.text.specs.Reading.{_>>=_}
+use Rattle.text.specs.laws.Reading.{inv, inj}
 use Rattle.text.specs.Numeral.{numeral, digits, count}
 use Rattle.text.specs.Line.{LF, comma, cut, nameLine, field, countField}
 use Rattle.text.specs.heads.Head.{Head, headNames, countFields, headLine, headLines}
 use Rattle.printing.specs.Print.{numeralText, countText}
 use Rattle.formula_text.specs.HeadText.{fieldsText, fileHead}
 use Rattle.round_trips.specs.formulae.laws.Unique.{unique}
-
--- a reading of two steps has both
-pub inv : {A B : Type 0} (o : Option A) (f : A → Option B) (b : B) → (o >>= f) ≡ some b → (a : A) × (o ≡ some a) × (f a ≡ some b)
-inv none f b e = absurd (let q : _≡_ {A = ℕ} 0 1 = cc in omega arith)
-inv (some a) f b e = (a, refl, e)
-
-pub inj : {A : Type 0} (p q : A) → some p ≡ some q → p ≡ q
-inj p q e = cc
 
 pub numeral-only : (base most n : ℕ) (s : List ℕ) → 2 ≤ base → base ≤ 16 → numeral base most s ≡ some n → s ≡ numeralText base most n
 unfolding numeral

@@ -1,6 +1,6 @@
 -- `selections::on_forms::misses_without` meets its contract. Assumes nothing.
 use borrow.Author.Needs.{needs}
-use Rattle.first_formula.specs.laws.Writing.{forms-length}
+use Rattle.choices.specs.laws.Writing.{forms-length}
 use Rattle.selections.specs.on_forms.laws.Replies.{missed-is}
 use Rattle.selections.proofs.on_forms.misses_without.Statement.{statement}
 use Rattle.selections.proofs.on_forms.misses_without.Tie as tie

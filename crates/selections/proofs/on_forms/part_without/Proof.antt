@@ -5,14 +5,14 @@ use mathlib.Core.Path.{refl, subst}
 use mathlib.Core.List.{List}
 use lib.ListN.{length}
 use Prim.Native.Nat.{ℕ}
-use Rattle.first_formula.specs.Choice.{Chose}
+use Rattle.choices.specs.Choice.{Chose}
 use Rattle.selections.specs.on_forms.Selected.{without}
 use Rattle.selections.specs.on_forms.laws.Marking.{misfit-below, marked-part}
 use Rattle.selections.proofs.on_forms.part_without.Statement.{statement}
 use Rattle.selections.proofs.on_forms.part_without.Tie as tie
 use Rattle.selections.proofs.on_forms.part_without.Reads as reads
 use Rattle.selections.proofs.on_forms.part_without.Lts as lts
-use Rattle.first_formula.proofs.choose.Reads as choose-reads
+use Rattle.choices.proofs.choose.Reads as choose-reads
 use Rattle.selections.proofs.on_forms.mark.Reads as mark-reads
 
 mark-requires : tie.Need-mark-requires

@@ -7,8 +7,8 @@ use lib.ListN.{length, take}
 use lib.Seq.{length-take-le}
 use Rattle.kinds.specs.Refusal.{Answer}
 use Rattle.bases.specs.rows.Terms.{named}
-use Rattle.first_formula.specs.Choice.{numbersOf}
-use Rattle.first_formula.specs.laws.Writing.{numbers-length}
+use Rattle.choices.specs.Choice.{numbersOf}
+use Rattle.choices.specs.laws.Writing.{numbers-length}
 use Rattle.selections.specs.on_forms.Shown.{Summing, lentSummed}
 use Rattle.selections.specs.on_forms.laws.Replies.{shown-none, shown-short, shown-sum, filled-room}
 use Rattle.selections.proofs.on_forms.show_sum.Statement.{statement}

@@ -26,7 +26,7 @@ use Rattle.linear.specs.laws.Select.{anyOf-no, only-mem}
 use Rattle.words.specs.laws.Scan.{next}
 use Rattle.words.specs.laws.Blank.{zero-at}
 use Rattle.words.specs.lists.Lists.{repeats}
-use Rattle.first_formula.specs.Choice.{marked}
+use Rattle.choices.specs.Choice.{marked}
 use Rattle.selections.specs.on_forms.Selected.{misfit, without, Marked}
 
 -- ---- numbers outside, or twice

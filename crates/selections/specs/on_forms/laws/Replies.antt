@@ -29,9 +29,9 @@ use Rattle.bases.specs.rows.Rows.{rowOf}
 use Rattle.bases.specs.rows.Terms.{named, terms}
 use Rattle.bases.specs.rows.laws.Echelon.{rest-inside, rest-row, rest-test}
 use Rattle.bases.specs.spans.laws.Missing.{left-none, left-some}
-use Rattle.first_formula.specs.declared.Choice.{Choice}
-use Rattle.first_formula.specs.Choice.{numbersOf, formsOf, Chose}
-use Rattle.first_formula.specs.laws.Writing.{forms-length}
+use Rattle.choices.specs.declared.Choice.{Choice}
+use Rattle.choices.specs.Choice.{numbersOf, formsOf, Chose}
+use Rattle.choices.specs.laws.Writing.{forms-length}
 use Rattle.selections.specs.on_forms.Selected.{misfit, without, summed, missedBy, redundantAnswer}
 use Rattle.selections.specs.on_forms.Shown.{sumOf, noSum, shown, sumAnswer, shownOver, Shows, RestOver}
 use Rattle.selections.specs.on_forms.laws.Marking.{without-none, without-below, misfit-below}

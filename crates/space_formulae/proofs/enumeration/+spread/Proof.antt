@@ -13,8 +13,8 @@ use Rattle.linear.specs.Basis.{insert}
 use Rattle.linear.specs.Word.{word}
 use Rattle.bases.specs.Basis.{rowsOf, Holds}
 use Rattle.bases.specs.declared.Basis.{Basis}
-use Rattle.first_formula.specs.Choice.{numbersOf}
-use Rattle.first_formula.specs.declared.Choice.{Choice}
+use Rattle.choices.specs.Choice.{numbersOf}
+use Rattle.choices.specs.declared.Choice.{Choice}
 use Rattle.records.specs.Records.{run}
 use Rattle.records.specs.Keep.{stateOf}
 use Rattle.records.specs.declared.Tally.{Tally}
@@ -26,7 +26,7 @@ use Rattle.space_formulae.proofs.enumeration.spread.Reads as spread
 use Rattle.space_formulae.proofs.enumeration.spread.Kinds as spread-kinds
 use Rattle.space_formulae.proofs.enumeration.+spread.Lts-spread as spread-lts
 use Rattle.bases.proofs.Basis.insert.Reads as insert-reads
-use Rattle.first_formula.proofs.add.Reads as add-reads
+use Rattle.choices.proofs.add.Reads as add-reads
 use Rattle.bases.proofs.spans.is_wanted.Reads as is-wanted-reads
 use Rattle.bases.proofs.spans.completes.Reads as completes-reads
 use Rattle.space_formulae.proofs.formula_records.keep.Reads as keep-reads
@@ -106,10 +106,10 @@ spread-returns t c =
     (args .out .now) (pre .1) (if1 .taken) _ (c .before .before .keep .ensures)
 
 spread-loop-holds : (t : ℕ) → spread-lts.Need-loop-holds (claims t) (spread-at t) spread.Post spread-Inv-loop spread-μ-loop
-spread-loop-holds t c = record { rest = refl; sane = c .before .before .before .before .before .pre .1 .sane; same = refl }
+spread-loop-holds t c = record { rest = refl; good = record { sane = c .before .before .before .before .before .pre .1 .sane; same = refl } }
 
 spread-same-length-2 : (t : ℕ) → spread-lts.Need-same-length-2 (claims t) (spread-at t) spread.Post spread-Inv-loop spread-μ-loop
-spread-same-length-2 t c = c .before .before .before .loop .inv .same
+spread-same-length-2 t c = c .before .before .before .loop .inv .good .same
 
 spread-returns-2 : (t : ℕ) → spread-lts.Need-returns-2 (claims t) (spread-at t) spread.Post spread-Inv-loop spread-μ-loop
 spread-returns-2 t c =
@@ -204,7 +204,7 @@ went t c =
     (c .spread .result) _ (c .spread .ensures)
 
 spread-same-length-3 : (t : ℕ) → spread-lts.Need-same-length-3 (claims t) (spread-at t) spread.Post spread-Inv-loop spread-μ-loop
-spread-same-length-3 t c = went t (c .before .before .before .before) .same
+spread-same-length-3 t c = went t (c .before .before .before .before) .good .same
 
 spread-returns-3 : (t : ℕ) → spread-lts.Need-returns-3 (claims t) (spread-at t) spread.Post spread-Inv-loop spread-μ-loop
 spread-returns-3 t c =
@@ -249,7 +249,7 @@ spread-loop-again-2 t c =
     (pre .1) (if1 .left) _ _ (loop .j) (loop .counts) (loop .out) (loop .inv) (loop-test .taken) (sym (c .before .is-wanted .ensures) ∙ c .if3 .left)
 
 spread-same-length-4 : (t : ℕ) → spread-lts.Need-same-length-4 (claims t) (spread-at t) spread.Post spread-Inv-loop spread-μ-loop
-spread-same-length-4 t c = c .before .loop .inv .same
+spread-same-length-4 t c = c .before .loop .inv .good .same
 
 spread-returns-4 : (t : ℕ) → spread-lts.Need-returns-4 (claims t) (spread-at t) spread.Post spread-Inv-loop spread-μ-loop
 spread-returns-4 t c =

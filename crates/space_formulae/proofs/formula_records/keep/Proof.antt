@@ -1,6 +1,6 @@
 -- `space_formulae::formula_records::keep` meets its contract. Assumes nothing.
 use borrow.Author.Needs.{needs}
-use Rattle.first_formula.specs.Choice.{recordOf}
+use Rattle.choices.specs.Choice.{recordOf}
 use Rattle.records.specs.laws.Counted.{sane-counting, kept-unshown, kept-room, kept-shown}
 use Rattle.space_formulae.proofs.Keeping.{record-length}
 use Rattle.space_formulae.proofs.formula_records.keep.Statement.{statement}

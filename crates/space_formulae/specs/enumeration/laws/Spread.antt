@@ -9,7 +9,7 @@ use Rattle.linear.specs.Basis.{Reduced}
 use Rattle.linear.specs.Formulae.{formulae}
 use Rattle.linear.specs.Word.{word}
 use Rattle.linear.specs.laws.Spread.{spread-is}
-use Rattle.first_formula.specs.Choice.{formulaRecord}
+use Rattle.choices.specs.Choice.{formulaRecord}
 use Rattle.space_formulae.specs.enumeration.Spread.{formulaeFrom}
 
 pub formulae-from : (gens w targets : List ℕ) → Reduced word w

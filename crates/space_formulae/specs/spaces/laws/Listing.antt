@@ -26,8 +26,8 @@ use Rattle.linear.specs.laws.Formulae.{formulae-are}
 use Rattle.bases.specs.declared.Basis.{Basis}
 use Rattle.bases.specs.Basis.{rowsOf, Holds}
 use Rattle.bases.specs.rows.Rows.{rowOf}
-use Rattle.first_formula.specs.declared.Choice.{Choice}
-use Rattle.first_formula.specs.Choice.{Whole, formulaRecord}
+use Rattle.choices.specs.declared.Choice.{Choice}
+use Rattle.choices.specs.Choice.{Whole, formulaRecord}
 use Rattle.records.specs.declared.Tally.{Tally}
 use Rattle.records.specs.Records.{State, run}
 use Rattle.records.specs.Keep.{stateOf}

@@ -1,0 +1,5 @@
+-- The laws behind the cheapest formula.
+pub mod Members
+pub mod Taking
+pub mod Totals
+pub mod Offers

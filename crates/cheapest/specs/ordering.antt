@@ -1,0 +1,2 @@
+-- Numbers in ascending order, and the generators by price.
+pub mod laws

@@ -1,4 +1,0 @@
--- The laws behind the first formula.
-pub mod Choosing
-pub mod Marking
-pub mod Writing
