@@ -1,3 +1,4 @@
 -- catalogue: its parts.
+mod Numbers
 mod Going
 mod Root

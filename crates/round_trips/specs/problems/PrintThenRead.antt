@@ -13,6 +13,7 @@ use native.Mathlib.Omega.{arith}
 use lib.ListN.{length}
 use lib.Dec.{eqb}
 use borrow.Author.Tests.{ltb-false, eqb-true, not-false}
+use Rattle.kinds.specs.Limits.{costBits}
 use Rattle.linear.specs.Basis.{dim}
 use Rattle.linear.specs.Word.{word}
 use Rattle.linear.specs.laws.Dimension.{dim-length}
@@ -40,7 +41,7 @@ pub record ProblemSound (a : Purpose) (u v w : ℕ) (P : ProblemFile) : Type 0 w
   pub settles : settled a u v w P ≡ accepted P
 
 pub problem-sound : (a : Purpose) (u v w : ℕ) (P : ProblemFile) → shaped (P .shape) (P .generators) (P .targets) [] ≡ accepted (P .problem)
-    → length (P .costs) ≡ length (P .generators) → wide 16 (P .costs) ≡ false → beyond a (P .k) (P .problem .targets) ≡ false
+    → length (P .costs) ≡ length (P .generators) → wide costBits (P .costs) ≡ false → beyond a (P .k) (P .problem .targets) ≡ false
     → length (P .generators) ≤ u → length (P .targets) ≤ v → length (P .costs) ≤ w → ProblemSound a u v w P
 problem-sound a u v w P e l s h hg ht hc =
     let C = shaped-counted (P .shape) (P .generators) (P .targets) (P .problem) e in

@@ -1,11 +1,10 @@
 -- `catalogue::walk::walk` meets its contract, by recursion on the number of missing dimensions: the entries so far are met, and those to come, met,
 -- give the final state. Assumes nothing.
-use native.Mathlib.Omega.{arith}
 use mathlib.Core.Path.{_≡_, refl, sym, ap, _∙_}
 use mathlib.Core.Logic.{_≢_}
 use mathlib.Core.Bool.{false}
 use Prim.Native.Nat.{ℕ, _+_, _-_, _<_, _≤_}
-use lib.ListN.{length, getD, replicate, length-replicate}
+use lib.ListN.{length, getD, replicate}
 use lib.Seq.{length-take-le}
 use borrow.Fn.Kinds.{In}
 use borrow.Fn.PlainCycle.{Measures, is, falls, and}
@@ -14,11 +13,11 @@ use Rattle.residues.specs.children.laws.Numbers.{as-few, as-many, inside, ends,
 use Rattle.residues.specs.children.Residues.{known}
 use Rattle.residues.specs.children.laws.Child.{residues-length}
 use Rattle.records.specs.Records.{runs}
-use Rattle.records.specs.Keep.{chainOf, stateOf, Tidy}
-use Rattle.records.specs.declared.Chain.{Chain}
+use Rattle.records.specs.Keep.{chainOf, stateOf}
 use Rattle.catalogue.specs.noting.Noting.{met}
 use Rattle.catalogue.specs.walk.Walk.{search}
 use Rattle.catalogue.specs.walk.laws.Search.{leaf-yes, leaf-no}
+use Rattle.catalogue.proofs.Numbers.{le-refl, tidy-none, tidy-one, few-missing, later, after, fewer, mine-all}
 use Rattle.catalogue.proofs.Going.{Going, going-next, going-full, going-end, node-down, going-down}
 use Rattle.catalogue.proofs.walk.walk.Reads as walk
 use Rattle.catalogue.proofs.walk.walk.Kinds as walk-kinds
@@ -78,31 +77,6 @@ walk-Inv-loop gens h start missing k b c a order prices rows₀ out₀ n marks j
 abbrev walk-μ-loop : walk-lts.MeasureT-loop
 walk-μ-loop gens h start missing k b c a order prices rows₀ out₀ n marks j₀ mine₀ counts₀ rows out j mine counts = length gens - j
 
--- facts on numbers
-le-refl : {a : ℕ} → a ≤ a
-le-refl = omega arith
-
-tidy-none : {c : Chain} {m : ℕ} → Tidy c m → Tidy c 0
-tidy-none T = record { whole = T .whole; room = omega (arith, T .room) }
-
-tidy-one : {c : Chain} {m : ℕ} → Tidy c m → m ≢ 0 → Tidy c 1
-tidy-one T n = record { whole = T .whole; room = omega (arith, T .room) }
-
-few-missing : {c : Chain} {m : ℕ} → Tidy c m → m ≤ 8
-few-missing T = omega (arith, T .room)
-
-later : {a j : ℕ} → a ≤ j → a ≤ j + 1
-later l = omega arith
-
-after : {a j r : ℕ} → a ≤ j → j + 1 ≤ r → a ≤ r
-after l k = omega arith
-
-fewer : {j r n : ℕ} → j < n → j + 1 ≤ r → r ≤ n → n - r < n - j
-fewer a b c = omega arith
-
-mine-all : length (replicate {A = ℕ} searchRoom 0) ≡ searchRoom
-mine-all = length-replicate {A = ℕ} searchRoom 0
-
 -- a residue for each generator
 alike : (t : ℕ) (s : walk-lts.Start (claims t) (walk-at t) walk.Post walk-Inv-loop walk-μ-loop) → length (s .args .h .now) ≡ length (s .args .gens .now)
 alike t s = ap length (s .pre .1 .0 .left) ∙ residues-length (s .args .gens .now) (rowsOf (s .args .b))
@@ -120,18 +94,15 @@ walk-same-length t c = c .before .before .note .kept .1 .1 .1 .1 .1 .1 .1 .1 .0
 
 walk-returns : (t : ℕ) → walk-lts.Need-returns (claims t) (walk-at t) walk.Post walk-Inv-loop walk-μ-loop
 walk-returns t c =
-    let args = c .before .before .before .before .before .before .before .before .before .before .before .before .before .args in
-    let pre = c .before .before .before .before .before .before .before .before .before .before .before .before .before .pre in
+    let a = c .before .before .before .before .before .before .before .before .before .before .before .before .before .args in
+    let N = c .before .before .before .before .before .before .before .before .before .before .before .before .before .pre .1 .0 in
     let if1 = c .before .before .before .before .before .before .if1 in
     let spanned = c .before .before .before .before .before .spanned in
     let if2 = c .before .before .before .before .if2 in
-    let a = args in
-    let N = pre .1 .0 in
     let m = a .gens .now in
     let h = a .h .now in
     (leaf-yes m (a .k) (rowsOf (a .b)) (chainOf (a .c)) (met m (a .order .now) (a .prices .now) (a .aim)) h (length m - a .start) (a .start) (a .missing)
-    (stateOf (a .t) (a .out .now)) (spanned .result) (if1 .taken) (N .left) (spanned .ensures)
-    (if2 .taken) _ (c .before .before .note .ensures))
+    (stateOf (a .t) (a .out .now)) (spanned .result) (if1 .taken) (N .left) (spanned .ensures) (if2 .taken) _ (c .before .before .note .ensures))
 
 walk-returns-2 : (t : ℕ) → walk-lts.Need-returns-2 (claims t) (walk-at t) walk.Post walk-Inv-loop walk-μ-loop
 walk-returns-2 t c =
@@ -264,8 +235,7 @@ walk-array-share-prefix-mine : (t : ℕ) → walk-lts.Need-array-share-prefix-mi
 walk-array-share-prefix-mine t c =
     let far = c .before .before .before .before .before .before .before .before .before .before .before .before in
     let pre = far .before .before .before .before .before .before .before .before .before .before .before .before .pre in
-    within-numbers
-    (pre .1 .0 .small) (c .before .child .ensures .whole)
+    within-numbers (pre .1 .0 .small) (c .before .child .ensures .whole)
 
 walk-slice-aggregate-walk : (t : ℕ) → walk-lts.Need-slice-aggregate-walk (claims t) (walk-at t) walk.Post walk-Inv-loop walk-μ-loop
 walk-slice-aggregate-walk t c =
@@ -273,19 +243,14 @@ walk-slice-aggregate-walk t c =
     let args = far .before .before .before .before .before .before .before .before .before .before .before .before .before .args in
     let pre = far .before .before .before .before .before .before .before .before .before .before .before .before .before .pre in
     let child = c .before .before .child in
-    sym (length-take-le (length
-    (args .gens .now))
-    (child .last .1 .1 .0) (within-numbers
-    (pre .1 .0 .small)
-    (child .ensures .whole)))
+    sym (length-take-le (length (args .gens .now)) (child .last .1 .1 .0) (within-numbers (pre .1 .0 .small) (child .ensures .whole)))
 
 walk-add-walk : (t : ℕ) → walk-lts.Need-add-walk (claims t) (walk-at t) walk.Post walk-Inv-loop walk-μ-loop
 walk-add-walk t c =
     let far = c .before .before .before .before .before .before .before .before .before .before .before .before in
     let pre = far .before .before .before .before .before .before .before .before .before .before .before .before .before .pre in
     let loop-test = c .before .before .before .before .before .before .before .loop-test in
-    one-fits (loop-test .taken)
-    (pre .1 .0 .small)
+    one-fits (loop-test .taken) (pre .1 .0 .small)
 
 walk-sub-walk : (t : ℕ) → walk-lts.Need-sub-walk (claims t) (walk-at t) walk.Post walk-Inv-loop walk-μ-loop
 walk-sub-walk t c =
@@ -345,8 +310,7 @@ walk-slice-aggregate-next-marked-2 t c =
     let far = c .before .before .before .before .before .before .before .before .before .before .before .before in
     let farther = far .before .before .before .before .before .before .before .before .before .before .before .before in
     let sieve = farther .before .sieve in
-    sym
-    (sieve .ensures .whole)
+    sym (sieve .ensures .whole)
 
 walk-add-next-marked : (t : ℕ) → walk-lts.Need-add-next-marked (claims t) (walk-at t) walk.Post walk-Inv-loop walk-μ-loop
 walk-add-next-marked t c =
@@ -354,8 +318,7 @@ walk-add-next-marked t c =
     let farther = far .before .before .before .before .before .before .before .before .before .before .before .before in
     let pre = farther .before .before .before .before .before .before .before .before .before .before .before .pre in
     let loop-test = far .before .before .before .before .before .loop-test in
-    one-fits (loop-test .taken)
-    (pre .1 .0 .small)
+    one-fits (loop-test .taken) (pre .1 .0 .small)
 
 walk-next-marked-requires-2 : (t : ℕ) → walk-lts.Need-next-marked-requires-2 (claims t) (walk-at t) walk.Post walk-Inv-loop walk-μ-loop
 walk-next-marked-requires-2 t c κs =
@@ -370,8 +333,7 @@ walk-loop-less : (t : ℕ) → walk-lts.Need-loop-less (claims t) (walk-at t) wa
 walk-loop-less t c =
     let far = c .before .before .before .before .before .before .before .before .before .before .before .before in
     let loop-test = far .before .before .before .before .before .before .loop-test in
-    fewer (loop-test .taken) (c .next-marked2 .ensures .low)
-    (c .next-marked2 .ensures .high)
+    fewer (loop-test .taken) (c .next-marked2 .ensures .low) (c .next-marked2 .ensures .high)
 
 walk-loop-again : (t : ℕ) → walk-lts.Need-loop-again (claims t) (walk-at t) walk.Post walk-Inv-loop walk-μ-loop
 walk-loop-again t c =
@@ -423,42 +385,10 @@ walk-returns-5 t c =
 
 pub +walk-spec : {M : Type 1} → statement M
 +walk-spec = close μ-walk λ t. walk-lts.spec (claims t)
-    (walk-at t)
-    walk.Post
-    walk-Inv-loop
-    walk-μ-loop
-    (walk-spanned-requires t)
-    (walk-note-requires t)
-    (walk-same-length t)
-    (walk-returns t)
-    (walk-returns-2 t)
-    (walk-slice-aggregate-sieve t)
-    (walk-sieve-requires t)
-    (walk-slice-aggregate-next-marked t)
-    (walk-next-marked-requires t)
-    (walk-same-length-2 t)
-    (walk-returns-3 t)
-    (walk-loop-holds t)
-    (walk-is-full-requires t)
-    (walk-same-length-3 t)
-    (walk-same-length-4 t)
-    (walk-returns-4 t)
-    (walk-mul-x t)
-    (walk-shared-slice-read-x t)
-    (walk-slice-aggregate-child t)
-    (walk-child-requires t)
-    (walk-array-share-prefix-mine t)
-    (walk-slice-aggregate-walk t)
-    (walk-add-walk t)
-    (walk-sub-walk t)
-    (walk-insert-requires t)
-    (walk-push-requires t)
-    (walk-walk-requires t)
-    (walk-slice-aggregate-next-marked-2 t)
-    (walk-add-next-marked t)
-    (walk-next-marked-requires-2 t)
-    (walk-loop-less t)
-    (walk-loop-again t)
-    (walk-same-length-5 t)
-    (walk-same-length-6 t)
-    (walk-returns-5 t)
+    (walk-at t) walk.Post walk-Inv-loop walk-μ-loop (walk-spanned-requires t) (walk-note-requires t) (walk-same-length t) (walk-returns t)
+    (walk-returns-2 t) (walk-slice-aggregate-sieve t) (walk-sieve-requires t) (walk-slice-aggregate-next-marked t) (walk-next-marked-requires t)
+    (walk-same-length-2 t) (walk-returns-3 t) (walk-loop-holds t) (walk-is-full-requires t) (walk-same-length-3 t) (walk-same-length-4 t)
+    (walk-returns-4 t) (walk-mul-x t) (walk-shared-slice-read-x t) (walk-slice-aggregate-child t) (walk-child-requires t)
+    (walk-array-share-prefix-mine t) (walk-slice-aggregate-walk t) (walk-add-walk t) (walk-sub-walk t) (walk-insert-requires t) (walk-push-requires t)
+    (walk-walk-requires t) (walk-slice-aggregate-next-marked-2 t) (walk-add-next-marked t) (walk-next-marked-requires-2 t) (walk-loop-less t)
+    (walk-loop-again t) (walk-same-length-5 t) (walk-same-length-6 t) (walk-returns-5 t)

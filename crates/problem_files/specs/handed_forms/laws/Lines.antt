@@ -26,7 +26,7 @@ use Rattle.problem_files.specs.list_lines.Roles.{listBody}
 use Rattle.problem_files.specs.list_lines.laws.Costs.{list-costs}
 use Rattle.kinds.specs.Kinds.{isList, handed}
 use Rattle.problem_files.specs.handed_forms.ProblemLines.{handedIn, listLines, mapLines, bodyOf, CostsFit, FormRoom}
-use Rattle.kinds.specs.Limits.{mostGenerators, mostTargets}
+use Rattle.kinds.specs.Limits.{mostGenerators, mostTargets, costBits}
 
 pub ready-list : (shape : Shape) (g t c : List ℕ) → FormRoom shape g t c → isList (shape .kind) ≡ true
     → (mostGenerators ≤ length g) × (shape .r ≤ length t) × (mostGenerators ≤ length c) × (shape .r ≤ mostTargets)
@@ -93,25 +93,25 @@ body-targets shape z e = go (isList (shape .kind)) refl
     go false k = omega arith
 
 -- ---- the costs
-list-priced : (q r : ℕ) (s : List ℕ) (x : List ℕ × List ℕ × List ℕ) → listLines q r s ≡ accepted x → (length (x .2) ≡ q) × (wide 16 (x .2) ≡ false)
+list-priced : (q r : ℕ) (s : List ℕ) (x : List ℕ × List ℕ × List ℕ) → listLines q r s ≡ accepted x → (length (x .2) ≡ q) × (wide costBits (x .2) ≡ false)
 unfolding listLines
 list-priced q r s x e =
     let a = refuse-inv 4 (ltb mostGenerators q) (need 5 (listBody q r s) accepted) x e in
     let b = need-inv 5 (listBody q r s) accepted x (a .1) in
     list-costs q r s x (b .1 ∙ ap some (accepted-inj (b .0) x (b .2)))
 
-map-priced : (n m : ℕ) (s : List ℕ) (x : List ℕ × List ℕ × List ℕ) → mapLines n m s ≡ accepted x → (length (x .2) ≡ 0) × (wide 16 (x .2) ≡ false)
+map-priced : (n m : ℕ) (s : List ℕ) (x : List ℕ × List ℕ × List ℕ) → mapLines n m s ≡ accepted x → (length (x .2) ≡ 0) × (wide costBits (x .2) ≡ false)
 unfolding mapLines wide
 map-priced n m s x e =
     let last : Answer (List ℕ × List ℕ × List ℕ) = accepted ([], [], []) in
     let a = need-inv 4 (countOf n m) (λ c. refuse 5 (not (ended s)) last) x e in
     let b = refuse-inv 5 (not (ended s)) last x (a .2) in
-    subst (λ (w : List ℕ × List ℕ × List ℕ). (length (w .2) ≡ 0) × (wide 16 (w .2) ≡ false)) (accepted-inj ([], [], []) x (b .1)) (refl, refl)
+    subst (λ (w : List ℕ × List ℕ × List ℕ). (length (w .2) ≡ 0) × (wide costBits (w .2) ≡ false)) (accepted-inj ([], [], []) x (b .1)) (refl, refl)
 
 pub body-priced : (shape : Shape) (n m : ℕ) (s : List ℕ) (x : List ℕ × List ℕ × List ℕ) → bodyOf shape n m s ≡ accepted x → CostsFit shape (x .2)
 body-priced shape n m s x e = let P = go (isList (shape .kind)) e in record { counted = P .0; small = P .1 }
   where
     go : (b : Bool) → cond b (listLines (shape .q) (shape .r) s) (mapLines n m s) ≡ accepted x
-        → (length (x .2) ≡ cond b (shape .q) 0) × (wide 16 (x .2) ≡ false)
+        → (length (x .2) ≡ cond b (shape .q) 0) × (wide costBits (x .2) ≡ false)
     go true f = list-priced (shape .q) (shape .r) s x f
     go false f = map-priced n m s x f

@@ -10,7 +10,7 @@ use mathlib.Core.Bool.{false}
 use mathlib.Core.Option.{some}
 use native.Mathlib.Omega.{arith}
 use lib.ListN.{length}
-use Rattle.kinds.specs.Limits.{mostCost}
+use Rattle.kinds.specs.Limits.{mostCost, costBits}
 use Rattle.words.specs.Masks.{wide}
 use Rattle.words.specs.laws.Masks.{AllBelow, below-wide}
 use Rattle.text.specs.laws.Reading.{inj}
@@ -41,9 +41,9 @@ roles-costs c most (suc n) s l e =
     subst (λ (w : (List ℕ × List ℕ) × List ℕ). Costs most (suc n) (w .0 .0) (w .0 .1)) (R .is)
     (costs-more (R .one .0 .0) (R .one .0 .1) (role-cost c most s (R .one) (R .first)) (roles-costs c most n (R .one .1) (R .others) (R .rest)))
 
-pub list-costs : (q r : ℕ) (s : List ℕ) (f : List ℕ × List ℕ × List ℕ) → listBody q r s ≡ some f → (length (f .2) ≡ q) × (wide 16 (f .2) ≡ false)
+pub list-costs : (q r : ℕ) (s : List ℕ) (f : List ℕ × List ℕ × List ℕ) → listBody q r s ≡ some f → (length (f .2) ≡ q) × (wide costBits (f .2) ≡ false)
 list-costs q r s f e =
     let R = list-inv q r s f e in
     let C = roles-costs generatorRole mostCost q (R .text) (R .generators) (R .first) in
-    subst (λ (w : List ℕ × List ℕ × List ℕ). (length (w .2) ≡ q) × (wide 16 (w .2) ≡ false)) (R .is)
-    (C .costs, below-wide 16 (R .generators .0 .1) (C .small))
+    subst (λ (w : List ℕ × List ℕ × List ℕ). (length (w .2) ≡ q) × (wide costBits (w .2) ≡ false)) (R .is)
+    (C .costs, below-wide costBits (R .generators .0 .1) (C .small))

@@ -28,7 +28,7 @@ use Rattle.problem_files.specs.handed_forms.ProblemLines.{listLines, mapLines, 
 use Rattle.problem_files.specs.handed_forms.laws.Lines.{list-taken, map-none}
 use Rattle.round_trips.specs.problems.ProblemText.{listText, linesText}
 use Rattle.round_trips.specs.problems.laws.ListBack.{list-back}
-use Rattle.kinds.specs.Limits.{mostGenerators}
+use Rattle.kinds.specs.Limits.{mostGenerators, costBits}
 
 pub record Forms (shape : Shape) (gs ts cs : List ℕ) : Type 0 where
   pub z : ℕ × ℕ × ℕ
@@ -64,14 +64,14 @@ of-map shape gs ts cs P f M c =
     }
 
 -- ---- a list
-list-lines : (p q r : ℕ) (gs ts cs : List ℕ) (P : Problem) → p ≤ 64 → ListTaken p q r gs ts [] P → length cs ≡ q → wide 16 cs ≡ false
+list-lines : (p q r : ℕ) (gs ts cs : List ℕ) (P : Problem) → p ≤ 64 → ListTaken p q r gs ts [] P → length cs ≡ q → wide costBits cs ≡ false
     → listLines q r (listText gs ts cs) ≡ accepted (gs, ts, cs)
 list-lines p q r gs ts cs P h T c w =
     let back = list-back gs ts cs (T .generators ∙ sym c) (wide-words p gs h (T .generators-fit)) (wide-words p ts h (T .targets-fit)) w in
     list-taken q r (listText gs ts cs) gs ts cs true (T .few) (rw (T .generators, T .targets) at back) refl
 
 of-list : (shape : Shape) (gs ts cs : List ℕ) (P : Problem) (z : ℕ × ℕ × ℕ) → isList (shape .kind) ≡ true → sizes shape ≡ some z
-    → ListTaken (shape .p) (shape .q) (shape .r) gs ts [] P → length cs ≡ shape .q → wide 16 cs ≡ false → Forms shape gs ts cs
+    → ListTaken (shape .p) (shape .q) (shape .r) gs ts [] P → length cs ≡ shape .q → wide costBits cs ≡ false → Forms shape gs ts cs
 of-list shape gs ts cs P z f s T c w =
     let b : shape .p ≤ 64 = (let e = list-bits shape z f s in let m = sizes-bounds shape z s .fits .first-most in omega arith) in
     let t = list-targets shape z f s in

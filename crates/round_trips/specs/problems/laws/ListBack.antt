@@ -9,7 +9,7 @@ use mathlib.Core.Bool.{true, false}
 use mathlib.Core.Option.{some}
 use native.Mathlib.Omega.{arith}
 use lib.ListN.{length, replicate, length-replicate}
-use Rattle.kinds.specs.Limits.{mostCost}
+use Rattle.kinds.specs.Limits.{mostCost, costBits}
 use Rattle.words.specs.Buffers.{zeros}
 use Rattle.words.specs.Masks.{wide}
 use Rattle.words.specs.laws.Masks.{AllBelow, wide-below}
@@ -48,7 +48,7 @@ no-costs : (n : ℕ) → AllBelow 1 (replicate n 0)
 no-costs zero = tt
 no-costs (suc n) = (omega arith, no-costs n)
 
-pub list-back : (gs ts cs : List ℕ) → length gs ≡ length cs → AllBelow (2 ^ 64) gs → AllBelow (2 ^ 64) ts → wide 16 cs ≡ false
+pub list-back : (gs ts cs : List ℕ) → length gs ≡ length cs → AllBelow (2 ^ 64) gs → AllBelow (2 ^ 64) ts → wide costBits cs ≡ false
     → listBody (length gs) (length ts) (listText gs ts cs) ≡ some (gs, ts, cs)
 unfolding listText
 list-back gs ts cs e hg ht hc =
