@@ -24,6 +24,7 @@ pub mod Share
 pub mod Prices
 pub mod Exchange
 pub mod Heavy
+pub mod Relation
 pub mod Spread
 pub mod Rank
 pub mod Spaces

@@ -2,4 +2,5 @@
 pub mod Rank
 pub mod Theorems
 pub mod laws
+pub mod matrix_rank
 pub mod fewest

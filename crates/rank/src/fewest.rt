@@ -2,6 +2,9 @@
 ghost use mathlib.Core.Path.{_≡_};
 ghost use Rattle.rank.specs.fewest.Fewest.{written, ranking, seenRanked, lentRanking, Asking, LeastFrom, Finishing, RankAsked};
 ghost use Rattle.linear.specs.Formulae.{formula};
+ghost use Rattle.catalogue.specs.meeting.Cheapest.{CheapestAsked, CheapestFrom};
+ghost use Rattle.rank.specs.matrix_rank.Matrix.{Bound};
+use super::matrix_rank::least_products;
 use bases::Basis;
 use words::first_words;
 
@@ -19,6 +22,26 @@ enum Least {
     Is(usize),
 }
 
+// Whether there is an entry for `k`; then from the start of `held` the cost and the numbers of the cheapest formula of all of them. Below `bound` there is
+// none, and nothing is searched.
+fn meet(
+    gens: &[u64],
+    b: Basis,
+    bound: usize,
+    k: usize,
+    order: &[u64],
+    prices: &[u64],
+    held: &mut [u64],
+) -> bool
+    requires { ⌜ CheapestAsked (now gens) b k (now order) (now prices) (now held) × Bound (now gens) b bound ⌝ }
+    ensures { λ r. ⌜ CheapestFrom (now (gens .entry)) b k (now (order .entry)) (now (prices .entry)) r (now (held .exit)) ⌝ }
+{
+    if k < bound {
+        return false;
+    }
+    catalogue::meeting::cheapest_formula(gens, b, k, order, prices, held)
+}
+
 // The least number of dimensions, from that of the targets' basis `b` to 6 more, that has an entry; from the start of `held` the cost and the numbers of the
 // cheapest
 // formula of all of its entries.
@@ -26,11 +49,12 @@ fn least_formula(gens: &[u64], b: Basis, order: &[u64], prices: &[u64], held: &m
     requires { ⌜ Asking (now gens) b (now order) (now prices) (now held) ⌝ }
     ensures { λ r. ⌜ LeastFrom (now (gens .entry)) b (now (prices .entry)) r (now (held .exit)) ⌝ }
 {
+    let bound = least_products(gens, b);
     let ell = b.len;
     let end = ell + 7;
     let mut k = ell;
     while k < end {
-        if catalogue::meeting::cheapest_formula(gens, b, k, order, prices, held) {
+        if meet(gens, b, bound, k, order, prices, held) {
             return Least::Is(k);
         }
         k += 1;

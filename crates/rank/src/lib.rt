@@ -1,5 +1,6 @@
 // Rank on numbers: refusals 2 to 8, the fewest products, and the cheapest formula with so many.
-// fewest     the same where the problem is made
+// fewest        the same where the problem is made
+// matrix_rank   a number of products below which there is none, by the matrices of the forms
 // What it means beside Catalogue: `theorems`. The reply as text: `rank_text`.
 ghost use mathlib.Core.Path.{_≡_};
 ghost use Rattle.kinds.specs.Numbers.{replyNumbers};
@@ -12,6 +13,7 @@ use problems::Posed;
 use words::first_words;
 
 pub mod fewest;
+pub mod matrix_rank;
 
 // Rank of a posed problem, the basis of whose targets is `b`; refusal 8.
 pub fn rank_posed(

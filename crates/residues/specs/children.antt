@@ -3,4 +3,5 @@ pub mod Residues
 pub mod Barren
 pub mod Found
 pub mod Weighed
+pub mod Relation
 pub mod laws

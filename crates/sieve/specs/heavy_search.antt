@@ -1,3 +1,4 @@
--- The search along heavy values.
+-- The search along heavy values and short relations.
 pub mod Find
+pub mod Relate
 pub mod laws

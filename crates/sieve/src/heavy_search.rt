@@ -1,7 +1,9 @@
-// The search for the spaces over the space of a walk's node, along heavy values. `h` has the residues of the generators at the walk's node, `d` those
-// at a space over it.
+// The search for the spaces over the space of a walk's node, along heavy values and short relations. `h` has the residues of the generators at the walk's
+// node, `d` those at a space over it.
 use bases::Basis;
+use relations::Place;
 use residues::Taken;
+use words::first_words;
 ghost use mathlib.Core.Path.{_≡_};
 ghost use mathlib.Core.Logic.{_≢_};
 ghost use mathlib.Core.List.{map};
@@ -14,6 +16,7 @@ ghost use Rattle.residues.specs.children.Residues.{withResidue};
 ghost use Rattle.residues.specs.children.Found.{Found, FoundBy, Finished};
 ghost use Rattle.residues.specs.children.Weighed.{Light};
 ghost use Rattle.sieve.specs.heavy_search.Find.{FirstNew, At, Closed, Pairing, ChildBasis, Neared, Finding};
+ghost use Rattle.sieve.specs.heavy_search.Relate.{thirdRow, Descending, Descended, Relating};
 ghost use Rattle.residues.specs.Room.{searchRoom};
 
 // The first number from `start` on that is new at `h` and not any more in the child of `d` by `x`; the number of generators where there is none.
@@ -114,7 +117,7 @@ fn close(
 }
 
 // How many dimensions are needed besides n; none where n is more than k.
-fn needed(k: usize, n: usize) -> usize
+pub fn needed(k: usize, n: usize) -> usize
     ensures { λ r. ⌜ r ≡ k - n ⌝ }
 {
     if n < k { k - n } else { 0 }
@@ -209,9 +212,125 @@ fn near(
     true
 }
 
+// The weight from which on a number is looked at by itself: above what is too light, or above 1 where relations are sought among the others.
+fn floor(low: usize, size: usize) -> usize
+    ensures { λ r. ⌜ (size ≡ 0 → r ≡ low) × (size ≢ 0 → r ≡ 1) ⌝ }
+{
+    if size == 0 { low } else { 1 }
+}
+
+// The value that the third number of the relation at `u` has at the residues `d`, where there is a fourth; else 0.
+fn third_row(d: &[u64], u: Place, n: usize) -> u64
+    requires { ⌜ u .g < length (now d) ⌝ }
+    ensures { λ r. ⌜ r ≡ thirdRow (now (d .entry)) u n ⌝ }
+{
+    let g = u.g;
+    if u.h < n { d[g] } else { 0 }
+}
+
+// The residues at the space of `d` and the first two generators of the relation at `u`, or, where that has four, the first three, in `mine`; and the basis of
+// the generators in it, or that a dead number's is. `s` is the basis of the generators in the space of `d`. What the lent `other` and `mine` hold before
+// plays no part.
+fn descend(
+    gens: &[u64],
+    d: &[u64],
+    u: Place,
+    s: Basis,
+    gone: &[u8],
+    other: &mut [u64],
+    mine: &mut [u64],
+) -> Taken
+    requires { ⌜ Descending (now gens) (now d) u s (now gone) (now other) (now mine) ⌝ }
+    ensures { λ r. ⌜ Descended (now (gens .entry)) (now (d .entry)) u (now (gone .entry)) (now (mine .exit)) r ⌝ }
+{
+    let n = gens.len();
+    let i = u.e - 1;
+    residues::child(d, d[u.base + i / 4096], mine);
+    let y = mine[i % 4096];
+    residues::child(&mine[..n], y, other);
+    let z = third_row(other, u, n);
+    residues::child(&other[..n], z, mine);
+    residues::take(gens, &mine[..n], 0, s, gone)
+}
+
+// How many dimensions the relation at `u` puts in.
+fn depth(u: Place, n: usize) -> usize
+    ensures { λ r. ⌜ (u .h < n → r ≡ 3) × (n ≤ u .h → r ≡ 2) ⌝ }
+{
+    if u.h < n { 3 } else { 2 }
+}
+
+// Marks the number that the walk goes on with to each space for `k` over that of `d`, `missing` dimensions more, without a generator that is gone, where every
+// number of a weight above 1 is. Each has a short relation among its values: so the search goes over the relations. `s` is the basis of the generators in the
+// space of `d`. What the lent `rows` hold plays no part.
+fn relate(
+    gens: &[u64],
+    h: &[u64],
+    d: &[u64],
+    start: usize,
+    k: usize,
+    missing: usize,
+    lines: bool,
+    s: Basis,
+    gone: [u8; residues::SEARCH_ROOM],
+    w: &[u8],
+    rows: &mut [u64],
+    marks: &mut [u8],
+)
+    requires { ⌜ Relating (now gens) (now h) (now d) start k missing lines s gone (now w) (now rows) (now marks) ⌝ }
+    ensures { λ _. ⌜ Found (now (gens .entry)) (now (h .entry)) (now (d .entry)) start k missing gone (now (marks .entry)) (now (marks .exit)) ⌝ }
+{
+    let n = gens.len();
+    let mut v = [0u64; residues::SEARCH_ROOM];
+    relations::pairs::values(d, start, w, &gone, &mut v);
+    let mut heads = [0u16; relations::pairs::HEADS];
+    let mut links = [0u16; relations::pairs::LINKS];
+    let mut other = [0u64; residues::SEARCH_ROOM];
+    let mut mine = [0u64; residues::SEARCH_ROOM];
+    let basis = s.rows;
+    let len = s.len;
+    let mut u = relations::first_place(
+        gens,
+        first_words(&basis, len),
+        &v,
+        lines,
+        start,
+        &mut heads,
+        &mut links,
+    );
+    while u.base < n {
+        let t = descend(gens, d, u, s, &gone, &mut other, &mut mine);
+        let b = t.basis;
+        if !t.flagged {
+            find(
+                gens,
+                h,
+                &mine[..n],
+                start,
+                k,
+                missing - depth(u, n),
+                b,
+                gone,
+                rows,
+                marks,
+            );
+        }
+        u = relations::next_place(
+            gens,
+            first_words(&basis, len),
+            &v,
+            lines,
+            u,
+            &mut heads,
+            &mut links,
+        );
+    }
+}
+
 // Marks the number that the walk goes on with to each space for `k` over that of `d`, `missing` dimensions more, without a dead generator. Each has a
-// heavy value: so the search goes over the numbers that are not too light, heaviest first, and each is dead once the spaces with its generator are
-// met. `s` is the basis of the generators in the space of `d`. What the lent `rows` hold plays no part.
+// heavy value, or a short relation among its values: so the search goes over the numbers that are not too light, heaviest first, and each is dead once the
+// spaces with its generator are met; then, where relations are sought, over these. `s` is the basis of the generators in the space of `d`. What the lent
+// `rows` hold plays no part.
 pub fn find(
     gens: &[u64],
     h: &[u64],
@@ -242,10 +361,12 @@ pub fn find(
         rows,
         &mut w,
     );
-    let low = light(k, len, missing);
-    if top <= low {
+    let least = light(k, len, missing);
+    if top <= least {
         return;
     }
+    let size = super::sizes::chosen_size(gens, d, start, k, missing, s, &dead, &w);
+    let low = floor(least, size);
     let mut gone = dead;
     let mut picks = [0u8; residues::SEARCH_ROOM];
     let mut mine = [0u64; residues::SEARCH_ROOM];
@@ -291,4 +412,21 @@ pub fn find(
             j = super::marked_numbers::next_with(&w, r, j + 1, n);
         }
     }
+    if size == 0 {
+        return;
+    }
+    relate(
+        gens,
+        h,
+        d,
+        start,
+        k,
+        missing,
+        size == 3,
+        s,
+        gone,
+        &w,
+        rows,
+        marks,
+    );
 }

@@ -1,5 +1,6 @@
 // Which children of a space the walk visits: never one fewer than lead to a space.
-// heavy_search     the search for the spaces over a space, along heavy values
+// heavy_search     the search for the spaces over a space, along heavy values and short relations
+// sizes            where it goes along relations, and of how many values
 // join             the numbers that matter beside a value, where two dimensions are missing
 // dead_numbers     the numbers that a search leaves out from the first
 // marked_numbers   the next marked number
@@ -12,6 +13,7 @@ pub mod dead_numbers;
 pub mod heavy_search;
 pub mod join;
 pub mod marked_numbers;
+pub mod sizes;
 
 // Marks the numbers from `start` on whose children are to be visited, where `missing` more dimensions make `k`: those by which the walk goes on to
 // the spaces that are found over this one. `rows` is lent, what it holds plays no part.

@@ -203,13 +203,13 @@ module _ (S : Space) (two : Two S) where
         at x (inl k) = span-mem S k
         at x (inr k) = F .over x (span-mem S k)
 
-    abbrev xs : List Vec
+    abbrev pub xs : List Vec
     xs = trim S W D .kept
 
-    made : inserts S D xs ≡ W
+    pub made : inserts S D xs ≡ W
     made = trim S W D .same ∙ whole
 
-    xs-count : length xs ≡ m
+    pub xs-count : length xs ≡ m
     xs-count = omega (arith, trim S W D .count, ap length whole, F .size)
 
     abbrev all : List Vec

@@ -6,4 +6,5 @@ pub mod Found
 pub mod Weighed
 pub mod Handed
 pub mod Join
+pub mod Relation
 pub mod Numbers

@@ -8,54 +8,58 @@ use Rattle.rank.proofs.fewest.least_formula.Statement.{statement}
 use Rattle.rank.proofs.fewest.least_formula.Tie as tie
 
 abbrev Inv-loop : tie.InvT-loop
-Inv-loop gens b order prices held₀ ell end k₀ held k = (length held ≡ length held₀) × Looking gens b order prices k
+Inv-loop gens b order prices held₀ bound ell end k₀ held k = (length held ≡ length held₀) × Looking gens b order prices k
 
 abbrev μ-loop : tie.MeasureT-loop
-μ-loop gens b order prices held₀ ell end k₀ held k = end - k
+μ-loop gens b order prices held₀ bound ell end k₀ held k = end - k
+
+least-products-requires : tie.Need-least-products-requires Inv-loop μ-loop
+least-products-requires c κs = c .before .before .before .before .pre .valid
 
 add-end : tie.Need-add-end Inv-loop μ-loop
-add-end c = let h = c .before .before .before .before .pre .valid .room in omega arith
+add-end c = let h = c .before .before .before .before .before .pre .valid .room in omega arith
 
 loop-holds : tie.Need-loop-holds Inv-loop μ-loop
-loop-holds c = let a = c .before .before .before .before .args in (refl, looking-start (a .gens .now) (a .b) (a .order .now) (a .prices .now))
+loop-holds c = let a = c .before .before .before .before .before .args in (refl, looking-start (a .gens .now) (a .b) (a .order .now) (a .prices .now))
 
-cheapest-formula-requires : tie.Need-cheapest-formula-requires Inv-loop μ-loop
-cheapest-formula-requires c κs =
-    let b = c .before .before .before .before .before .before .before .args .b in
-    let A = c .before .before .before .before .before .before .before .pre in
-    let l = c .before .before .loop in
-    record {
-      small = A .small;
-      valid = A .valid;
-      least = l .inv .1 .from;
-      near = (let h : l .k < b .len + 7 = c .before .loop-test .taken in omega arith);
-      priced = A .priced;
-      by-price = A .by-price;
-      room = omega (arith, l .inv .0, A .room);
-    }
+meet-requires : tie.Need-meet-requires Inv-loop μ-loop
+meet-requires c κs =
+    let b = c .before .before .before .before .before .before .before .before .args .b in
+    let A = c .before .before .before .before .before .before .before .before .pre in
+    let l = c .before .before .loop in (
+      record {
+        small = A .small;
+        valid = A .valid;
+        least = l .inv .1 .from;
+        near = (let h : l .k < b .len + 7 = c .before .loop-test .taken in omega arith);
+        priced = A .priced;
+        by-price = A .by-price;
+        room = omega (arith, l .inv .0, A .room);
+      },
+      c .before .before .before .least-products .ensures,
+    )
 
 same-length : tie.Need-same-length Inv-loop μ-loop
-same-length c = c .before .before .before .cheapest-formula .kept .1 .1 .1 .1 .1 .0 ∙ c .before .before .before .before .before .before .loop .inv .0
+same-length c = c .before .before .before .meet .kept .1 .1 .1 .1 .1 .1 .0 ∙ c .before .before .before .before .before .before .loop .inv .0
 
 returns : tie.Need-returns Inv-loop μ-loop
 returns c =
-    let pre = c .before .before .before .before .before .before .before .before .before .before .before .pre in
-    let loop-test = c .before .before .before .before .before .loop-test in
-    let a = c .before .before .before .before .before .before .before .before .before .before .before .args in
+    let s = c .before .before .before .before .before .before .before .before .before .before .before .before in
+    let a = s .args in
     let l = c .before .before .before .before .before .before .loop in
-    let F = c .before .before .before .cheapest-formula in
-    looking-found (a .gens .now) (a .b) (a .order .now) (a .prices .now) (pre) (l .k) (l .inv .1) (loop-test .taken) (F .result) _ (F .ensures) (c .if1 .taken)
+    let t = c .before .before .before .before .before .loop-test .taken in
+    let F = c .before .before .before .meet in
+    looking-found (a .gens .now) (a .b) (a .order .now) (a .prices .now) (s .pre) (l .k) (l .inv .1) t (F .result) _ (F .ensures) (c .if1 .taken)
 
 loop-again : tie.Need-loop-again Inv-loop μ-loop
 loop-again c =
-    let pre = c .before .before .before .before .before .before .before .before .before .before .before .pre in
-    let loop-test = c .before .before .before .before .before .loop-test in
-    let cheapest-formula = c .before .before .before .cheapest-formula in
-    let a = c .before .before .before .before .before .before .before .before .before .before .before .args in
+    let s = c .before .before .before .before .before .before .before .before .before .before .before .before in
+    let a = s .args in
     let l = c .before .before .before .before .before .before .loop in
-    let F = cheapest-formula in (
-      F .kept .1 .1 .1 .1 .1 .0 ∙ l .inv .0,
-      looking-next (a .gens .now) (a .b) (a .order .now) (a .prices .now) (pre) (l .k) (l .inv .1) (loop-test .taken) (F .result) _ (F .ensures) (c .if1 .left),
+    let t = c .before .before .before .before .before .loop-test .taken in
+    let F = c .before .before .before .meet in (
+      F .kept .1 .1 .1 .1 .1 .1 .0 ∙ l .inv .0,
+      looking-next (a .gens .now) (a .b) (a .order .now) (a .prices .now) (s .pre) (l .k) (l .inv .1) t (F .result) _ (F .ensures) (c .if1 .left),
     )
 
 same-length-2 : tie.Need-same-length-2 Inv-loop μ-loop
@@ -63,11 +67,12 @@ same-length-2 c = c .before .loop .inv .0
 
 returns-2 : tie.Need-returns-2 Inv-loop μ-loop
 returns-2 c =
-    let a = c .before .before .before .before .before .before .args in
-    looking-none (a .gens .now) (a .b) (a .order .now) (a .prices .now) (c .before .loop .k) (c .before .loop .held) (c .before .loop .inv .1) (omega arith)
+    let a = c .before .before .before .before .before .before .before .args in
+    let l = c .before .loop in
+    looking-none (a .gens .now) (a .b) (a .order .now) (a .prices .now) (l .k) (l .held) (l .inv .1) (omega arith)
 
 pub least-formula-spec : {M : Type 1} → statement M
 least-formula-spec =
     tie.close
-    (tie.spec Inv-loop μ-loop add-end loop-holds cheapest-formula-requires same-length returns (λ c. omega arith) (λ c. omega arith) loop-again
+    (tie.spec Inv-loop μ-loop least-products-requires add-end loop-holds meet-requires same-length returns (λ c. omega arith) (λ c. omega arith) loop-again
     same-length-2 returns-2)

@@ -1,5 +1,6 @@
 -- The least number of dimensions with an entry, and the cheapest formula.
 --   Looking    == no number of dimensions below k has an entry, whatever targets have the basis b
+--   skipped    == below the bound nothing is found
 --   looking-start, looking-next, looking-found, looking-none   the loop of `least_formula`
 --   too-short, finished                                        what `finish` says
 --   asking, finishing, says-formula, says-above, says-beyond, missed-is   what `rank_of` asks and says
@@ -19,15 +20,15 @@ use Rattle.words.specs.Buffers.{filled}
 use Rattle.words.specs.laws.Masks.{AllBelow}
 use Rattle.words.specs.laws.Buffers.{take-filled}
 use Rattle.linear.specs.Basis.{basisOf, dim}
-use Rattle.linear.specs.Entry.{inside, chosen}
+use Rattle.linear.specs.Entry.{inside, chosen, space}
 use Rattle.linear.specs.Formulae.{orElse, formula, allFormulae, leastFrom, missed}
 use Rattle.linear.specs.Order.{Rising}
-use Rattle.linear.specs.Prices.{cheapest, byPrice}
+use Rattle.linear.specs.Prices.{cheapest, cheapestIn, byPrice}
 use Rattle.linear.specs.Select.{anyOf}
 use Rattle.linear.specs.Word.{word}
 use Rattle.linear.specs.laws.Fewest.{fewest-formula, fewest-some, fewest-none, fewest-missed}
 use Rattle.linear.specs.laws.AllFormulae.{cheapest-entries}
-use Rattle.linear.specs.laws.Prices.{byPrice-length}
+use Rattle.linear.specs.laws.Prices.{cheapest-none, byPrice-length}
 use Rattle.bases.specs.declared.Basis.{Basis}
 use Rattle.bases.specs.Basis.{rowsOf, Holds, based-dim}
 use Rattle.bases.specs.rows.Rows.{rowOf}
@@ -40,7 +41,15 @@ use Rattle.choices.specs.Choice.{numbersOf, formsOf, Chose, Solves, recordOf, c
 use Rattle.choices.specs.laws.Writing.{numbers-length, written-first}
 use Rattle.rank.specs.declared.fewest.Least.{Least as Answered}
 use Rattle.rank.specs.declared.fewest.Least.the-variants as answered
+use Rattle.rank.specs.matrix_rank.Matrix.{Bound}
 use Rattle.rank.specs.fewest.Fewest.{is, above, beyond, written, ranking, RankAsked, Asking, LeastFound, LeastFrom, Finishing}
+
+-- ---- below the bound
+pub skipped : (gens : List ℕ) (b : Basis) (bound k : ℕ) (order prices last : List ℕ) → Bound gens b bound → k < bound
+    → CheapestFrom gens b k order prices false last
+skipped gens b bound k order prices last H h targets B =
+    ap (λ (l : List (List ℕ)). cheapest prices (map (λ es. cheapestIn word gens order (space word gens targets es)) l)) (H targets B k h)
+    ∙ cheapest-none prices [] .1 refl
 
 -- ---- the loop over the numbers of dimensions
 module _ (gens : List ℕ) (b : Basis) (order prices : List ℕ) where

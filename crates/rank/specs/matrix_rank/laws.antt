@@ -1,0 +1,3 @@
+-- The laws behind the lower bound.
+pub mod Matrix
+pub mod Loops

@@ -1,0 +1,4 @@
+-- Laws of the join.
+pub mod Stored
+pub mod Steps
+pub mod Places

@@ -1,0 +1,3 @@
+-- The later pairs of one number.
+pub mod Rows
+pub mod laws
