@@ -27,7 +27,8 @@ fn relation_size(k: usize, n: usize, missing: usize) -> usize
     0
 }
 
-// Whether there are no more relations of three values than twice the numbers from `start` on: else it is quicker to look at each number. No promise rests on it.
+// Whether there are no more relations of three values than twice the numbers from `start` on: else it is quicker to look at each number. No promise rests
+// on it.
 fn few_lines(gens: &[u64], d: &[u64], start: usize, s: Basis, dead: &[u8], w: &[u8]) -> bool
     requires { ⌜ Counting (now gens) (now d) start s (now dead) (now w) ⌝ }
 {

@@ -8,7 +8,7 @@
 --   Falling links                 == each pointer leads to an earlier place
 --   Chained v n base links        == from a pair each chain goes on to the last earlier pair of its bucket
 --   Headed v n base heads         == each bucket's head is its last pair
---   Values d start w gone v       == v has the values of the numbers from start on that have the weight 1 and are not gone, and none from the number of values on
+--   Values d start w gone v       == v has the values of the numbers from start on that have the weight 1 and are not gone; none behind the last
 --   Match gens s v base g y f x   == the pair at x stands before g, has the sum y, and its generators with the form f are not in the span of s
 --   MatchFrom .. e r              == r is the first pointer from e on along its chain whose pair is a match, or 0
 -- Laws: laws. Assumes nothing.

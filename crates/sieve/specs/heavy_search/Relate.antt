@@ -1,11 +1,11 @@
 -- What the search along relations asks and gives.
 --   RelationSize k n m r      == r is 3 or 4 only where every space with what is needed of k besides n has a relation of three, or of at most four values
---   Counting ..               == what counting relations asks: as many residues as generators, the number to start from, a valid basis, a flag and a weight for each
+--   Counting ..               == what counting relations asks: as many residues as generators, the number to start from, a valid basis, flags and weights
 --   putIn d i                 == the residues with the generator of the number i put in
 --   beneath d u n             == the residues at the space with the numbers of the relation at u put in: three of four, or two of three
 --   Descending, Descended     == what `descend` asks and gives: these residues, and the basis of the generators in that space, or that a dead one is
---   Relating ..               == what `relate` asks: a space's residues and basis, weights that are bounds, every number of a weight above 1 gone, and so many generators
---                                needed that every space has a short relation
+--   Relating ..               == what `relate` asks: a space's residues and basis, weights that are bounds, every number of a weight above 1 gone, and so many
+--                                generators needed that every space has a short relation
 -- Laws: laws/Relate. Assumes nothing.
 use mathlib.Core.Path.{_≡_}
 use mathlib.Core.Logic.{_≢_}

@@ -17,7 +17,13 @@ slice-aggregate-values : tie.Need-slice-aggregate-values Inv-loop μ-loop
 slice-aggregate-values c = refl
 
 values-requires : tie.Need-values-requires Inv-loop μ-loop
-values-requires c κs = let P = c .before .before .before .before .before .pre in (as-many (sym (P .over)) (P .begin), as-few (sym (P .over)) (P .few), P .weights-all, P .dead-all, refl)
+values-requires c κs = let P = c .before .before .before .before .before .pre in (
+  as-many (sym (P .over)) (P .begin),
+  as-few (sym (P .over)) (P .few),
+  P .weights-all,
+  P .dead-all,
+  refl,
+)
 
 sub-left : tie.Need-sub-left Inv-loop μ-loop
 sub-left c = c .before .before .before .before .before .before .before .before .pre .begin
@@ -36,7 +42,9 @@ first-place-requires c κs =
     let c₁ = c .before .before .before .before .before .before .before .before .before .before in
     let P = c₁ .before .before .before .pre in
     let a = c₁ .before .before .before .args in (
-      join-sized (a .gens .now) (a .d .now) (a .start) (a .w .now) (a .dead .now) (c .before .before .before .before .before .before .before .values .last .1 .1 .1 .1 .0) (P .over) (P .few) (c .before .before .before .before .before .before .before .values .ensures),
+      join-sized (a .gens .now) (a .d .now) (a .start) (a .w .now) (a .dead .now)
+          (c .before .before .before .before .before .before .before .values .last .1 .1 .1 .1 .0) (P .over) (P .few)
+          (c .before .before .before .before .before .before .before .values .ensures),
       P .begin,
     )
 
@@ -64,7 +72,10 @@ slice-aggregate-next-place-3 : tie.Need-slice-aggregate-next-place-3 Inv-loop μ
 slice-aggregate-next-place-3 c = sym (c .before .before .before .before .before .before .before .before .loop .inv .tables .sizes .links-all)
 
 next-place-requires : tie.Need-next-place-requires Inv-loop μ-loop
-next-place-requires c κs = (c .before .before .before .before .before .before .before .before .loop .inv, c .before .before .before .before .before .before .if1 .taken)
+next-place-requires c κs = (
+  c .before .before .before .before .before .before .before .before .loop .inv,
+  c .before .before .before .before .before .before .if1 .taken,
+)
 
 loop-less : tie.Need-loop-less Inv-loop μ-loop
 loop-less c = let n = c .before .before .before .before .before .before .before .before .if2 .left in omega arith

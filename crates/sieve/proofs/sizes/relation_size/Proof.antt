@@ -12,7 +12,8 @@ add-if3 c = sum-fits (c .if2 .left) (all-small (c .before .before .before .args 
 returns-3 : tie.Need-returns-3
 returns-3 c =
     let a = c .before .before .before .before .args in
-    size-three (a .k) (a .n) (a .missing) (c .before .before .needed .result) _ (c .before .before .before .if1 .left) (c .before .before .needed .ensures) (one-shift (a .missing) (let p = c .before .before .before .before .pre in omega arith)) (c .if3 .taken)
+    size-three (a .k) (a .n) (a .missing) (c .before .before .needed .result) _ (c .before .before .before .if1 .left) (c .before .before .needed .ensures)
+    (one-shift (a .missing) (let p = c .before .before .before .before .pre in omega arith)) (c .if3 .taken)
 
 add-if4 : tie.Need-add-if4
 add-if4 c = double-fits (all-small (c .before .before .before .before .args .missing) (c .before .before .before .before .pre))
@@ -26,7 +27,9 @@ add-if4-3 c = bound-fits (c .before .if2 .left) (all-small (c .before .before .b
 returns-4 : tie.Need-returns-4
 returns-4 c =
     let a = c .before .before .before .before .before .args in
-    size-four (a .k) (a .n) (a .missing) (c .before .before .before .needed .result) _ (c .before .before .before .before .if1 .left) (c .before .before .before .needed .ensures) (one-shift (a .missing) (let p = c .before .before .before .before .before .pre in omega arith)) (c .if4 .taken)
+    size-four (a .k) (a .n) (a .missing) (c .before .before .before .needed .result) _ (c .before .before .before .before .if1 .left)
+    (c .before .before .before .needed .ensures) (one-shift (a .missing) (let p = c .before .before .before .before .before .pre in omega arith))
+    (c .if4 .taken)
 
 pub relation-size-spec : {M : Type 1} → statement M
 relation-size-spec =

@@ -91,7 +91,8 @@ module _ (gens d : List ℕ) (u : Place) (over : length gens ≡ length d) (few 
   pub descend-three : (other mine : List ℕ) (z : ℕ) → take n other ≡ d₂ → z ≡ thirdRow other u n → Mapped (clear word z) (take n other) mine
       → take n mine ≡ beneath d u n
   descend-three other mine z e q M =
-      next d₂ mine z (take n other) e length-two M ∙ ap (λ (x : ℕ). map (clear word x) d₂) (q ∙ ap (λ (x : ℕ). cond (ltb (u .h) n) x 0) (at d₂ other (u .g) e third))
+      next d₂ mine z (take n other) e length-two M ∙ ap (λ (x : ℕ). map (clear word x) d₂) (q ∙ ap (λ (x : ℕ). cond (ltb (u .h) n) x 0) (at d₂ other (u .g) e
+      third))
 
   pub descended : (s : Basis) (gone mine : List ℕ) (t : Taken) → Holds (basisOf word (withResidue 0 gens d)) s → length mine ≡ searchRoom
       → take n mine ≡ beneath d u n → Took gens (take n mine) 0 s gone t → Descended gens d u gone mine t

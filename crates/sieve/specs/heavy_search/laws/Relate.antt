@@ -3,7 +3,7 @@
 --   here-first, here-second        the numbers at a place
 --   here-leads                     a space with the relation at a place is over the space beneath it
 --   Visited                        == the spaces with the relation at a place are met, and marks stay and stay fair; visit-shared, visit-found
---   Going                          == the spaces with a relation that is passed are met, and marks stay and stay fair; going-start, going-next, going-end
+--   PassedMet                      == the spaces with a relation that is passed are met, and marks stay and stay fair; going-start, going-next, going-end
 -- Assumes nothing.
 use mathlib.Core.Path.{_≡_, refl, sym, ap, ap₂, _∙_, subst}
 use mathlib.Core.Logic.{_≢_, _⊎_, inl, inr}
@@ -242,7 +242,7 @@ module _ (gens h d : List ℕ) (start k m : ℕ) (lines : Bool) (gone w : List �
           (generator word gens (Q .number)) .1 z)))
 
 -- ---- from place to place
-pub record Going (gens h d : List ℕ) (start k m : ℕ) (lines : Bool) (gone w marks₀ : List ℕ) (u : Place) (marks : List ℕ) : Type 0 where
+pub record PassedMet (gens h d : List ℕ) (start k m : ℕ) (lines : Bool) (gone w marks₀ : List ℕ) (u : Place) (marks : List ℕ) : Type 0 where
   pub met : (C D W : List ℕ) → Reduced word C → Reduced word D → h ≡ residues gens C → d ≡ residues gens D → (j : ℕ) → Leads gens C D W start k m j
       → Spared gens W gone → (r : Related gens d W start w gone lines) → Passed u (r .i) (r .j) (r .g) (r .h) → getD marks j 0 ≢ 0
   pub grown : Grown marks₀ marks
@@ -250,7 +250,7 @@ pub record Going (gens h d : List ℕ) (start k m : ℕ) (lines : Bool) (gone w 
 
 module _ (gens h d : List ℕ) (start k m : ℕ) (lines : Bool) (gone w marks₀ : List ℕ) (over : length gens ≡ length d) (v s : List ℕ)
     (vals : Values d start w gone v) (e : s ≡ basisOf word (withResidue 0 gens d)) where
-  pub going-start : (u : Place) (heads links : List ℕ) → FirstPlace gens s v lines start u heads links → Going gens h d start k m lines gone w marks₀ u marks₀
+  pub going-start : (u : Place) (heads links : List ℕ) → FirstPlace gens s v lines start u heads links → PassedMet gens h d start k m lines gone w marks₀ u marks₀
   going-start u heads links P =
       record {
         met = λ C D W ρ σ a b j L S r p.
@@ -259,9 +259,9 @@ module _ (gens h d : List ℕ) (start k m : ℕ) (lines : Bool) (gone w marks₀
         fair = λ A. A;
       }
 
-  pub going-next : (u u′ : Place) (heads links marks marks′ : List ℕ) → Going gens h d start k m lines gone w marks₀ u marks
+  pub going-next : (u u′ : Place) (heads links marks marks′ : List ℕ) → PassedMet gens h d start k m lines gone w marks₀ u marks
       → Visited gens h d start k m lines gone w u marks marks′ → NextPlace gens s v lines u u′ heads links
-      → Going gens h d start k m lines gone w marks₀ u′ marks′
+      → PassedMet gens h d start k m lines gone w marks₀ u′ marks′
   going-next u u′ heads links marks marks′ G Q P =
       record {
         met = λ C D W ρ σ a b j L S r p.
@@ -276,7 +276,7 @@ module _ (gens h d : List ℕ) (start k m : ℕ) (lines : Bool) (gone w marks₀
       at C D W ρ σ a b j L S r (inl p) = Q .grown .stays j (G .met C D W ρ σ a b j L S r p)
       at C D W ρ σ a b j L S r (inr p) = Q .met C D W ρ σ a b j L S r p
 
-  pub going-end : (u : Place) (marks : List ℕ) → Going gens h d start k m lines gone w marks₀ u marks → length gens ≤ u .base
+  pub going-end : (u : Place) (marks : List ℕ) → PassedMet gens h d start k m lines gone w marks₀ u marks → length gens ≤ u .base
       → AllRelated gens d start k m gone w lines → Found gens h d start k m gone marks₀ marks
   going-end u marks G l A =
       record {

@@ -7,7 +7,8 @@ use Rattle.residues.specs.children.laws.Numbers.{as-few, as-many, ends, within-
 use Rattle.sieve.specs.heavy_search.laws.Sweep.{sweep-start, sweep-lower, sweep-light, sweep-picked}
 use Rattle.sieve.proofs.heavy_search.find.Reads as find
 use Rattle.sieve.proofs.heavy_search.+find+relate.Lts-find as find-lts
-use Rattle.sieve.proofs.heavy_search.+find+relate.Proof.Claims.{find-at, find-claims, find-Inv-loop, find-μ-loop, positive, lighter, less, room, all-zero}
+use Rattle.sieve.proofs.heavy_search.+find+relate.Proof.Claims.{find-at, find-claims, find-Inv-loop, find-μ-loop, positive, lighter, less, room}
+use Rattle.sieve.proofs.heavy_search.+find+relate.Proof.Claims.{all-zero}
 
 pub find-slice-aggregate-fill : (t : ℕ) → find-lts.Need-slice-aggregate-fill (find-claims t) (find-at t) find.Post find-Inv-loop find-μ-loop
 find-slice-aggregate-fill t c = sym (c .before .before .before .before .before .before .before .pre .1 .at .sizes .gone-all)
@@ -156,7 +157,8 @@ find-loop-again t c =
     let a = c₂ .before .before .before .before .before .before .before .before .before .args in
     let l = c .before .before .before .before .loop in (
       sweep-lower (a .gens .now) (a .h .now) (a .d .now) (a .start) (a .k) (a .missing) (a .t8)
-          (c₁ .before .before .before .before .before .before .before .fill .last .1 .1 .1 .1 .1 .1 .1 .0) (a .marks .now) (l .r) (l .j) (l .gone) (l .marks) (l .inv .0) (ends
+          (c₁ .before .before .before .before .before .before .before .fill .last .1 .1 .1 .1 .1 .1 .1 .0) (a .marks .now) (l .r) (l .j) (l .gone) (l .marks)
+          (l .inv .0) (ends
           (c .before .before .if2 .taken)) (positive (c .before .before .before .loop-test .taken)) (c .next-with2 .result)
           (c .next-with2 .ensures),
       l .inv .1,

@@ -13,7 +13,7 @@ use borrow.Fn.Kinds.{In}
 use borrow.Fn.PlainCycle.{Measures, is, falls, and}
 use Rattle.relations.specs.Relations.{later, Placed}
 use Rattle.sieve.specs.heavy_search.laws.Sweep.{Sweeping}
-use Rattle.sieve.specs.heavy_search.laws.Relate.{Going}
+use Rattle.sieve.specs.heavy_search.laws.Relate.{PassedMet}
 use Rattle.sieve.proofs.heavy_search.find.Reads as find
 use Rattle.sieve.proofs.heavy_search.+find+relate.Lts-find as find-lts
 use Rattle.sieve.proofs.heavy_search.find.Kinds as find-kinds
@@ -107,7 +107,7 @@ find-μ-loop gens h d start k missing s rows₀ marks₀ n slots w len top least
 
 abbrev pub relate-Inv-loop : relate-lts.InvT-loop
 relate-Inv-loop gens h d start k missing lines s w rows₀ marks₀ gone n v heads₀ links₀ other₀ mine₀ basis len u₀ rows marks heads links other mine u =
-    Going gens h d start k missing lines gone w marks₀ u marks × Placed gens v u heads links × (length rows ≡ rowRoom) × (length marks ≡ searchRoom) ×
+    PassedMet gens h d start k missing lines gone w marks₀ u marks × Placed gens v u heads links × (length rows ≡ rowRoom) × (length marks ≡ searchRoom) ×
     (length other ≡ searchRoom) × (length mine ≡ searchRoom)
 
 abbrev pub relate-μ-loop : relate-lts.MeasureT-loop

@@ -13,7 +13,8 @@ use Rattle.residues.specs.Room.{searchRoom}
 use Rattle.weights.specs.rank_rows.Stretch.{rowRoom}
 use Rattle.sieve.proofs.heavy_search.find.Reads as find
 use Rattle.sieve.proofs.heavy_search.+find+relate.Lts-find as find-lts
-use Rattle.sieve.proofs.heavy_search.+find+relate.Proof.Claims.{find-at, find-claims, find-Inv-loop, find-μ-loop, before-end, fewer, as-lt, falls-odd, deep}
+use Rattle.sieve.proofs.heavy_search.+find+relate.Proof.Claims.{find-at, find-claims, find-Inv-loop, find-μ-loop, before-end, fewer, as-lt, falls-odd}
+use Rattle.sieve.proofs.heavy_search.+find+relate.Proof.Claims.{deep}
 
 pub find-mul-take : (t : ℕ) → find-lts.Need-mul-take (find-claims t) (find-at t) find.Post find-Inv-loop find-μ-loop
 find-mul-take t c =
@@ -27,7 +28,8 @@ find-shared-slice-read-take t c =
     let c₁ = c .before .before .before .before .before .before .before .before .before .before in
     let c₂ = c₁ .before .before .before .before .before .before .before .before .before .before in
     let l = c .before .before .before .loop in
-    inside (sym (c₂ .before .before .before .before .before .before .before .before .pre .1 .at .sizes .over)) (before-end (l .inv .0 .to) (c .before .if2 .left))
+    inside (sym (c₂ .before .before .before .before .before .before .before .before .pre .1 .at .sizes .over)) (before-end (l .inv .0 .to)
+    (c .before .if2 .left))
 
 pub find-slice-aggregate-take : (t : ℕ) → find-lts.Need-slice-aggregate-take (find-claims t) (find-at t) find.Post find-Inv-loop find-μ-loop
 find-slice-aggregate-take t c = sym (c .before .before .before .before .loop .inv .0 .all)
@@ -38,7 +40,8 @@ find-take-requires t c κs =
     let c₂ = c₁ .before .before .before .before .before .before .before .before .before .before in (
       c₂ .before .before .before .before .before .before .before .before .before .pre .1 .at .held .valid,
       c₂ .before .before .before .before .before .before .before .before .before .pre .1 .at .sizes .over,
-      within-numbers (as-few (sym (c₂ .before .before .before .before .before .before .before .before .before .pre .1 .at .sizes .over)) (c₂ .before .before .before .before .before .before .before .before .before .pre .1 .at .sizes .few))
+      within-numbers (as-few (sym (c₂ .before .before .before .before .before .before .before .before .before .pre .1 .at .sizes .over))
+          (c₂ .before .before .before .before .before .before .before .before .before .pre .1 .at .sizes .few))
           (c .before .before .before .before .loop .inv .0 .all),
     )
 
@@ -76,15 +79,20 @@ find-near-requires t c κs =
     let l = c₁ .before .before .loop in
     let q = (before-end (l .inv .0 .to) (c₁ .if2 .left)) in (
       sweep-pairing (a .gens .now) (a .h .now) (a .d .now) (a .start) (a .k) (a .missing) (a .s) (a .t8) (a .rows .now) (a .marks .now)
-          (c₃ .before .before .before .before .before .before .before .pre .1) (c₂ .before .before .before .before .before .fill .last .1 .1 .1 .1 .1 .0) (c₂ .before .before .before .before .before .fill .last .1 .1 .1 .1 .1 .1 .1 .0)
-          (c₂ .before .before .before .before .before .fill .result) (c₂ .before .before .before .before .before .fill .ensures) (l .r) (l .j) (l .gone) (l .marks) (l .inv .0) q
+          (c₃ .before .before .before .before .before .before .before .pre .1) (c₂ .before .before .before .before .before .fill .last .1 .1 .1 .1 .1 .0)
+          (c₂ .before .before .before .before .before .fill .last .1 .1 .1 .1 .1 .1 .1 .0)
+          (c₂ .before .before .before .before .before .fill .result) (c₂ .before .before .before .before .before .fill .ensures) (l .r) (l .j) (l .gone)
+          (l .marks) (l .inv .0) q
           (c₁ .before .before .before .before .before .floor .result) (c₁ .before .loop-test .taken) (l .picks) (l .mine)
           (c₂ .before .before .before .before .before .fill .kept .1 .1 .1 .1 .1 .1 .1 .0) (l .inv .3) (l .inv .4) (l .inv .2),
       ready-of (a .gens .now) (a .d .now) (l .j) (a .s) (l .gone) (c .before .before .before .before .before .before .before .take .result)
           (sweep-value (a .gens .now) (a .h .now) (a .d .now) (a .start) (a .k) (a .missing) (a .s) (a .t8) (a .rows .now) (a .marks .now)
-          (c₃ .before .before .before .before .before .before .before .pre .1) (c₂ .before .before .before .before .before .fill .last .1 .1 .1 .1 .1 .0) (c₂ .before .before .before .before .before .fill .last .1 .1 .1 .1 .1 .1 .1 .0)
-          (c₂ .before .before .before .before .before .fill .result) (c₂ .before .before .before .before .before .fill .ensures) (l .r) (l .j) (l .gone) (l .marks) (l .inv .0) q
-          (c₁ .before .before .before .before .before .floor .result) (c₁ .before .loop-test .taken)) (c₃ .before .before .before .before .before .before .before .pre .1 .at .held)
+          (c₃ .before .before .before .before .before .before .before .pre .1) (c₂ .before .before .before .before .before .fill .last .1 .1 .1 .1 .1 .0)
+          (c₂ .before .before .before .before .before .fill .last .1 .1 .1 .1 .1 .1 .1 .0)
+          (c₂ .before .before .before .before .before .fill .result) (c₂ .before .before .before .before .before .fill .ensures) (l .r) (l .j) (l .gone)
+          (l .marks) (l .inv .0) q
+          (c₁ .before .before .before .before .before .floor .result) (c₁ .before .loop-test .taken))
+          (c₃ .before .before .before .before .before .before .before .pre .1 .at .held)
           (c .before .before .before .before .before .before .before .take .ensures),
       c₃ .before .before .before .before .before .before .before .pre .1 .some,
     )
@@ -106,7 +114,8 @@ find-slice-aggregate-find t c =
     let c₃ = c₂ .before .before .before .before .before .before .before .before .before .before in
     let c₄ = c₃ .before .before .before .before .before .before .before .before .before .before in
     sym (length-take-le (length (c₄ .before .before .before .before .args .gens .now))
-    (c .before .before .before .before .before .before .near .last .1 .1 .1 .1 .1 .1 .1 .1 .1 .1 .1 .1 .0) (within-numbers (c₄ .before .before .before .before .pre .1 .at .sizes .few)
+    (c .before .before .before .before .before .before .near .last .1 .1 .1 .1 .1 .1 .1 .1 .1 .1 .1 .1 .0) (within-numbers
+    (c₄ .before .before .before .before .pre .1 .at .sizes .few)
     (c .before .before .before .before .before .before .near .kept .1 .1 .1 .1 .1 .1 .1 .1 .1 .1 .1 .1 .0 ∙
     c₁ .before .before .before .before .before .before .before .before .before .loop .inv .4)))
 
@@ -131,14 +140,18 @@ find-find-requires t c κs =
     let e = c .before .before .before .if3 .taken in (
       falls-odd (c₄ .before .before .before .before .before .before .pre .0) (c₄ .before .before .before .before .before .before .pre .1 .some),
       sweep-child (a .gens .now) (a .h .now) (a .d .now) (a .start) (a .k) (a .missing) (a .s) (a .t8) (a .rows .now) (a .marks .now)
-          (c₄ .before .before .before .before .before .before .pre .1) (c₃ .before .before .before .before .fill .last .1 .1 .1 .1 .1 .0) (c₃ .before .before .before .before .fill .last .1 .1 .1 .1 .1 .1 .1 .0) (c₃ .before .before .before .before .fill .result)
-          (c₃ .before .before .before .before .fill .ensures) (l .r) (l .j) (l .gone) (l .marks) (l .inv .0) q (c₂ .before .before .before .before .floor .result)
+          (c₄ .before .before .before .before .before .before .pre .1) (c₃ .before .before .before .before .fill .last .1 .1 .1 .1 .1 .0)
+          (c₃ .before .before .before .before .fill .last .1 .1 .1 .1 .1 .1 .1 .0) (c₃ .before .before .before .before .fill .result)
+          (c₃ .before .before .before .before .fill .ensures) (l .r) (l .j) (l .gone) (l .marks) (l .inv .0) q
+          (c₂ .before .before .before .before .floor .result)
           (c₂ .loop-test .taken) (N .deep e)
           (c .before .before .before .before .before .before .before .before .near .last .1 .1 .1 .1 .1 .1 .1 .1 .1 .1 .1 .1 .0) (N .child e)
           (c₁ .before .before .before .before .before .before .take .result .basis) ((ready-of (a .gens .now) (a .d .now) (l .j) (a .s) (l .gone)
           (c₁ .before .before .before .before .before .before .take .result) (sweep-value (a .gens .now) (a .h .now) (a .d .now) (a .start) (a .k)
-          (a .missing) (a .s) (a .t8) (a .rows .now) (a .marks .now) (c₄ .before .before .before .before .before .before .pre .1) (c₃ .before .before .before .before .fill .last .1 .1 .1 .1 .1 .0)
-          (c₃ .before .before .before .before .fill .last .1 .1 .1 .1 .1 .1 .1 .0) (c₃ .before .before .before .before .fill .result) (c₃ .before .before .before .before .fill .ensures) (l .r) (l .j) (l .gone) (l .marks) (l .inv .0) q
+          (a .missing) (a .s) (a .t8) (a .rows .now) (a .marks .now) (c₄ .before .before .before .before .before .before .pre .1)
+          (c₃ .before .before .before .before .fill .last .1 .1 .1 .1 .1 .0)
+          (c₃ .before .before .before .before .fill .last .1 .1 .1 .1 .1 .1 .1 .0) (c₃ .before .before .before .before .fill .result)
+          (c₃ .before .before .before .before .fill .ensures) (l .r) (l .j) (l .gone) (l .marks) (l .inv .0) q
           (c₂ .before .before .before .before .floor .result) (c₂ .loop-test .taken)) (c₄ .before .before .before .before .before .before .pre .1 .at .held)
           (c₁ .before .before .before .before .before .before .take .ensures)) .held (N .basis e)) (l .rows)
           (c .before .before .before .before .before .before .before .before .near .last .1 .1 .1 .1 .1 .1 .1 .1 .1 .1 .1 .1 .1 .0) (l .inv .1)
@@ -169,7 +182,8 @@ find-add-next-with t c =
     let c₃ = c₂ .before .before .before .before .before .before .before .before .before .before in
     let c₄ = c₃ .before .before .before .before .before .before .before .before .before .before in
     let l = c₁ .before .before .before .before .before .before .before .before .before .loop in
-    one-fits (before-end (l .inv .0 .to) (c₁ .before .before .before .before .before .before .before .if2 .left)) (c₄ .before .before .before .before .pre .1 .at .sizes .few)
+    one-fits (before-end (l .inv .0 .to) (c₁ .before .before .before .before .before .before .before .if2 .left))
+    (c₄ .before .before .before .before .pre .1 .at .sizes .few)
 
 pub find-next-with-requires-3 : (t : ℕ) → find-lts.Need-next-with-requires-3 (find-claims t) (find-at t) find.Post find-Inv-loop find-μ-loop
 find-next-with-requires-3 t c κs =
@@ -233,7 +247,8 @@ find-loop-again-2 t c =
     (c .before .before .if3 .came) in (
       sweep-more (a .gens .now) (a .h .now) (a .d .now) (a .start) (a .k) (a .missing) (a .t8)
           (c₃ .before .before .before .fill .last .1 .1 .1 .1 .1 .1 .1 .0) (a .marks .now) (l .r) (l .j)
-          (l .gone) (l .marks) (l .inv .0) q (c₄ .before .before .before .before .before .pre .1 .at .sizes .few) (sweep-value (a .gens .now) (a .h .now) (a .d .now) (a .start) (a .k) (a .missing)
+          (l .gone) (l .marks) (l .inv .0) q (c₄ .before .before .before .before .before .pre .1 .at .sizes .few) (sweep-value (a .gens .now) (a .h .now)
+          (a .d .now) (a .start) (a .k) (a .missing)
           (a .s) (a .t8) (a .rows .now) (a .marks .now) (c₄ .before .before .before .before .before .pre .1)
           (c₃ .before .before .before .fill .last .1 .1 .1 .1 .1 .0)
           (c₃ .before .before .before .fill .last .1 .1 .1 .1 .1 .1 .1 .0)
