@@ -24,6 +24,8 @@ pub mod Share
 pub mod Prices
 pub mod Exchange
 pub mod Heavy
+pub mod Clash
+pub mod FormSum
 pub mod Relation
 pub mod Spread
 pub mod Rank

@@ -1,7 +1,6 @@
 // The search for the spaces over the space of a walk's node, along heavy values and short relations. `h` has the residues of the generators at the walk's
 // node, `d` those at a space over it.
 use bases::Basis;
-use relations::Place;
 use residues::Taken;
 use words::first_words;
 ghost use mathlib.Core.Path.{_≡_};
@@ -16,7 +15,7 @@ ghost use Rattle.residues.specs.children.Residues.{withResidue};
 ghost use Rattle.residues.specs.children.Found.{Found, FoundBy, Finished};
 ghost use Rattle.residues.specs.children.Weighed.{Light};
 ghost use Rattle.sieve.specs.heavy_search.Find.{FirstNew, At, Closed, Pairing, ChildBasis, Neared, Finding};
-ghost use Rattle.sieve.specs.heavy_search.Relate.{thirdRow, Descending, Descended, Relating};
+ghost use Rattle.sieve.specs.heavy_search.Relate.{Relating};
 ghost use Rattle.residues.specs.Room.{searchRoom};
 
 // The first number from `start` on that is new at `h` and not any more in the child of `d` by `x`; the number of generators where there is none.
@@ -219,47 +218,6 @@ fn floor(low: usize, size: usize) -> usize
     if size == 0 { low } else { 1 }
 }
 
-// The value that the third number of the relation at `u` has at the residues `d`, where there is a fourth; else 0.
-fn third_row(d: &[u64], u: Place, n: usize) -> u64
-    requires { ⌜ u .g < length (now d) ⌝ }
-    ensures { λ r. ⌜ r ≡ thirdRow (now (d .entry)) u n ⌝ }
-{
-    let g = u.g;
-    if u.h < n { d[g] } else { 0 }
-}
-
-// The residues at the space of `d` and the first two generators of the relation at `u`, or, where that has four, the first three, in `mine`; and the basis of
-// the generators in it, or that a dead number's is. `s` is the basis of the generators in the space of `d`. What the lent `other` and `mine` hold before
-// plays no part.
-fn descend(
-    gens: &[u64],
-    d: &[u64],
-    u: Place,
-    s: Basis,
-    gone: &[u8],
-    other: &mut [u64],
-    mine: &mut [u64],
-) -> Taken
-    requires { ⌜ Descending (now gens) (now d) u s (now gone) (now other) (now mine) ⌝ }
-    ensures { λ r. ⌜ Descended (now (gens .entry)) (now (d .entry)) u (now (gone .entry)) (now (mine .exit)) r ⌝ }
-{
-    let n = gens.len();
-    let i = u.e - 1;
-    residues::child(d, d[u.base + i / 4096], mine);
-    let y = mine[i % 4096];
-    residues::child(&mine[..n], y, other);
-    let z = third_row(other, u, n);
-    residues::child(&other[..n], z, mine);
-    residues::take(gens, &mine[..n], 0, s, gone)
-}
-
-// How many dimensions the relation at `u` puts in.
-fn depth(u: Place, n: usize) -> usize
-    ensures { λ r. ⌜ (u .h < n → r ≡ 3) × (n ≤ u .h → r ≡ 2) ⌝ }
-{
-    if u.h < n { 3 } else { 2 }
-}
-
 // Marks the number that the walk goes on with to each space for `k` over that of `d`, `missing` dimensions more, without a generator that is gone, where every
 // number of a weight above 1 is. Each has a short relation among its values: so the search goes over the relations. `s` is the basis of the generators in the
 // space of `d`. What the lent `rows` hold plays no part.
@@ -299,7 +257,7 @@ fn relate(
         &mut links,
     );
     while u.base < n {
-        let t = descend(gens, d, u, s, &gone, &mut other, &mut mine);
+        let t = super::descent::descend(gens, d, u, s, &gone, &mut other, &mut mine);
         let b = t.basis;
         if !t.flagged {
             find(
@@ -308,7 +266,7 @@ fn relate(
                 &mine[..n],
                 start,
                 k,
-                missing - depth(u, n),
+                missing - super::descent::depth(u, n),
                 b,
                 gone,
                 rows,

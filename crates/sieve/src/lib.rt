@@ -1,6 +1,7 @@
 // Which children of a space the walk visits: never one fewer than lead to a space.
 // heavy_search     the search for the spaces over a space, along heavy values and short relations
 // sizes            where it goes along relations, and of how many values
+// descent          the space beneath a relation
 // join             the numbers that matter beside a value, where two dimensions are missing
 // dead_numbers     the numbers that a search leaves out from the first
 // marked_numbers   the next marked number
@@ -10,6 +11,7 @@ ghost use lib.ListN.{length};
 ghost use Rattle.sieve.specs.Sieve.{Sieving, Sieved};
 
 pub mod dead_numbers;
+pub mod descent;
 pub mod heavy_search;
 pub mod join;
 pub mod marked_numbers;

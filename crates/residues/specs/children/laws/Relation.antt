@@ -32,7 +32,8 @@ use Rattle.linear.specs.laws.Extension.{chosen-length}
 use Rattle.linear.specs.laws.Greedy.{inserts-within, greedy-rising, greedy-passes, greedy-fresh, greedy-covers}
 use Rattle.linear.specs.laws.Residue.{residue-span}
 use Rattle.linear.specs.laws.Heavy.{in-W}
-use Rattle.linear.specs.laws.Relation.{formSum, ShortRelation, reduce-add, over-one, fresh-sum, relation-pairs, relation-lines}
+use Rattle.linear.specs.laws.FormSum.{formSum, ShortRelation, reduce-add, over-one, fresh-sum}
+use Rattle.linear.specs.laws.Relation.{relation-pairs, relation-lines}
 use Rattle.residues.specs.children.Residues.{residues, withResidue}
 use Rattle.residues.specs.children.Found.{Leads, Spared}
 use Rattle.residues.specs.children.Weighed.{rankOf, Owner, Weighed}

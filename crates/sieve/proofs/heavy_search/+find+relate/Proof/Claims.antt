@@ -21,8 +21,8 @@ use Rattle.sieve.proofs.heavy_search.relate.Reads as relate
 use Rattle.sieve.proofs.heavy_search.+find+relate.Lts-relate as relate-lts
 use Rattle.sieve.proofs.heavy_search.relate.Kinds as relate-kinds
 use Rattle.residues.proofs.take.Reads as take-reads
-use Rattle.sieve.proofs.heavy_search.depth.Reads as depth-reads
-use Rattle.sieve.proofs.heavy_search.descend.Reads as descend-reads
+use Rattle.sieve.proofs.descent.depth.Reads as depth-reads
+use Rattle.sieve.proofs.descent.descend.Reads as descend-reads
 use Rattle.sieve.proofs.heavy_search.floor.Reads as floor-reads
 use Rattle.sieve.proofs.heavy_search.light.Reads as light-reads
 use Rattle.sieve.proofs.heavy_search.near.Reads as near-reads

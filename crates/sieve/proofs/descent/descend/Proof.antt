@@ -1,4 +1,4 @@
--- `sieve::heavy_search::descend` meets its contract: three times a number is put in, then the generators of residue 0 are taken. Assumes nothing.
+-- `sieve::descent::descend` meets its contract: three times a number is put in, then the generators of residue 0 are taken. Assumes nothing.
 use mathlib.Core.Path.{refl, sym, _∙_}
 use native.Mathlib.Omega.{arith}
 use lib.ListN.{length, take}
@@ -6,8 +6,8 @@ use lib.Seq.{length-take-le}
 use borrow.Author.Needs.{needs}
 use Rattle.residues.specs.children.laws.Numbers.{as-few, within-numbers}
 use Rattle.sieve.specs.heavy_search.laws.Descend.{descend-one, descend-two, descend-three, descended}
-use Rattle.sieve.proofs.heavy_search.descend.Statement.{statement}
-use Rattle.sieve.proofs.heavy_search.descend.Tie as tie
+use Rattle.sieve.proofs.descent.descend.Statement.{statement}
+use Rattle.sieve.proofs.descent.descend.Tie as tie
 
 slice-aggregate-child : tie.Need-slice-aggregate-child
 slice-aggregate-child c =

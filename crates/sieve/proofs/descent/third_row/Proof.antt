@@ -1,11 +1,11 @@
--- `sieve::heavy_search::third_row` meets its contract. Assumes nothing.
+-- `sieve::descent::third_row` meets its contract. Assumes nothing.
 use mathlib.Core.Path.{sym, ap}
 use mathlib.Core.Bool.{Bool, cond}
 use lib.ListN.{getD}
 use borrow.Author.Needs.{needs}
 use borrow.Author.Tests.{lt-ltb, le-ltb}
-use Rattle.sieve.proofs.heavy_search.third_row.Statement.{statement}
-use Rattle.sieve.proofs.heavy_search.third_row.Tie as tie
+use Rattle.sieve.proofs.descent.third_row.Statement.{statement}
+use Rattle.sieve.proofs.descent.third_row.Tie as tie
 
 returns : tie.Need-returns
 returns c =
