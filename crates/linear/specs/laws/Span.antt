@@ -69,7 +69,7 @@ module _ (S : Space) where
   span_add {xs = x ∷ xs} {u = u} {v = v} s t =
       let p = span_uncons s in
       let q = span_uncons t in
-      cast (sum_of x u v p.1 q.1 p.0 q.0 p.3 q.3) (span_cons (plus p.0 q.0) (span_add p.2 q.2))
+      cast (sum_of x u v p.1 q.1 p.0 q.0 p.3 q.3) (span_cons (plus p.0 q.0) (span_add {xs = xs} p.2 q.2))
 
   pub span_scale : {xs : List Vec} {v : Vec} (a : K) → Span S xs v → Span S xs (scale a v)
   span_scale {xs = []} a s = span_none (ap (scale a) (span_nil s) ∙ scale_nul S a)
@@ -77,7 +77,7 @@ module _ (S : Space) where
       let p = span_uncons s in
       cast
       (ap (scale a) p.3 ∙ scale_add S a (scale p.0 x) p.1 ∙ ap (λ y. add y (scale a p.1)) (scale_scale S a p.0 x))
-      (span_cons (times a p.0) (span_scale a p.2))
+      (span_cons (times a p.0) (span_scale {xs = xs} a p.2))
 
   pub span_cons_head : {x : Vec} {xs : List Vec} {w : Vec} (c : K) → Span S (x ∷ xs) w → Span S (x ∷ xs) (add (scale c x) w)
   span_cons_head {x} {xs} c s = span_add (span_scale c (span_head x xs)) s
@@ -88,7 +88,7 @@ module _ (S : Space) where
       cast (sym (minus_add S w u) ∙ ap (add (scale (neg 𝟙) w)) (sym e)) (span_add (span_scale (neg 𝟙) s) t)
 
   -- ---- members
-  pub span_mem : {xs : List Vec} {x : Vec} → Memᴰ x xs → Span S xs x
+  pub span_mem : {x : Vec} {xs : List Vec} → Memᴰ x xs → Span S xs x
   span_mem (Memᴰ.head {xs = xs} e) = cast e (span_head _ xs)
   span_mem (Memᴰ.tail m) = span_weak (span_mem m)
 
@@ -97,7 +97,7 @@ module _ (S : Space) where
   span_bind {xs = []} h s = span_none (span_nil s)
   span_bind {xs = x ∷ xs} h s =
       let p = span_uncons s in
-      cast p.3 (span_add (span_scale p.0 (h x (Memᴰ.head refl))) (span_bind (λ y m. h y (Memᴰ.tail m)) p.2))
+      cast p.3 (span_add (span_scale p.0 (h x (Memᴰ.head refl))) (span_bind {xs = xs} (λ y m. h y (Memᴰ.tail m)) p.2))
 
   pub span_mono : {xs ys : List Vec} {v : Vec} → ((x : Vec) → Memᴰ x xs → Memᴰ x ys) → Span S xs v → Span S ys v
   span_mono h s = span_bind (λ x m. span_mem (h x m)) s
@@ -109,5 +109,5 @@ module _ (S : Space) where
       let p = span_uncons s in
       ap (λ y. coord y i) p.3 ∙ coord_add (scale p.0 x) p.1 i
       ∙ ap₂ plus (coord_scale p.0 x i ∙ ap (times p.0) (h x (Memᴰ.head refl)) ∙ times_zero fld p.0)
-      (span_coord i (λ y m. h y (Memᴰ.tail m)) p.2)
+      (span_coord {xs = xs} i (λ y m. h y (Memᴰ.tail m)) p.2)
       ∙ plus_zero 𝟘

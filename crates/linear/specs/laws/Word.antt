@@ -81,7 +81,7 @@ module _ (w : ℕ) where
   span_below {xs = x ∷ xs} h s =
       let p = span_uncons word s in
       subst (λ (y : ℕ). y < 2 ^ w) (sym p.3)
-      (xor_lt w (scale_w p.0 x) p.1 (scale_below p.0 x (h x (Memᴰ.head refl))) (span_below (λ y m. h y (Memᴰ.tail m)) p.2))
+      (xor_lt w (scale_w p.0 x) p.1 (scale_below p.0 x (h x (Memᴰ.head refl))) (span_below {xs = xs} (λ y m. h y (Memᴰ.tail m)) p.2))
 
   -- ---- at most w rows
   pub top_below : (x : ℕ) → x ≢ 0 → x < 2 ^ w → top x < w
