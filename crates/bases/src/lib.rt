@@ -3,6 +3,8 @@
 // spans       tests on spans: is a target missed, is a generator wanted, does a generator complete a space, are there rows enough
 // rows        the products of a formula reduced once, and by them which sum to a form: the rows of the formula
 // The theory (one reduced basis for each space) is in `linear`.
+#![tactic(auto)]
+
 ghost use Rattle.std.specs.Prelude.{◌≡◌, []};
 ghost use Rattle.linear.specs.Basis.{reduce, insert, basis_of};
 ghost use Rattle.linear.specs.Entry.{inside};
@@ -17,7 +19,7 @@ pub mod spans;
 pub const ROWS: usize = 64;
 
 // A reduced basis: its rows, leads falling, and their number. The words after the rows are 0.
-#[derive(Drop)]
+#[derive(Clone, Copy)]
 pub struct Basis {
     pub rows: [u64; ROWS],
     pub len: usize,

@@ -6,14 +6,14 @@ ghost use Rattle.bases.specs.Basis.{most_rows};
 ghost use Rattle.bases.specs.rows.Echelon.{taken, Tracks};
 
 // Products reduced once: row i is what is left of product i by the rows before it, and its mask names the products that sum to it.
-#[derive(Drop)]
+#[derive(Clone, Copy)]
 pub struct Echelon {
     pub rows: [u64; super::ROWS],
     pub masks: [u64; super::ROWS],
 }
 
 // What is left of a form, and the mask of the products that sum to what was taken away.
-#[derive(Drop)]
+#[derive(Clone, Copy)]
 pub struct Rest {
     pub form: u64,
     pub mask: u64,

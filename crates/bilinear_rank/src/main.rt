@@ -1,4 +1,6 @@
 // The Rank program: a problem's file on standard input, the reply on standard output.
+#![tactic(auto)]
+
 fn main() {
     let mut room = text::input_room();
     let input = streams::read_input(&mut room);

@@ -1,4 +1,6 @@
 // The Turn program: a full product formula's file on standard input, the turned formula's on standard output.
+#![tactic(auto)]
+
 fn main() {
     let mut room = text::input_room();
     let input = streams::read_input(&mut room);

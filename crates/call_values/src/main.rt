@@ -1,4 +1,6 @@
 // Runs each call that standard input has, and prints its reply and the lent buffer. `tests/reference/make_calls.py` has the form of a call.
+#![tactic(auto)]
+
 ghost use Rattle.std.specs.Prelude.{◌≤◌, ◌<◌, ◌≡◌, length};
 ghost use Rattle.call_values.specs.Rooms.{lent_words};
 
@@ -12,7 +14,7 @@ mod turns;
 // A call by its number: 0 for Catalogue, 1 for Rank, with k; 2 for the look-up of an entry, with ell, k, shown and its number for the kind's number
 // and the sizes; 3 for the formulae of a space, 4 for the terms of a form over a selection, 6 for the turning of a formula with k products, else for a
 // product that is redundant in a selection.
-#[derive(Drop)]
+#[derive(Clone, Copy)]
 struct Call {
     which: u64,
     number: u64,

@@ -70,7 +70,7 @@ fn turn_in(
 }
 
 // A formula to be turned, but for its masks and rows.
-#[derive(Drop)]
+#[derive(Clone, Copy)]
 pub struct Formula {
     pub number: u64,
     pub p: u64,

@@ -4,6 +4,8 @@
 // meeting    all entries for k met; the cheapest formula of all of them
 // listing    the entries for k, counted up to a limit, and their records
 // Which children the walk visits: `sieve`. The reply as text: `catalogue_text`.
+#![tactic(auto)]
+
 ghost use Rattle.std.specs.Prelude.{◌≡◌, ◌≤◌, length};
 ghost use Rattle.kinds.specs.Numbers.{reply_numbers};
 ghost use Rattle.catalogue.specs.Catalogue.{catalogue_of, catalogue, seen_catalogue, lent_catalogue, catalogue_numbers, catalogue_values};
@@ -19,7 +21,7 @@ pub mod noting;
 pub mod walk;
 
 // What Catalogue says: a refusal's number, or the targets' dimension, how many entries there are and how many are shown.
-#[derive(Drop)]
+#[derive(Clone, Copy)]
 pub enum Catalogued {
     Refused(u64),
     Entries(usize, u64, usize),

@@ -5,7 +5,7 @@ use super::noting::Aim;
 use bases::Basis;
 
 // The dimension that the targets span, and how many entries were found and how many of them shown.
-#[derive(Drop)]
+#[derive(Clone, Copy)]
 pub struct Listing {
     pub ell: usize,
     pub found: u64,

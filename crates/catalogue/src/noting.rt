@@ -8,7 +8,7 @@ use bases::Basis;
 use records::{Chain, Tally};
 
 // Its record is kept, where fewer than that many are; or the cheapest formula of its space is offered against the one held.
-#[derive(Drop)]
+#[derive(Clone, Copy)]
 pub enum Aim {
     Records(u64),
     Cheapest,

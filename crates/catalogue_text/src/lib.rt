@@ -1,6 +1,8 @@
 // A problem's Catalogue as text on a page.
 // report     its lines, from the numbers
 // The program: `programs`.
+#![tactic(auto)]
+
 ghost use Rattle.std.specs.Prelude.{◌≡◌, ◌≤◌, length, take};
 ghost use Rattle.problems.specs.Problem.{problem};
 ghost use Rattle.problems.specs.Theorems.{Few};

@@ -1,6 +1,8 @@
 // The cheapest formula of a space, and the better of two. A generator costs what stands at its number among the prices.
 // ordering   numbers in ascending order, and the generators by price
 // That what is taken by price is cheapest stands in `linear`.
+#![tactic(auto)]
+
 ghost use Rattle.std.specs.Prelude.{◌≡◌, ◌<◌, ◌≤◌, length};
 ghost use Rattle.kinds.specs.Limits.{most_products};
 ghost use Rattle.linear.specs.Prices.{total, earlier};

@@ -1,4 +1,5 @@
 // What the Check program writes to standard output of the bytes that it has read. It stands apart from `program_output`, so that Check rests on no search.
+#![tactic(auto)]
 
 // Writes what the Check program prints of an input.
 pub fn write_check(input: &[u8]) {

@@ -1,6 +1,8 @@
 // The verdict on a formula that was read, as text in a lent buffer.
 // replies    the line of a reply
 // For C and for the Check program: `service`.
+#![tactic(auto)]
+
 ghost use Rattle.std.specs.Prelude.{◌≡◌};
 ghost use Rattle.kinds.specs.Refusal.{accepted};
 ghost use Rattle.check_text.specs.CheckAnswers.{admitted_text, reply_of, bytes_of};

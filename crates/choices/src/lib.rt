@@ -1,5 +1,7 @@
 // Chosen generators: of those marked a part that is independent, those with given numbers, a formula's rows, and its record in a buffer.
 // All formulae of a space: `space_formulae`.
+#![tactic(auto)]
+
 ghost use Rattle.std.specs.Prelude.{◌≡◌, [], map, ◌+◌, ◌<◌, ◌≤◌, length};
 ghost use Rattle.std.proofs.Math.Seq.{paste};
 ghost use Rattle.linear.specs.Word.{word};
@@ -12,7 +14,7 @@ ghost use Rattle.kinds.specs.Limits.{most_products, most_generators};
 use bases::Basis;
 
 // Some generators: their numbers, ascending, their forms, and how many they are.
-#[derive(Drop)]
+#[derive(Clone, Copy)]
 pub struct Choice {
     pub numbers: [u64; kinds::PRODUCTS],
     pub forms: [u64; kinds::PRODUCTS],

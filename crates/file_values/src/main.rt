@@ -1,5 +1,7 @@
 // Answers each file that an argument names as the programs do that it is meant for: its name, then what they print.
 // The first are formula files, for Check and Turn; behind the argument `-` stand problem files, for Catalogue, Rank and Formulae.
+#![tactic(auto)]
+
 use libc::STDOUT_FILENO;
 
 // What the programs write of a file's bytes.

@@ -1,6 +1,8 @@
 // Forms over two elements as words of 64 coordinates: a coordinate, the number of ones, the lead, clearing a row, reduction by rows.
 // products   the form of a product of two sums of variables, by their masks
 // Bases of forms: `bases`. Which forms are a map's: `maps`.
+#![tactic(auto)]
+
 ghost use Rattle.std.specs.Prelude.{◌≡◌};
 ghost use Rattle.linear.specs.Basis.{clear, reduce};
 ghost use Rattle.linear.specs.Bit.{bit, top};

@@ -1,4 +1,6 @@
 // Known values of the functions on forms, each proved from the contract.
+#![tactic(auto)]
+
 use bases::Basis;
 
 fn main() {

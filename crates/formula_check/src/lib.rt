@@ -4,6 +4,8 @@
 // verdicts   what Check finds: right, or the first wrong output
 // meaning    (specs) what the reply means, for every choice of input bits
 // Reading a formula's file: `formula_files`. The reply as text: `check_text`.
+#![tactic(auto)]
+
 ghost use Rattle.std.specs.Prelude.{◌≡◌, ◌||◌, length, ltb};
 ghost use Rattle.formula_check.specs.Formula.{first_wrong, formula_of, admit, lists_handed, verdict, check};
 ghost use Rattle.formula_check.specs.Refusals.{refusal_of};
@@ -48,7 +50,7 @@ fn verdict_on(shape: Shape, n: u64, m: u64, a: &[u64], b: &[u64], rows: &[u64]) 
 }
 
 // What is found of an admitted formula: the verdict and the adders.
-#[derive(Drop)]
+#[derive(Clone, Copy)]
 pub struct Judgement {
     pub verdict: Verdict,
     pub adders: u64,
@@ -116,7 +118,7 @@ pub fn too_short(k: usize, u: usize, la: usize, lb: usize, lr: usize) -> bool
 }
 
 // A formula on numbers: a refusal's number, or the kind and sizes, n and m.
-#[derive(Drop)]
+#[derive(Clone, Copy)]
 pub enum Admission {
     Refused(u64),
     Admitted(Shape, u64, u64),
@@ -166,7 +168,7 @@ pub fn admit(
 }
 
 // What Check replies: a refusal's number, or the verdict and the adders.
-#[derive(Drop)]
+#[derive(Clone, Copy)]
 pub enum Reply {
     Refused(u64),
     Judged(Verdict, u64),

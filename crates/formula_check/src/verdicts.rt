@@ -1,7 +1,7 @@
 // What Check finds.
 
 // The first output whose row does not give the target.
-#[derive(Drop)]
+#[derive(Clone, Copy)]
 pub enum Verdict {
     Right,
     Wrong(u64),

@@ -2,6 +2,8 @@
 // lines      the lines under the first two: products and rows
 // refusals   refusals 6 to 9 of a formula that is read
 // The first two lines: `text::heads`. Check of what was read: `formula_check`.
+#![tactic(auto)]
+
 ghost use Rattle.std.specs.Prelude.{◌≡◌, length};
 ghost use Rattle.formula_files.specs.FormulaFile.{formula_file};
 ghost use Rattle.formula_files.specs.Lent.{formula_reply, formula_read_numbers, first_of, second_of, rows_lent, Left, Under};
@@ -35,7 +37,7 @@ fn read_under(
 }
 
 // The reply of reading a formula: a refusal's number, or the kind and sizes, and k.
-#[derive(Drop)]
+#[derive(Clone, Copy)]
 pub enum Read {
     Refused(u64),
     Formula(Shape, u64),

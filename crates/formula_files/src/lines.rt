@@ -7,7 +7,7 @@ ghost use Rattle.formula_files.specs.lines.Buffered.{products_from, rows_from, p
 use text::{FieldRead, Used};
 
 // The two masks of a product and the bytes used.
-#[derive(Drop)]
+#[derive(Clone, Copy)]
 pub enum Product {
     Is(u64, u64, usize),
     No,
@@ -27,7 +27,7 @@ fn product_line(s: &[u8]) -> Product
 }
 
 // Bytes used, whether a factor is too wide, whether one is zero.
-#[derive(Drop)]
+#[derive(Clone, Copy)]
 pub enum Products {
     Are(usize, bool, bool),
     No,
@@ -71,7 +71,7 @@ fn products_part(s: &[u8], k: usize, n: usize, m: usize, a: &mut [u64], b: &mut 
 }
 
 // Bytes used, whether a row is too wide.
-#[derive(Drop)]
+#[derive(Clone, Copy)]
 pub enum Rows {
     Are(usize, bool),
     No,
@@ -98,7 +98,7 @@ fn read_rows(s: &[u8], t: usize, k: usize, d: &mut [u64]) -> Rows
 }
 
 // Whether a row is too wide.
-#[derive(Drop)]
+#[derive(Clone, Copy)]
 pub enum LastRows {
     Are(bool),
     No,
@@ -131,7 +131,7 @@ fn either(a: bool, b: bool) -> bool
 }
 
 // Whether a mask is too wide, whether a factor is zero.
-#[derive(Drop)]
+#[derive(Clone, Copy)]
 pub enum BodyRead {
     Are(bool, bool),
     No,

@@ -1,6 +1,8 @@
 // A formula printed as a file, which `formula_files` reads back (`round_trips`).
 // put_formula     from a place of a lent buffer on
 // print_formula   from the start of a page, of a formula that buffers hold
+#![tactic(auto)]
+
 ghost use Rattle.std.specs.Prelude.{◌≡◌, ◌*◌, ◌≤◌, [], ◌∷◌, length, take};
 ghost use Rattle.kinds.specs.Limits.{most_products, most_targets};
 ghost use Rattle.text.specs.Line.{comma};

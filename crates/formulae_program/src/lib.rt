@@ -5,6 +5,7 @@
 // entry_parts   what it prints of an entry
 // parts         all it prints, part by part
 // Writing the parts in order is left to the program.
+#![tactic(auto)]
 
 pub mod entry_parts;
 pub mod first_part;

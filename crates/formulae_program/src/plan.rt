@@ -2,7 +2,7 @@
 use kinds::Shape;
 
 // What is left to print: the problem's kind and sizes and k, what its Catalogue says, and how many generators and targets stand in the buffers.
-#[derive(Drop)]
+#[derive(Clone, Copy)]
 pub struct Plan {
     pub shape: Shape,
     pub k: u64,
@@ -14,7 +14,7 @@ pub struct Plan {
 }
 
 // What is said of an input: a refusal's number, or the plan.
-#[derive(Drop)]
+#[derive(Clone, Copy)]
 pub enum Started {
     Refused(u64),
     Listed(Plan),

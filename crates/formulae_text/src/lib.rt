@@ -1,6 +1,8 @@
 // The formulae of an entry as text on a page.
 // lines      their lines, from the numbers
 // The program: `formulae_program`.
+#![tactic(auto)]
+
 ghost use Rattle.std.specs.Prelude.{◌≡◌, ◌≤◌, length, take};
 ghost use Rattle.problems.specs.Problem.{problem};
 ghost use Rattle.space_formulae.specs.Replies.{Some};

@@ -1,6 +1,8 @@
 // What a kind of map is: its number, the kind of a number (refusal 2), its sizes (refusal 3), and the limits on what is handed in.
 // names      its name in files: the table, and the kind that bytes name
 // specs/ also has the list of refusals. The map itself: `maps`.
+#![tactic(auto)]
+
 ghost use Rattle.std.specs.Prelude.{◌≡◌};
 ghost use Rattle.kinds.specs.Kinds.{number_of, kind_numbered, is_list, handed, known_map, seen_kind};
 ghost use Rattle.kinds.specs.Sizes.{within, poly_sizes, square_sizes, mat_sizes, list_sizes, mid_sizes, sizes, seen_sizes};
@@ -21,7 +23,7 @@ pub const COST: u64 = 65535;
 pub const COST_BITS: u64 = 16;
 
 // Document 01's kinds, then those of document 02.
-#[derive(Drop)]
+#[derive(Clone, Copy)]
 pub enum Kind {
     Poly,
     Short,
@@ -31,7 +33,7 @@ pub enum Kind {
     Mid,
 }
 
-#[derive(Drop)]
+#[derive(Clone, Copy)]
 pub enum Known {
     Is(Kind),
     No,
@@ -102,7 +104,7 @@ pub fn known_map(known: Known) -> Known
 }
 
 // A kind with its sizes p, q and r: what a caller names.
-#[derive(Drop)]
+#[derive(Clone, Copy)]
 pub struct Shape {
     pub kind: Kind,
     pub p: u64,
@@ -111,7 +113,7 @@ pub struct Shape {
 }
 
 // n, m and the number of outputs; `No` is refusal 3.
-#[derive(Drop)]
+#[derive(Clone, Copy)]
 pub enum Sized {
     Are(u64, u64, u64),
     No,

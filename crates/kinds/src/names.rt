@@ -9,7 +9,7 @@ use super::{Kind, Known};
 pub const NAME_ROOM: usize = 5;
 
 // A name: the first `len` bytes.
-#[derive(Drop)]
+#[derive(Clone, Copy)]
 pub struct Name {
     pub bytes: [u8; NAME_ROOM],
     pub len: usize,

@@ -3,6 +3,8 @@
 // squares      the coefficient forms of square poly sizes, a table
 // form_lists   a list's forms, a map's generators with their costs, and its targets, written to a lent buffer
 // What the maps are on bits stands in specs/Textbook.antt. Sizes: `kinds`. Which problem is accepted: `problems`.
+#![tactic(auto)]
+
 ghost use Rattle.std.specs.Prelude.{◌≡◌};
 ghost use Rattle.maps.specs.Target.{pair, target_form};
 ghost use Rattle.maps.specs.Accepted.{Accepted, Terms};
@@ -70,7 +72,7 @@ pub fn target(shape: Shape, n: u64, m: u64, t: u64) -> u64
 }
 
 // The number of generators; `Many`, above 4095, is refusal 4.
-#[derive(Drop)]
+#[derive(Clone, Copy)]
 pub enum Count {
     Is(u64),
     Many,

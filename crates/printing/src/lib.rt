@@ -5,6 +5,8 @@
 // refusals       the line of a refusal on a page
 // record_lines   the fields that Catalogue, Rank and Formulae print alike
 // Which text a reply has: `check_text`, `catalogue_text`, `rank_text`, `formulae_text`.
+#![tactic(auto)]
+
 ghost use Rattle.std.specs.Prelude.{◌≡◌, ◌+◌, ◌^◌, ◌≤◌, ◌<◌, length, set};
 ghost use Rattle.std.proofs.lemmas.List.Edits.{sets};
 ghost use Rattle.kinds.specs.Kinds.{name_of, longest_name};

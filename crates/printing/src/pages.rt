@@ -5,7 +5,7 @@ ghost use Rattle.printing.specs.pages.Printed.{page_answer, seen_printed};
 ghost use Rattle.printing.specs.refusals.Pages.{reply_page, check_page, formula_page, part_page};
 
 // What a call that prints on a lent page says: a refusal's number, or how many bytes are printed, from the page's start.
-#[derive(Drop)]
+#[derive(Clone, Copy)]
 pub enum Printed {
     Refused(u64),
     Bytes(usize),

@@ -8,7 +8,7 @@ use kinds::Shape;
 use words::first_words;
 
 // What is asked of the problem: its Catalogue, or its Rank.
-#[derive(Drop)]
+#[derive(Clone, Copy)]
 pub enum Purpose {
     Catalogue,
     Rank,
@@ -40,7 +40,7 @@ fn too_short(shape: Shape, first: usize, second: usize, third: usize) -> bool
 }
 
 // The reply of reading a problem: a refusal's number, or the kind and sizes, and k.
-#[derive(Drop)]
+#[derive(Clone, Copy)]
 pub enum ProblemRead {
     Refused(u64),
     Problem(Shape, u64),

@@ -5,6 +5,8 @@
 // judging        the problem judged for what is asked of it: refusals 8 and 9
 // inputs         the input of a program that answers a problem
 // The first two lines: `text::heads`. The problem itself: `problems`.
+#![tactic(auto)]
+
 ghost use Rattle.std.specs.Prelude.{◌≡◌, length};
 ghost use Rattle.problem_files.specs.ProblemFile.{problem_file};
 ghost use Rattle.problem_files.specs.Lent.{problem_reply, problem_read_numbers, problem_read_values, generators_of, targets_of, costs_of};

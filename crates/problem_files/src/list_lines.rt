@@ -9,7 +9,7 @@ ghost use Rattle.problem_files.specs.list_lines.Views.{seen_role, bytes_role, se
 use text::{FieldRead, Used};
 
 // A form, its cost, and the bytes used.
-#[derive(Drop)]
+#[derive(Clone, Copy)]
 pub enum RoleRead {
     Is(u64, u64, usize),
     No,

@@ -11,7 +11,7 @@ use text::heads::HeadRead;
 use words::first_words;
 
 // A refusal's number; or the kind and sizes, k, and the numbers of generators and of targets.
-#[derive(Drop)]
+#[derive(Clone, Copy)]
 pub enum PosedRead {
     Refused(u64),
     Problem(Shape, u64, usize, usize),

@@ -1,6 +1,8 @@
 // A problem on numbers: refusals 2 to 7, then its generators and targets in lent buffers, in the same way for a list and for a map.
 // prices   the prices of its generators, in a third buffer
 // What is asked of a problem: `selections`, `catalogue`, `rank`, `space_formulae`. Reading one from a file: `problem_files`.
+#![tactic(auto)]
+
 ghost use Rattle.std.specs.Prelude.{◌≤◌, length};
 ghost use Rattle.maps.specs.form_lists.Fills.{Mapping};
 ghost use Rattle.problems.specs.Problem.{listed, mapped, shaped, posed};
@@ -13,7 +15,7 @@ use maps::Count;
 pub mod prices;
 
 // A refusal's number, or the numbers of generators and of targets.
-#[derive(Drop)]
+#[derive(Clone, Copy)]
 pub enum Posed {
     Refused(u64),
     Are(usize, usize),

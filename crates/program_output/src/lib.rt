@@ -1,4 +1,6 @@
 // What the Catalogue, Rank and Formulae programs write to standard output of the bytes that they have read. Check's: `check_output`.
+#![tactic(auto)]
+
 use streams::write_printed;
 
 // Writes what the Catalogue program prints of an input.

@@ -1,6 +1,8 @@
 // What the Catalogue and Rank programs print of an input.
 // meaning    (specs) an accepted input is answered, and what the answer means. Start at Theorems.antt
 // Reading and writing is left to the programs, `bilinear_catalogue` and `bilinear_rank`.
+#![tactic(auto)]
+
 ghost use Rattle.std.specs.Prelude.{◌≡◌, ◌≤◌, length, take};
 ghost use Rattle.problems.specs.Problem.{problem};
 ghost use Rattle.problems.specs.Theorems.{Few};

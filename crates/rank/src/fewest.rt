@@ -10,7 +10,7 @@ use bases::Basis;
 use words::first_words;
 
 // What Rank says: refused by 9, a number of products, above or beyond.
-#[derive(Drop)]
+#[derive(Clone, Copy)]
 pub enum Ranked {
     Refused(u64),
     Is(usize),
@@ -19,7 +19,7 @@ pub enum Ranked {
 }
 
 // The least number of dimensions with an entry.
-#[derive(Drop)]
+#[derive(Clone, Copy)]
 enum Least {
     No,
     Is(usize),

@@ -2,6 +2,8 @@
 // fewest        the same where the problem is made
 // matrix_rank   a number of products below which there is none, by the matrices of the forms
 // What it means beside Catalogue: `theorems`. The reply as text: `rank_text`.
+#![tactic(auto)]
+
 ghost use Rattle.std.specs.Prelude.{◌≡◌};
 ghost use Rattle.kinds.specs.Numbers.{reply_numbers};
 ghost use Rattle.problems.specs.Problem.{problem};

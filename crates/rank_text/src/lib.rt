@@ -1,6 +1,8 @@
 // A problem's Rank as text on a page.
 // report     its lines, from the numbers
 // The program: `programs`.
+#![tactic(auto)]
+
 ghost use Rattle.std.specs.Prelude.{◌≡◌, false, ◌+◌, ◌≤◌, length, take, drop};
 ghost use Rattle.printing.specs.fields.Piece.{Piece};
 ghost use Rattle.rank_text.specs.report.RankReports.{rank_text};

@@ -1,6 +1,8 @@
 // Records of what is found, one after the other in a lent buffer: the numbers of an entry, the count, and an entry kept.
 // lookup     the record of an entry in a listing
 // Records of formulae: `space_formulae`. What an entry is: `linear`.
+#![tactic(auto)]
+
 ghost use Rattle.std.specs.Prelude.{◌≡◌, ◌++◌};
 ghost use Rattle.bases.specs.Basis.{rows_of};
 ghost use Rattle.records.specs.Records.{note};
@@ -11,14 +13,14 @@ use bases::Basis;
 pub mod lookup;
 
 // Generator numbers, ascending, and how many.
-#[derive(Drop)]
+#[derive(Clone, Copy)]
 pub struct Chain {
     pub numbers: [u64; 8],
     pub len: usize,
 }
 
 // How many entries were found and how many of them shown, and the first free place of the buffer.
-#[derive(Drop)]
+#[derive(Clone, Copy)]
 pub struct Tally {
     pub found: u64,
     pub shown: usize,

@@ -3,6 +3,8 @@
 // into a table, and the later pairs are looked up in it. So a pass has no more pairs than the table has places, whatever the values are.
 // pairs   the table of a block's pairs
 // rows    the later pairs of one number
+#![tactic(auto)]
+
 pub mod pairs;
 pub mod rows;
 
@@ -12,7 +14,7 @@ ghost use Rattle.relations.specs.Onward.{Asked, Begins, RowFound, BlockFound, So
 
 // Where the join is: the first number of the block, the later pair g and h, and the pointer of a pair of the block. Behind the last block `base` is no
 // number any more.
-#[derive(Drop)]
+#[derive(Clone, Copy)]
 pub struct Place {
     pub base: usize,
     pub g: usize,

@@ -1,6 +1,8 @@
 // The residues of the generators at a space, what is left of each when the leads of the space's basis are cleared in it: at a space, at its child, those
 // with one residue, whether a number is known already, whether generators span the space. A residue is 0 exactly for a generator in the space.
 // children   (specs) the spaces over a space, what a search for them gives, and when a child leads nowhere: the theory behind `weights` and `sieve`
+#![tactic(auto)]
+
 ghost use Rattle.std.specs.Prelude.{◌≡◌, ◌<◌, ◌≤◌, length, eqb};
 ghost use Rattle.linear.specs.Basis.{clear, reduce, inserts, dim};
 ghost use Rattle.linear.specs.Word.{word};
@@ -83,7 +85,7 @@ pub fn spanned(gens: &[u64], h: &[u64], k: usize) -> bool
 }
 
 // The basis with the generators of one residue put in, or that a flagged number has the residue.
-#[derive(Drop)]
+#[derive(Clone, Copy)]
 pub struct Taken {
     pub flagged: bool,
     pub basis: Basis,

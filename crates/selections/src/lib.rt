@@ -1,6 +1,8 @@
 // Two questions on a selection of a problem's generators, on numbers: of which of them a form is the sum, is one of them redundant. Refusals 2 to 7, 9
 // and 11.
 // on_forms   the same where the problem is made
+#![tactic(auto)]
+
 ghost use Rattle.std.specs.Prelude.{◌≡◌};
 ghost use Rattle.kinds.specs.Numbers.{reply_numbers};
 ghost use Rattle.selections.specs.on_forms.Selected.{seen_said, said_numbers, said_values};

@@ -14,7 +14,7 @@ use bases::rows::Rest;
 use choices::Choice;
 
 // A refusal's number, or yes or no.
-#[derive(Drop)]
+#[derive(Clone, Copy)]
 pub enum Said {
     Refused(u64),
     Yes,
@@ -22,7 +22,7 @@ pub enum Said {
 }
 
 // A refusal's number; the form is the sum of so many selected generators; or it is no sum of them.
-#[derive(Drop)]
+#[derive(Clone, Copy)]
 pub enum Summed {
     Refused(u64),
     Yes(usize),

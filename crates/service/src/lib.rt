@@ -1,5 +1,7 @@
 // Check for callers in C: one call on a file's bytes, one on numbers. All refusals are made inside; include/gijpsando.h describes them.
 // check_program   what the Check program prints of an input
+#![tactic(auto)]
+
 ghost use Rattle.std.specs.Prelude.{◌≡◌, length, [], ◌∷◌, ◌≤◌};
 ghost use Rattle.formula_check.specs.Formula.{check};
 ghost use Rattle.check_text.specs.CheckAnswers.{reply_of, bytes_of};

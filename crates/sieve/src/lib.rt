@@ -6,6 +6,8 @@
 // dead_numbers     the numbers that a search leaves out from the first
 // marked_numbers   the next marked number
 // docs/SEARCH.md says why nothing is left out. Visiting the children: `catalogue::walk`.
+#![tactic(auto)]
+
 ghost use Rattle.std.specs.Prelude.{length};
 ghost use Rattle.sieve.specs.Sieve.{Sieving, Sieved};
 

@@ -3,6 +3,8 @@
 // enumeration       the recursion over the formulae of a space, which yields one at every call
 // formula_records   a formula counted and written
 // The reply as text: `formulae_text`.
+#![tactic(auto)]
+
 ghost use Rattle.std.specs.Prelude.{◌≡◌};
 ghost use Rattle.kinds.specs.Numbers.{reply_numbers};
 ghost use Rattle.space_formulae.specs.spaces.Spaces.{formulae_for, formulae_of, seen_formulae, lent_formulae, formulae_numbers, formulae_values};

@@ -6,7 +6,7 @@ use choices::Choice;
 use records::Tally;
 
 // What is said of a space: a refusal's number; or how many formulae are listed, these being all, or more being left.
-#[derive(Drop)]
+#[derive(Clone, Copy)]
 pub enum Listed {
     Refused(u64),
     All(usize),

@@ -1,5 +1,7 @@
 // The streams of a program: standard input read, what was printed on a page written to standard output. A read or a write that fails is said on standard error.
 // What is read and written can't be in a contract: the calls of the operating system promise nothing of it.
+#![tactic(auto)]
+
 ghost use Rattle.std.specs.Prelude.{◌+◌, ◌≤◌, length};
 ghost use Rattle.io.specs.Counts.{IsPrefixLen};
 ghost use Rattle.printing.specs.pages.Printed.{PrintedWhole};
@@ -7,7 +9,7 @@ ghost use Rattle.printing.specs.pages.Printed.{PrintedWhole};
 use printing::pages::Printed;
 
 // What one read brings: nothing and `failed`, or `count` bytes, none at the end of the input.
-#[derive(Drop)]
+#[derive(Clone, Copy)]
 struct Got {
     failed: bool,
     count: usize,
@@ -26,7 +28,7 @@ fn read_from(room: &mut [u8], done: usize) -> Got
 }
 
 // An input: its bytes are the first `count` of the room, and all of them unless a read failed.
-#[derive(Drop)]
+#[derive(Clone, Copy)]
 pub struct Input {
     pub whole: bool,
     pub count: usize,

@@ -6,7 +6,7 @@ ghost use Rattle.text.specs.heads.Views.{seen_counts, seen_head, bytes_head};
 use super::{Cut, FieldRead, Number, Used};
 use kinds::Known;
 
-#[derive(Drop)]
+#[derive(Clone, Copy)]
 pub enum Counts {
     Are(u64, u64, u64, u64),
     No,
@@ -34,7 +34,7 @@ fn counts_of(s: &[u8]) -> Counts
 }
 
 // The kind, the four counts, and the bytes used.
-#[derive(Drop)]
+#[derive(Clone, Copy)]
 pub enum HeadRead {
     Is(Known, u64, u64, u64, u64, usize),
     No,

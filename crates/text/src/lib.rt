@@ -1,6 +1,8 @@
 // The bytes of a file, read: numerals, fields, lines, fixed lines.
 // heads      the first two lines of a file: the kind, its sizes and k
 // The lines below: `formula_files`, `problem_files`. Writing: `printing`.
+#![tactic(auto)]
+
 ghost use Rattle.std.specs.Prelude.{◌≡◌, ◌+◌, ◌^◌, ◌≤◌, length};
 ghost use Rattle.text.specs.Numeral.{digit, numeral};
 ghost use Rattle.text.specs.Line.{till, cut, name_line, field};
@@ -25,7 +27,7 @@ pub fn input_room() -> [u8; INPUT_ROOM]
 }
 
 // What reading a numeral finds.
-#[derive(Drop)]
+#[derive(Clone, Copy)]
 pub enum Number {
     Is(u64),
     No,
@@ -93,7 +95,7 @@ fn find(s: &[u8], c: u8) -> usize
 }
 
 // Where a byte string is cut.
-#[derive(Drop)]
+#[derive(Clone, Copy)]
 pub enum Cut {
     At(usize),
     No,
@@ -108,7 +110,7 @@ pub fn cut_at(s: &[u8], c: u8) -> Cut
 }
 
 // Bytes used, of a line that is as it should be.
-#[derive(Drop)]
+#[derive(Clone, Copy)]
 pub enum Used {
     Is(usize),
     No,
@@ -129,7 +131,7 @@ pub fn name_line(s: &[u8], name: &[u8]) -> Used
 }
 
 // A number and the bytes used.
-#[derive(Drop)]
+#[derive(Clone, Copy)]
 pub enum FieldRead {
     Is(u64, usize),
     No,

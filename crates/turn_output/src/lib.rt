@@ -1,4 +1,5 @@
 // What the Turn program writes to standard output of the bytes that it has read. It stands beside `check_output`, and rests on no search either.
+#![tactic(auto)]
 
 // Writes what the Turn program prints of an input.
 pub fn write_turn(input: &[u8]) {

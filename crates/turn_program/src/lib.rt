@@ -1,5 +1,7 @@
 // What the Turn program prints of an input: the file of the turned formula, or the line of a refusal.
 // The turning itself: `turning`. Reading and writing is left to the program, `bilinear_turn`.
+#![tactic(auto)]
+
 ghost use Rattle.std.specs.Prelude.{◌≡◌, ◌≤◌, length, take};
 ghost use Rattle.kinds.specs.Limits.{most_products, most_targets};
 ghost use Rattle.formula_check.specs.Buffers.{formula_in};

@@ -3,6 +3,8 @@
 // turn_admitted   refusals 12 and 9, and the turned formula in three buffers
 // turn            the call on numbers: those of Check between the two
 // What the turned formula is, and that it is right exactly if the old one is: specs/.
+#![tactic(auto)]
+
 ghost use Rattle.std.specs.Prelude.{◌≡◌, map, ◌≤◌, length};
 ghost use Rattle.kinds.specs.Kinds.{seen_kind};
 ghost use Rattle.kinds.specs.Refusal.{refused_by};
@@ -161,7 +163,7 @@ pub fn turn_admitted(
 }
 
 // The reply of the turning: a refusal's number, or the kind and sizes of the turned formula, and k.
-#[derive(Drop)]
+#[derive(Clone, Copy)]
 pub enum Turned {
     Refused(u64),
     Formula(Shape, u64),

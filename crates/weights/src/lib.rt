@@ -2,6 +2,8 @@
 // slots       where the slot of a value is sought first
 // rank_rows   the rows that bound the rank of a value, eight for each number
 // Which values are heavy enough to be looked at is left to `sieve`.
+#![tactic(auto)]
+
 ghost use Rattle.std.specs.Prelude.{◌≡◌, ◌≤◌, length};
 ghost use Rattle.weights.specs.Table.{slot_of, weight_of, Slots, Blank, TableFilled};
 ghost use Rattle.weights.specs.Enter.{Entering, Entered};

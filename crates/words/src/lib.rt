@@ -2,6 +2,8 @@
 // lists    lists handed in: does a form stand twice, which of refusals 4 to 7 applies, is a number outside
 // tables   numbers by value: where a value is in a table with open addressing
 // What the words mean is left to the callers.
+#![tactic(auto)]
+
 ghost use Rattle.std.specs.Prelude.{◌≡◌, ◌||◌, ◌+◌, ◌≤◌, length, set, replicate, take, eqb};
 ghost use Rattle.std.proofs.Math.Seq.{paste};
 ghost use Rattle.words.specs.Masks.{outside, wide, zero_in};

@@ -1,0 +1,13 @@
+-- `forms::coordinate` meets its contract: the masked bit is the coordinate, and a word has none from 64 on. Assumes nothing.
+use mathlib.Core.Path.{sym}
+use native.Mathlib.Omega.{arith}
+use borrow.Author.Rules.{rules}
+use Rattle.linear.specs.laws.Bit.{bit_below}
+use Rattle.linear.specs.laws.Shift.{bit_test}
+use Rattle.forms.proofs.coordinate.Goals as goal
+
+pub returns-then-t-lt64 : goal.returns-then-t-lt64
+returns-then-t-lt64 c = bit_test c.args.form c.args.t
+
+pub returns-else-t-lt64 : goal.returns-else-t-lt64
+returns-else-t-lt64 c = sym (bit_below c.args.form 64 c.args.t (omega arith) (omega arith))

@@ -1,0 +1,6 @@
+-- `words::nil` meets its contract. Assumes nothing.
+use borrow.Author.Rules.{rules}
+use Rattle.words.proofs.nil.Goals as goal
+
+pub returns : goal.returns
+returns c = rw c.if-z.false
