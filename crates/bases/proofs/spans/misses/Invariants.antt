@@ -1,0 +1,16 @@
+-- `bases::spans::misses` meets its contract. Assumes nothing.
+use native.Mathlib.Omega.{arith}
+use mathlib.Core.Path.{sym, ap, ◌∙◌}
+use mathlib.Core.Bool.{not}
+use Prim.Native.Nat.{◌-◌}
+use lib.ListN.{length}
+use Rattle.bases.specs.Basis.{rows_of}
+use Rattle.bases.specs.spans.laws.Missing.{Missing, missing_start, missing_found, missing_past, missing_end}
+use Rattle.bases.proofs.Basis.contains.Reads as contains-reads
+use Rattle.bases.proofs.spans.misses.Given as goal
+
+abbrev pub invariant-loop-i : goal.invariant-loop-i
+invariant-loop-i l = Missing (rows_of l.b) l.targets l.i
+
+abbrev pub decreases-loop-i : goal.decreases-loop-i
+decreases-loop-i l = length l.targets - l.i
