@@ -1,0 +1,40 @@
+-- `problems::prices::fill_prices` meets its contract. Assumes nothing.
+use borrow.Author.Rules.{rules}
+use native.Mathlib.Omega.{arith}
+use mathlib.Core.Path.{sym, ap, ◌∙◌}
+use Rattle.kinds.specs.Sizes.{seen_sizes}
+use Rattle.problems.specs.prices.laws.Filling.{list_count, list_filled, map_made, map_filled, none_filled}
+use Rattle.problems.proofs.prices.fill_prices.Goals as goal
+
+pub copy_forms-requires : goal.copy_forms-requires
+copy_forms-requires c =
+    let a = c.args in
+    let room = c.requires.room in
+    omega (arith, list_count a.shape a.costs.now a.c c.requires (sym c.is_list.ensures ∙ c.if-is_list.true))
+
+pub returns-then-is_list : goal.returns-then-is_list
+returns-then-is_list c =
+    let a = c.args in
+    list_filled a.shape a.costs.now a.c c.requires (sym c.is_list.ensures ∙ c.if-is_list.true) _
+    c.copy_forms.ensures
+
+pub returns-in_default : goal.returns-in_default
+returns-in_default c =
+    let a = c.args in
+    none_filled a.shape a.costs.now a.c c.requires (sym c.is_list.ensures ∙ c.if-is_list.false) a.v.now
+    (c.sizes_of.ensures ∙ ap seen_sizes c.in_default.is)
+
+pub fill_costs-requires : goal.fill_costs-requires
+fill_costs-requires c =
+    let a = c.args in
+    let n = c.n-1.given in
+    map_made a.shape a.costs.now a.c c.requires (sym c.is_list.ensures ∙ c.if-is_list.false)
+    n.0.0 n.0.1.0 n.0.1.1.0 (c.sizes_of.ensures ∙ ap seen_sizes n.1)
+
+pub returns : goal.returns
+returns c =
+    let a = c.args in
+    let n = c.n-1.given in
+    map_filled a.shape a.costs.now a.c c.requires (sym c.is_list.ensures ∙ c.if-is_list.false)
+    n.0.0 n.0.1.0 n.0.1.1.0 (c.sizes_of.ensures ∙ ap seen_sizes n.1) _
+    c.fill_costs.ensures

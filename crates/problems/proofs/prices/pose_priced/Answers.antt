@@ -1,0 +1,19 @@
+-- `problems::prices::pose_priced` meets its contract. Assumes nothing.
+use borrow.Author.Rules.{rules}
+use mathlib.Core.Path.{ap, ◌∙◌}
+use Rattle.kinds.specs.Kinds.{seen_kind}
+use Rattle.problems.specs.prices.laws.Laying.{priced_2_laid, priced_kind_laid}
+use Rattle.problems.proofs.prices.pose_priced.Goals as goal
+
+pub returns-in_default : goal.returns-in_default
+returns-in_default c =
+    let a = c.args in
+    priced_2_laid a.number a.p a.q a.r a.gs.now a.ts.now a.costs.now a.g.now a.t.now a.v.now
+    (c.kind_numbered.ensures ∙ ap seen_kind c.in_default.is)
+
+pub returns : goal.returns
+returns c =
+    let kind = c.kind-1.given in
+    let a = c.args in
+    priced_kind_laid a.number a.p a.q a.r a.gs.now a.ts.now a.costs.now _ _ _ kind.0.0 _
+    (c.kind_numbered.ensures ∙ ap seen_kind kind.1) c.pose_priced_shape.ensures

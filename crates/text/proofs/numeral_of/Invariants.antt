@@ -1,0 +1,18 @@
+-- `text::numeral_of` meets its contract. The invariant: what is left to read, after the value so far, reads as the whole does. Assumes nothing.
+use Prim.Native.Nat.{◌≤◌, ◌<◌, ◌-◌, ◌^◌}
+use mathlib.Core.Path.{◌≡◌, refl, ◌∙◌}
+use mathlib.Core.Logic.{⊎_elim}
+use native.Mathlib.Omega.{arith}
+use native.Mathlib.Nat.{pow-zero}
+use borrow.Author.Rules.{rules}
+use lib.ListN.{length, drop}
+use Rattle.text.specs.Numeral.{digits, numeral}
+use Rattle.text.specs.laws.Numeral.{digits_step, digits_stop, digits_end, bound, numeral_fits, numeral_empty, numeral_long, numeral_zero, numeral_one, numeral_more}
+use Rattle.text.proofs.numeral_of.Given as goal
+
+abbrev pub invariant-loop-i : goal.invariant-loop-i
+invariant-loop-i l =
+    (l.n ≡ length l.s) × (l.i ≤ l.n) × (l.n ≤ l.most) × (l.v < l.base ^ l.i) × (numeral l.base l.most l.s ≡ digits l.base l.v (drop l.i l.s))
+
+abbrev pub decreases-loop-i : goal.decreases-loop-i
+decreases-loop-i l = l.n - l.i
