@@ -1,0 +1,15 @@
+-- `sieve::join::join` meets its contract: the numbers so far are judged. Assumes nothing.
+use mathlib.Core.Path.{sym, ◌∙◌}
+use mathlib.Core.Logic.{⊎_elim}
+use mathlib.Core.Bool.{false, true≢false}
+use Prim.Native.Nat.{◌-◌}
+use native.Mathlib.Omega.{arith}
+use lib.ListN.{length, length-set}
+use Rattle.sieve.specs.join.laws.Join.{Walked, walk_start, walk_judging, walk_more, walk_end}
+use Rattle.sieve.proofs.join.join.Given as goal
+
+abbrev pub invariant-loop-i : goal.invariant-loop-i
+invariant-loop-i l = Walked l.d l.start l.x l.left l.gone l.slots l.w l.i l.picks l.some
+
+abbrev pub decreases-loop-i : goal.decreases-loop-i
+decreases-loop-i l = length l.d - l.i
