@@ -1,8 +1,7 @@
 -- `sieve::dead_numbers::flag_before` meets its contract: the flags so far are those of new numbers. Assumes nothing.
 use mathlib.Core.Path.{◌≡◌, sym, ◌∙◌, subst}
-use Prim.Native.Nat.{ℕ, ◌-◌, ◌≤◌}
+use Prim.Native.Nat.{ℕ}
 use native.Mathlib.Omega.{arith}
-use lib.ListN.{length}
 use Rattle.sieve.specs.dead_numbers.Dead.{FlaggedBefore}
 use Rattle.sieve.specs.dead_numbers.laws.Dead.{flag_start, flag_on, flag_off}
 use Rattle.sieve.proofs.dead_numbers.flag_before.Goals as goal

@@ -1,9 +1,7 @@
 -- `sieve::descent::descend` meets its contract: three times a number is put in, then the generators of residue 0 are taken. Assumes nothing.
-use mathlib.Core.Path.{refl, sym, ◌∙◌}
-use native.Mathlib.Omega.{arith}
-use lib.ListN.{length, take}
+use mathlib.Core.Path.{refl, sym}
+use lib.ListN.{length}
 use lib.Seq.{length-take-le}
-use borrow.Author.Rules.{rules}
 use Rattle.residues.specs.children.laws.Numbers.{as_few, within_numbers}
 use Rattle.sieve.specs.heavy_search.laws.Descend.{descend_one, descend_two, descend_three, descended}
 use Rattle.sieve.proofs.descent.descend.Goals as goal

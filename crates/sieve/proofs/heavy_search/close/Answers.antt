@@ -1,10 +1,7 @@
 -- `sieve::heavy_search::close` meets its contract: the picked numbers so far are done. Assumes nothing.
-use mathlib.Core.Path.{◌≡◌, sym, ◌∙◌}
-use Prim.Native.Nat.{◌-◌}
+use mathlib.Core.Path.{sym, ◌∙◌}
 use native.Mathlib.Omega.{arith}
-use lib.ListN.{length}
-use Rattle.sieve.specs.heavy_search.laws.Step.{Closing, closing_start, closing_next, closing_end}
-use Rattle.residues.specs.Room.{search_room}
+use Rattle.sieve.specs.heavy_search.laws.Step.{closing_start, closing_next, closing_end}
 use Rattle.sieve.proofs.heavy_search.close.Goals as goal
 
 pub next_marked-i-requires : goal.next_marked-i-requires
@@ -46,12 +43,11 @@ overflow_add-i c =
     omega (arith, c.loop-i-test.true, c.requires.0.sizes.few)
 
 pub next_marked-i-requires-in-loop-i : goal.next_marked-i-requires-in-loop-i
-next_marked-i-requires-in-loop-i c =
-    (
-      omega (arith, c.loop-i-test.true),
-      omega
-          (arith, c.requires.0.sizes.few, c.requires.1),
-    )
+next_marked-i-requires-in-loop-i c = (
+  omega (arith, c.loop-i-test.true),
+  omega
+      (arith, c.requires.0.sizes.few, c.requires.1),
+)
 
 pub loop-i-smaller : goal.loop-i-smaller
 loop-i-smaller c = omega (

@@ -1,9 +1,8 @@
 -- `sieve::heavy_search::close` meets its contract: the picked numbers so far are done. Assumes nothing.
-use mathlib.Core.Path.{◌≡◌, sym, ◌∙◌}
+use mathlib.Core.Path.{◌≡◌}
 use Prim.Native.Nat.{◌-◌}
-use native.Mathlib.Omega.{arith}
 use lib.ListN.{length}
-use Rattle.sieve.specs.heavy_search.laws.Step.{Closing, closing_start, closing_next, closing_end}
+use Rattle.sieve.specs.heavy_search.laws.Step.{Closing}
 use Rattle.residues.specs.Room.{search_room}
 use Rattle.sieve.proofs.heavy_search.close.Given as goal
 

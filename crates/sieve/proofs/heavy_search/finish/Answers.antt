@@ -2,7 +2,6 @@
 use mathlib.Core.Path.{sym, ◌∙◌}
 use mathlib.Core.List.{map}
 use native.Mathlib.Omega.{arith}
-use borrow.Author.Rules.{rules}
 use Rattle.linear.specs.Basis.{clear}
 use Rattle.linear.specs.Word.{word}
 use Rattle.sieve.specs.heavy_search.laws.Find.{finish_off, finish_known, finish_on}

@@ -1,13 +1,10 @@
 -- `sieve::heavy_search::first_new` meets its contract: no number so far is new by h and not in the child. Assumes nothing.
-use mathlib.Core.Path.{sym, ◌∙◌}
 use mathlib.Core.List.{map}
 use Prim.Native.Nat.{◌-◌}
 use lib.ListN.{length}
-use native.Mathlib.Omega.{arith}
 use Rattle.linear.specs.Basis.{clear}
 use Rattle.linear.specs.Word.{word}
-use Rattle.residues.specs.children.laws.Child.{clear_at}
-use Rattle.sieve.specs.heavy_search.laws.Find.{Looking, looking_start, looking_more, looking_found, looking_end}
+use Rattle.sieve.specs.heavy_search.laws.Find.{Looking}
 use Rattle.sieve.proofs.heavy_search.first_new.Given as goal
 
 abbrev pub invariant-loop-j : goal.invariant-loop-j

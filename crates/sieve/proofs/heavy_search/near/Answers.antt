@@ -42,12 +42,11 @@ returns-then-missing-eq1 c =
     c.requires.0.sizes.alike c.finish.ensures
 
 pub pairs-requires : goal.pairs-requires
-pairs-requires c =
-    (
-      c.requires.0,
-      c.requires.1.held
-          c.if-t.false,
-    )
+pairs-requires c = (
+  c.requires.0,
+  c.requires.1.held
+      c.if-t.false,
+)
 
 pub shape_of-picks-then-missing-eq2 : goal.shape_of-picks-then-missing-eq2
 shape_of-picks-then-missing-eq2 c = c.pairs.auto.picks
@@ -75,11 +74,10 @@ bounds-d-j-2 c =
     omega (arith, c.requires.0.number, c.requires.0.sizes.over)
 
 pub child-requires : goal.child-requires
-child-requires c =
-    (
-      omega (arith, c.requires.0.sizes.over, c.requires.0.sizes.few),
-      c.requires.0.mine_all,
-    )
+child-requires c = (
+  omega (arith, c.requires.0.sizes.over, c.requires.0.sizes.few),
+  c.requires.0.mine_all,
+)
 
 pub shape_of-mine : goal.shape_of-mine
 shape_of-mine c = c.child.auto.out

@@ -38,15 +38,14 @@ returns-then-not-join c =
     (J.none (not-true _ c.if-not-join.true-raw))
 
 pub child-requires : goal.child-requires
-child-requires c =
-    (
-      omega (
-        arith,
-        c.requires.0.sizes.over,
-        c.requires.0.sizes.few,
-      ),
-      c.requires.0.mine_all,
-    )
+child-requires c = (
+  omega (
+    arith,
+    c.requires.0.sizes.over,
+    c.requires.0.sizes.few,
+  ),
+  c.requires.0.mine_all,
+)
 
 pub slice_bounds-close-end : goal.slice_bounds-close-end
 slice_bounds-close-end c =

@@ -24,15 +24,14 @@ returns-then-t c =
     c.if-t.true)
 
 pub finish-requires : goal.finish-requires
-finish-requires c =
-    (
-      sym c.requires.0.sizes.alike ∙ c.requires.0.sizes.over,
-      omega
-          (arith, c.requires.0.sizes.alike, c.requires.0.sizes.begin),
-      omega
-          (arith, c.requires.0.sizes.alike, c.requires.0.sizes.few),
-      c.requires.0.sizes.marks_all,
-    )
+finish-requires c = (
+  sym c.requires.0.sizes.alike ∙ c.requires.0.sizes.over,
+  omega
+      (arith, c.requires.0.sizes.alike, c.requires.0.sizes.begin),
+  omega
+      (arith, c.requires.0.sizes.alike, c.requires.0.sizes.few),
+  c.requires.0.sizes.marks_all,
+)
 
 pub shape_of-marks-then-b-k : goal.shape_of-marks-then-b-k
 shape_of-marks-then-b-k c = c.finish.auto.marks

@@ -1,8 +1,6 @@
 -- `sieve::join::halves` meets its contract: the numbers so far are marked. Assumes nothing.
-use mathlib.Core.Path.{sym, ◌∙◌}
 use Prim.Native.Nat.{◌-◌}
-use native.Mathlib.Omega.{arith}
-use Rattle.sieve.specs.join.laws.Join.{Halving, halving_start, halving_more, halving_end}
+use Rattle.sieve.specs.join.laws.Join.{Halving}
 use Rattle.sieve.proofs.join.halves.Given as goal
 
 abbrev pub invariant-loop-i : goal.invariant-loop-i

@@ -1,11 +1,9 @@
 -- `sieve::join::join` meets its contract: the numbers so far are judged. Assumes nothing.
 use mathlib.Core.Path.{sym, ◌∙◌}
-use mathlib.Core.Logic.{⊎_elim}
-use mathlib.Core.Bool.{false, true≢false}
-use Prim.Native.Nat.{◌-◌}
+use mathlib.Core.Bool.{true≢false}
 use native.Mathlib.Omega.{arith}
-use lib.ListN.{length, length-set}
-use Rattle.sieve.specs.join.laws.Join.{Walked, walk_start, walk_judging, walk_more, walk_end}
+use lib.ListN.{length-set}
+use Rattle.sieve.specs.join.laws.Join.{walk_start, walk_judging, walk_more, walk_end}
 use Rattle.sieve.proofs.join.join.Goals as goal
 use Rattle.sieve.proofs.join.join.Goals.{else-p-ne0, then-p-ne0}
 

@@ -1,11 +1,7 @@
 -- `sieve::join::join` meets its contract: the numbers so far are judged. Assumes nothing.
-use mathlib.Core.Path.{sym, ◌∙◌}
-use mathlib.Core.Logic.{⊎_elim}
-use mathlib.Core.Bool.{false, true≢false}
 use Prim.Native.Nat.{◌-◌}
-use native.Mathlib.Omega.{arith}
-use lib.ListN.{length, length-set}
-use Rattle.sieve.specs.join.laws.Join.{Walked, walk_start, walk_judging, walk_more, walk_end}
+use lib.ListN.{length}
+use Rattle.sieve.specs.join.laws.Join.{Walked}
 use Rattle.sieve.proofs.join.join.Given as goal
 
 abbrev pub invariant-loop-i : goal.invariant-loop-i

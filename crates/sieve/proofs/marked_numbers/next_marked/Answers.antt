@@ -1,7 +1,5 @@
 -- `sieve::marked_numbers::next_marked` meets its contract: no number so far is marked. Assumes nothing.
-use Prim.Native.Nat.{◌-◌}
-use native.Mathlib.Omega.{arith}
-use Rattle.sieve.specs.marked_numbers.laws.Marks.{Searching, Unmarked, next_start, next_more, next_found, next_none}
+use Rattle.sieve.specs.marked_numbers.laws.Marks.{Unmarked, next_start, next_more, next_found, next_none}
 use Rattle.sieve.proofs.marked_numbers.next_marked.Goals as goal
 
 pub loop-j-init : goal.loop-j-init

@@ -1,7 +1,6 @@
 -- `sieve::marked_numbers::next_with` meets its contract: no number so far has the mark. Assumes nothing.
-use Prim.Native.Nat.{◌-◌}
 use native.Mathlib.Omega.{arith}
-use Rattle.sieve.specs.marked_numbers.laws.Marks.{Searching, Without, next_start, next_more, with_found, with_none}
+use Rattle.sieve.specs.marked_numbers.laws.Marks.{Without, next_start, next_more, with_found, with_none}
 use Rattle.sieve.proofs.marked_numbers.next_with.Goals as goal
 
 pub loop-i-init : goal.loop-i-init

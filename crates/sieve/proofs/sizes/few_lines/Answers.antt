@@ -2,7 +2,6 @@
 use mathlib.Core.Path.{refl, sym}
 use native.Mathlib.Omega.{arith}
 use Rattle.residues.specs.children.laws.Numbers.{as_few, as_many}
-use Rattle.relations.specs.Relations.{Placed}
 use Rattle.sieve.specs.heavy_search.laws.Size.{join_sized}
 use Rattle.sieve.proofs.sizes.few_lines.Goals as goal
 
