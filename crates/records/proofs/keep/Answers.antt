@@ -53,7 +53,7 @@ slice_bounds-copy-end-2 c =
 pub overflow_add-at : goal.overflow_add-at
 overflow_add-at c =
     let args = c.args in
-    let good = c.well-formed in
+    let good = c.well_formed in
     let pre = c.requires in
     let count = c.count-r in
     let if1 = c.if-r-t in

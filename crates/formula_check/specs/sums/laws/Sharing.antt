@@ -7,7 +7,7 @@
 -- Assumes nothing.
 use Rattle.std.specs.Prelude.{◌≡◌, refl, ◌≢◌, ◌↔◌, Bool, true, false, cond, ℕ, zero, suc, ◌+◌, ◌-◌, ◌<◌, ◌≤◌, length, get_or, drop, eqb}
 use Rattle.std.proofs.Common.{sym, ap, ap₂, ◌∙◌, le_antisymm, arith, drop_of_length-le}
-use Rattle.std.proofs.Math.Logic.{Iff·symm, Iff·trans}
+use mathlib.Core.Logic.Iff as iff
 use Rattle.std.proofs.lemmas.Bool.{false≢true, eqb-false}
 use mathlib.Core.List.Memᴰ
 use mathlib.Core.List.{List, [], ◌∷◌, Memᴰ}
@@ -87,6 +87,7 @@ distinct_once (x ∷ xs) = go (any_of (eqb x) xs) refl (distinct_once xs)
 taken : {x : ℕ} {l : List ℕ} → Memᴰ x l
     → (r : List ℕ) × (adders_of l ≡ (weight 64 x - 1) + adders_of r) × ((y : ℕ) → Memᴰ y l → y ≢ x → Memᴰ y r)
 unfolding adders_of
+taken {x = x} {l = []} m = elim m [ ]
 taken {x = x} {l = z ∷ l} (Memᴰ.head e) =
     (l, ap (λ (k : ℕ). (weight 64 k - 1) + adders_of l) (sym e), mem_cons {P = λ y. y ≢ x → Memᴰ y l} (λ n. absurd (n (sym e))) (λ y m n. m))
 taken {x = x} {l = z ∷ l} (Memᴰ.tail m) =
@@ -110,7 +111,7 @@ side_pinned xs us o s =
     (once_most us (distinct xs) o (λ x m. distinct_has xs x ((s x).0 m)))
 
 pub side_masks : (xs ys : List ℕ) → SameMasks xs ys → side_adders xs ≡ side_adders ys
-side_masks xs ys s = side_pinned xs (distinct ys) (distinct_once ys) (λ x. Iff·trans (distinct_masks ys x) (Iff·symm (s x)))
+side_masks xs ys s = side_pinned xs (distinct ys) (distinct_once ys) (λ x. iff.trans (distinct_masks ys x) (iff.symm (s x)))
 
 pub side_most : (xs : List ℕ) → side_adders xs ≤ adders_of xs
 side_most xs = once_most (distinct xs) xs (distinct_once xs) (distinct_from xs)

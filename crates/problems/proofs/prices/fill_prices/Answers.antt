@@ -27,14 +27,12 @@ returns-in_default c =
 pub fill_costs-requires : goal.fill_costs-requires
 fill_costs-requires c =
     let a = c.args in
-    let n = c.n-1.given in
     map_made a.shape a.costs.now a.c c.requires (sym c.is_list.ensures ∙ c.if-is_list.false)
-    n.0.0 n.0.1.0 n.0.1.1.0 (c.sizes_of.ensures ∙ ap seen_sizes n.1)
+    c.in-Are.n c.in-Are.m c.in-Are.field-2 (c.sizes_of.ensures ∙ ap seen_sizes c.in-Are.is)
 
 pub returns : goal.returns
 returns c =
     let a = c.args in
-    let n = c.n-1.given in
     map_filled a.shape a.costs.now a.c c.requires (sym c.is_list.ensures ∙ c.if-is_list.false)
-    n.0.0 n.0.1.0 n.0.1.1.0 (c.sizes_of.ensures ∙ ap seen_sizes n.1) _
+    c.in-Are.n c.in-Are.m c.in-Are.field-2 (c.sizes_of.ensures ∙ ap seen_sizes c.in-Are.is) _
     c.fill_costs.ensures

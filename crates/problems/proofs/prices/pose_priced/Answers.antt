@@ -13,7 +13,6 @@ returns-in_default c =
 
 pub returns : goal.returns
 returns c =
-    let kind = c.kind-1.given in
     let a = c.args in
-    priced_kind_laid a.number a.p a.q a.r a.gs.now a.ts.now a.costs.now _ _ _ kind.0.0 _
-    (c.kind_numbered.ensures ∙ ap seen_kind kind.1) c.pose_priced_shape.ensures
+    priced_kind_laid a.number a.p a.q a.r a.gs.now a.ts.now a.costs.now _ _ _ c.in-Is.kind _
+    (c.kind_numbered.ensures ∙ ap seen_kind c.in-Is.is) c.pose_priced_shape.ensures

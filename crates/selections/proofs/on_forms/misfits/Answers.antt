@@ -1,0 +1,16 @@
+-- `selections::on_forms::misfits` meets its contract. Assumes nothing.
+use borrow.Author.Rules.{rules}
+use Rattle.selections.specs.on_forms.laws.Marking.{misfit_outside, misfit_twice}
+use Rattle.words.proofs.lists.repeats.Reads as repeats-reads
+use Rattle.words.proofs.lists.any_outside.Reads as any-outside-reads
+use Rattle.selections.proofs.on_forms.misfits.Goals as goal
+
+pub returns-then-any_outside : goal.returns-then-any_outside
+returns-then-any_outside c = misfit_outside c.args.n c.args.sel.now c.any_outside.result c.any_outside.ensures c.if-any_outside.true
+
+pub returns : goal.returns
+returns c =
+    let args = c.args in
+    let any-outside = c.any_outside in
+    misfit_twice args.n args.sel.now any-outside.result c.repeats.result any-outside.ensures c.if-any_outside.false
+    c.repeats.ensures
