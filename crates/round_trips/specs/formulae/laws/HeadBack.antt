@@ -3,29 +3,27 @@
 --   cut_first      a text without c is cut off whole before the first c
 --   field_back, name_back, head_back   a printed field, a fixed line and the first two lines
 -- Assumes nothing.
-use Prim.Native.Nat.{ℕ, zero, suc, ◌+◌, ◌*◌, ◌/◌, ◌%◌, ◌^◌, ◌<◌, ◌≤◌}
+use Prim.Native.Nat.{ℕ, zero, suc, ◌+◌, ◌/◌, ◌%◌, ◌^◌, ◌<◌, ◌≤◌}
 use Rattle.std.specs.Prelude.{◌≡◌, Bool, cond, get_or, ltb}
 use Rattle.std.proofs.Math.Path.{refl}
-use Rattle.std.proofs.Common.{ap, ◌∙◌, pow-suc, div-add-mod', mod-lt, div-lt_iff_lt-mul, zero-mul, one-mul, le-leb, eq-eqb, ne_eqb, ltb-true, ltb-false}
+use Rattle.std.proofs.Common.{ap, ◌∙◌, eq-eqb, ne_eqb, ltb-true, ltb-false}
 use mathlib.Core.List.{List, [], ◌∷◌, ◌++◌}
 use Rattle.std.proofs.Math.Bool.{true, false}
-use Rattle.std.proofs.Math.Option.{Option, none, some}
+use Rattle.std.proofs.Math.Option.{Option, some}
 use native.Mathlib.Omega.{arith}
 use Rattle.std.proofs.Math.Nat.{pow-zero}
 use Rattle.std.proofs.Math.ListN.{length, length-append, get_or-append}
-use Rattle.std.proofs.lemmas.Bool.{lt-leb}
 use Rattle.kinds.specs.declared.Kind.{Kind}
 use Rattle.kinds.specs.declared.Shape.{Shape}
 use Rattle.kinds.specs.Kinds.{name_of, kind_named_law}
 use Rattle.kinds.specs.names.laws.Same.{same_self}
 use Rattle.kinds.specs.names.laws.Names.{Plain, name_plain}
-use Rattle.text.specs.Reading.{◌>>=◌}
-use Rattle.text.specs.Numeral.{digit, digits, numeral, count, mask}
+use Rattle.text.specs.Numeral.{numeral, count, mask}
 use Rattle.text.specs.Line.{LF, comma, cut, name_line, field}
 use Rattle.text.specs.heads.Head.{head_names, count_fields, head_lines}
 use Rattle.printing.specs.Print.{digit_byte, numeral_text, count_text, mask_text}
 use Rattle.formula_text.specs.HeadText.{fields_text, file_head}
-use Rattle.text.specs.laws.Numeral.{digits_cons, numeral_one, numeral_more}
+use Rattle.text.specs.laws.Numeral.{numeral_one, numeral_more}
 use Rattle.text.specs.laws.Line.{name_is, field_is}
 use Rattle.text.specs.heads.laws.Head.{fields_is, head_is, heads_is}
 use Rattle.printing.specs.laws.Digits.{below, above, digits_back}
