@@ -9,31 +9,27 @@ use Rattle.records.specs.Keep.{state_of}
 use Rattle.catalogue.specs.meeting.laws.Meeting.{met_entries}
 use Rattle.catalogue.specs.meeting.laws.Cheapest.{cheapest_met, formula_length}
 use Rattle.catalogue.specs.declared.noting.Aim.TheVariants as aim
-use Rattle.catalogue.proofs.meeting.cheapest_formula.Statement.{statement}
-use Rattle.catalogue.proofs.meeting.cheapest_formula.Tie as tie
+use Rattle.catalogue.proofs.meeting.cheapest_formula.Goals as goal
 
 not_none : {n : ℕ} → n ≡ 1 → n ≡ 0 → ⊥
 not_none o z = omega (arith, o, z)
 
-meet-all-requires : tie.Need-meet-all-requires
-meet-all-requires c κs =
-    let A = c.before.before.before.before.before.requires in
+pub meet_all-t-requires : goal.meet_all-t-requires
+meet_all-t-requires c =
+    let A = c.requires in
     record { small = A.small; valid = A.valid; least = A.least; near = A.near; menu = A.priced; steady = A.room }
 
-same_length : tie.Need-same-length
-same_length c = c.before.before.before.meet_all.auto.1.1.1.1.1.1.0
+pub shape_of-held : goal.shape_of-held
+shape_of-held c = c.meet_all-t.auto.out
 
-returns : tie.Need-returns
+pub returns : goal.returns
 returns c targets B =
-    let a = c.before.before.before.before.before.before.before.before.before.args in
-    let A = c.before.before.before.before.before.before.before.before.before.requires in
-    let M = c.before.before.before.meet_all in
+    let a = c.args in
+    let A = c.requires in
+    let M = c.meet_all-t in
     let gens = a.gens.now in
-    let last = M.new.1.1.1.1.1.1.0 in
+    let last = M.new.out in
     cheapest_met gens a.order.now a.prices.now a.k targets (state_of M.result last) a.held.now (not (eqb M.result.found 0))
     (formula_length gens a.order.now a.prices.now targets a.k A.by_price_law A.priced.each A.small)
     (met_entries gens a.b a.k aim.Cheapest a.order.now a.prices.now a.held.now last M.result A.least M.ensures targets B)
     (λ z. ap not (eq-eqb M.result.found 0 z)) (λ o. ap not (ne_eqb M.result.found 0 (not_none o)))
-
-pub cheapest-formula-spec : {M : Type 1} → statement M
-cheapest-formula-spec = tie.close (tie.spec meet-all-requires same_length returns)
