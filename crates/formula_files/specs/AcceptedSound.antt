@@ -1,7 +1,7 @@
 -- What is accepted is sound.
 --   formula_accepted_sound   a formula that is read is one that is not refused, and the lent buffers take it
 -- Assumes nothing.
-use Rattle.std.specs.Prelude.{ℕ, ◌≤◌, ◌≡◌, List, false, ◌||◌, ltb, length}
+use Rattle.std.specs.Prelude.{ℕ, ◌≤◌, ◌≡◌, List, ◌||◌, ltb, length}
 use Rattle.std.proofs.Common.{sym, ap, ◌∙◌, subst, ltb-false}
 use Rattle.std.proofs.Math.Option.{some}
 use Rattle.kinds.specs.Limits.{most_products}

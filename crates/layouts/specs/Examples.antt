@@ -3,7 +3,7 @@ use Rattle.std.specs.Prelude.{◌≡◌, refl, List, [], ◌∷◌, ℕ}
 use Rattle.linear.specs.Planes.{Three, n0, n1, n2, coord3}
 use Rattle.linear.specs.Bit.{bit}
 use Rattle.layouts.specs.declared.Layout.TheVariants as layout
-use Rattle.layouts.specs.Layout.{joined, planes, pairs, vectors, word_bits}
+use Rattle.layouts.specs.Layout.{joined, planes, pairs, vectors}
 
 -- Two words, low first.
 wide_read : vectors layout.Wide (5 ∷ 1 ∷ 7 ∷ 0 ∷ []) ≡ 18446744073709551621 ∷ 7 ∷ []

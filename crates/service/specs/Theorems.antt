@@ -4,8 +4,8 @@
 --   check_read_enough               what the Check program reads of an input, at most 65,537 bytes, is answered as the whole input
 -- The definitions: formula_file (formula_files), verdict (formula_check), RightFormula and FormulaDiffers (formula_check, meaning), check_file (Service),
 -- admitted_text, reply_of and bytes_of (check_text). Assumes nothing.
-use Rattle.std.specs.Prelude.{◌≡◌, refl, Bool, true, false, cond, List, ◌++◌, ◌⊎◌, ◌↔◌, ℕ, ◌<◌, ◌≤◌, length, take, drop, ltb}
-use Rattle.std.proofs.Common.{sym, ap, ◌∙◌, subst, inl, inr, arith}
+use Rattle.std.specs.Prelude.{◌≡◌, refl, Bool, true, false, List, ◌++◌, ◌⊎◌, ◌↔◌, ℕ, ◌<◌, ◌≤◌, length, take, drop, ltb}
+use Rattle.std.proofs.Common.{ap, inl, inr, arith}
 use Rattle.std.proofs.Math.Option.{Option, none, some}
 use Rattle.kinds.specs.Limits.{most_products, most_targets}
 use Rattle.kinds.specs.laws.Sizes.{sizes_bounds}

@@ -1,8 +1,6 @@
 -- `bases::basis_of` meets its contract: the vectors to come, put into the basis so far, make the basis of all. Assumes nothing.
-use Prim.Native.Nat.{◌-◌}
 use native.Mathlib.Omega.{arith}
-use lib.ListN.{length}
-use Rattle.bases.proofs.Growing.{Basing, basing_start, basing_next, basing_end}
+use Rattle.bases.proofs.Growing.{basing_start, basing_next, basing_end}
 use Rattle.bases.proofs.basis_of.Goals as goal
 
 pub loop-i-init : goal.loop-i-init

@@ -1,8 +1,7 @@
 -- `bases::basis_of` meets its contract: the vectors to come, put into the basis so far, make the basis of all. Assumes nothing.
 use Prim.Native.Nat.{◌-◌}
-use native.Mathlib.Omega.{arith}
 use lib.ListN.{length}
-use Rattle.bases.proofs.Growing.{Basing, basing_start, basing_next, basing_end}
+use Rattle.bases.proofs.Growing.{Basing}
 use Rattle.bases.proofs.basis_of.Given as goal
 
 abbrev pub invariant-loop-i : goal.invariant-loop-i

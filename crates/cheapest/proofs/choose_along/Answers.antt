@@ -1,7 +1,6 @@
 -- `cheapest::choose_along` meets its contract: the cost, and behind it the numbers taken. Assumes nothing.
 use mathlib.Core.Path.{◌∙◌}
 use native.Mathlib.Omega.{arith}
-use borrow.Author.Rules.{rules}
 use lib.ListN.{length-set}
 use Rattle.cheapest.specs.laws.Offers.{taken_costed, taken_room, written_whole}
 use Rattle.cheapest.proofs.choose_along.Goals as goal

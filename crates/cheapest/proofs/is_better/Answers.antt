@@ -1,5 +1,4 @@
 -- `cheapest::is_better` meets its contract. Assumes nothing.
-use borrow.Author.Rules.{rules}
 use Rattle.cheapest.specs.laws.Offers.{better_later}
 use Rattle.cheapest.proofs.is_better.Goals as goal
 

@@ -1,5 +1,4 @@
 -- `cheapest::keep` meets its contract. Assumes nothing.
-use borrow.Author.Rules.{rules}
 use Rattle.cheapest.specs.laws.Offers.{candidate_room, offered_is}
 use Rattle.cheapest.proofs.keep.Goals as goal
 

@@ -1,8 +1,6 @@
 -- `cheapest::precedes` meets its contract: the lists agree so far, and the rest decides. Assumes nothing.
-use Prim.Native.Nat.{◌-◌}
 use native.Mathlib.Omega.{arith}
-use lib.ListN.{length}
-use Rattle.cheapest.specs.laws.Totals.{Comparing, comparing_start, comparing_less, comparing_greater, comparing_next, comparing_end}
+use Rattle.cheapest.specs.laws.Totals.{comparing_start, comparing_less, comparing_greater, comparing_next, comparing_end}
 use Rattle.cheapest.proofs.precedes.Goals as goal
 
 pub loop-i-init : goal.loop-i-init

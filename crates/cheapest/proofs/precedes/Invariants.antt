@@ -1,8 +1,7 @@
 -- `cheapest::precedes` meets its contract: the lists agree so far, and the rest decides. Assumes nothing.
 use Prim.Native.Nat.{◌-◌}
-use native.Mathlib.Omega.{arith}
 use lib.ListN.{length}
-use Rattle.cheapest.specs.laws.Totals.{Comparing, comparing_start, comparing_less, comparing_greater, comparing_next, comparing_end}
+use Rattle.cheapest.specs.laws.Totals.{Comparing}
 use Rattle.cheapest.proofs.precedes.Given as goal
 
 abbrev pub invariant-loop-i : goal.invariant-loop-i

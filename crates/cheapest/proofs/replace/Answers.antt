@@ -1,6 +1,5 @@
 -- `cheapest::replace` meets its contract. Assumes nothing.
 use mathlib.Core.Path.{sym, ap, ◌∙◌}
-use borrow.Author.Rules.{rules}
 use lib.ListN.{length}
 use lib.Seq.{length-take-le}
 use Rattle.cheapest.specs.laws.Offers.{replaced_yes, replaced_no}

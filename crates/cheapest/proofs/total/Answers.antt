@@ -1,8 +1,6 @@
 -- `cheapest::total` meets its contract: the prices so far, and those to come. Assumes nothing.
-use Prim.Native.Nat.{◌-◌}
 use native.Mathlib.Omega.{arith}
-use lib.ListN.{length}
-use Rattle.cheapest.specs.laws.Totals.{Summing, summing_start, number_there, summing_small, summing_next, summing_end}
+use Rattle.cheapest.specs.laws.Totals.{summing_start, number_there, summing_small, summing_next, summing_end}
 use Rattle.cheapest.proofs.total.Goals as goal
 
 pub loop-k-init : goal.loop-k-init

@@ -1,7 +1,6 @@
 -- `forms::coordinate` meets its contract: the masked bit is the coordinate, and a word has none from 64 on. Assumes nothing.
 use mathlib.Core.Path.{sym}
 use native.Mathlib.Omega.{arith}
-use borrow.Author.Rules.{rules}
 use Rattle.linear.specs.laws.Bit.{bit_below}
 use Rattle.linear.specs.laws.Shift.{bit_test}
 use Rattle.forms.proofs.coordinate.Goals as goal

@@ -1,8 +1,7 @@
 -- `forms::reduce_rows` meets its contract: what the rows from i on leave of x is what all the rows leave of v. Assumes nothing.
 use mathlib.Core.Path.{◌≡◌, refl, sym, ap₂, ◌∙◌}
-use mathlib.Core.Logic.{⊎_elim}
 use mathlib.Core.List.{List}
-use Prim.Native.Nat.{ℕ, ◌+◌, ◌-◌, ◌<◌, ◌≤◌}
+use Prim.Native.Nat.{ℕ, ◌+◌, ◌<◌}
 use native.Mathlib.Numerals.{add-one}
 use native.Mathlib.Omega.{arith}
 use lib.ListN.{length, drop, get_or}
@@ -29,7 +28,8 @@ loop-i-preserved c =
     let b : ℕ = get_or rs l.i 0 in
     let go = turn rs l.i l.x (reduce word rs a.v) (omega arith) l.invariant.1 c.if-w-x.x in (
       omega arith,
-      elim c.if-w-x.branch [ then-w-x w ↦ go (w.x-is ∙ sym (clear_less b l.x w.if-w-x.true)) | else-w-x w ↦ go (w.x-is ∙ sym (clear_not b l.x w.if-w-x.false)) ],
+      elim c.if-w-x.branch [ then-w-x w ↦ go (w.x-is ∙ sym (clear_less b l.x w.if-w-x.true)) | else-w-x w ↦ go (w.x-is ∙ sym (clear_not b l.x
+          w.if-w-x.false)) ],
     )
 
 pub returns : goal.returns

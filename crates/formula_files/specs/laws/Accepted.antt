@@ -2,7 +2,7 @@
 --   file_inv   its first two lines, the tests of 2 to 8, and room in the buffers
 -- Assumes nothing.
 use Rattle.std.specs.Prelude.{ℕ, ◌≡◌, List, false}
-use Rattle.std.proofs.Common.{sym, ◌∙◌, subst}
+use Rattle.std.proofs.Common.{subst}
 use Rattle.std.proofs.Math.Option.{some}
 use Rattle.kinds.specs.Refusal.{accepted}
 use Rattle.kinds.specs.laws.Refusal.{accepted_inj, need_inv, refuse_inv, follow_inv}

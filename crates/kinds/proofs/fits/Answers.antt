@@ -1,11 +1,8 @@
 -- `kinds::fits` meets its contract: y is at most 64 / x exactly if x × y is at most 64. Assumes nothing.
-use mathlib.Core.Path.{◌≡◌, sym, ◌∙◌}
-use Prim.Native.Nat.{ℕ, ◌*◌, ◌/◌, ◌≤◌}
-use native.Mathlib.Nat.{le-div_iff_mul-le, mul_comm}
+use mathlib.Core.Path.{sym}
 use native.Mathlib.Omega.{arith}
-use borrow.Author.Rules.{rules}
 use Rattle.kinds.specs.Sizes.{within}
-use Rattle.kinds.specs.laws.Sizes.{Within, within_yes, is_not, within_quotient}
+use Rattle.kinds.specs.laws.Sizes.{within_yes, is_not, within_quotient}
 use Rattle.kinds.proofs.fits.Goals as goal
 
 pub returns-then-x-eq0 : goal.returns-then-x-eq0

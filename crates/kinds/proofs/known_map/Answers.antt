@@ -2,10 +2,8 @@
 use mathlib.Core.Path.{sym, ap, ◌∙◌}
 use mathlib.Core.Bool.{Bool, cond}
 use mathlib.Core.Option.{none, some}
-use borrow.Author.Rules.{rules}
 use Rattle.kinds.specs.Kinds.{known_map, seen_kind}
 use Rattle.kinds.specs.declared.Known.{Known}
-use Rattle.kinds.proofs.is_list.Reads as is-list-reads
 use Rattle.kinds.proofs.known_map.Goals as goal
 
 pub returns-else-is_list : goal.returns-else-is_list

@@ -1,11 +1,9 @@
 -- `kinds::list_sizes` meets its contract. Assumes nothing.
-use mathlib.Core.Path.{◌≡◌, sym, ◌∙◌}
-use mathlib.Core.Bool.{true, false, true≢false, false≢true}
+use mathlib.Core.Path.{sym, ◌∙◌}
+use mathlib.Core.Bool.{true≢false}
 use native.Mathlib.Omega.{arith}
-use borrow.Author.Rules.{rules}
 use borrow.Author.Tests.{not-true, not-false}
 use Rattle.kinds.specs.laws.Sizes.{list_is, list_not}
-use Rattle.kinds.proofs.fits.Reads as fits-reads
 use Rattle.kinds.proofs.list_sizes.Goals as goal
 
 pub returns-then-q-eq0 : goal.returns-then-q-eq0

@@ -1,12 +1,10 @@
 -- `kinds::mat_sizes` meets its contract. Assumes nothing.
-use mathlib.Core.Path.{◌≡◌, sym, ◌∙◌}
-use mathlib.Core.Bool.{true, false, true≢false, false≢true}
+use mathlib.Core.Path.{sym, ◌∙◌}
+use mathlib.Core.Bool.{true≢false}
 use Prim.Native.Nat.{◌*◌}
 use native.Mathlib.Omega.{arith}
-use borrow.Author.Rules.{rules}
 use borrow.Author.Tests.{not-true, not-false}
 use Rattle.kinds.specs.laws.Sizes.{within_yes, within_of, mat_is, mat_not, mat_within}
-use Rattle.kinds.proofs.fits.Reads as fits-reads
 use Rattle.kinds.proofs.mat_sizes.Goals as goal
 
 pub returns-then-not-fits : goal.returns-then-not-fits

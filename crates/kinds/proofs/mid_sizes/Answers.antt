@@ -4,7 +4,6 @@ use mathlib.Core.Bool.{true≢false}
 use mathlib.Core.Option.{some}
 use Prim.Native.Nat.{ℕ}
 use native.Mathlib.Omega.{arith}
-use borrow.Author.Rules.{rules}
 use borrow.Author.Tests.{not-true, not-false}
 use Rattle.kinds.specs.laws.Sizes.{Within, within_yes, within_of, mid_is, mid_not}
 use Rattle.kinds.proofs.mid_sizes.Goals as goal

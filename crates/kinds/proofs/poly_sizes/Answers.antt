@@ -1,10 +1,8 @@
 -- `kinds::poly_sizes` meets its contract. Assumes nothing.
-use mathlib.Core.Path.{◌≡◌, sym, ◌∙◌}
-use mathlib.Core.Bool.{true, false, true≢false, false≢true}
+use mathlib.Core.Path.{sym, ◌∙◌}
+use mathlib.Core.Bool.{true≢false}
 use native.Mathlib.Omega.{arith}
-use borrow.Author.Rules.{rules}
 use Rattle.kinds.specs.laws.Sizes.{within_yes, poly_is, poly_not}
-use Rattle.kinds.proofs.fits.Reads as fits-reads
 use Rattle.kinds.proofs.poly_sizes.Goals as goal
 
 pub returns-then-r-ne0 : goal.returns-then-r-ne0

@@ -1,10 +1,4 @@
 -- `kinds::sizes_of` meets its contract. Assumes nothing.
-use borrow.Author.Rules.{rules}
-use Rattle.kinds.proofs.list_sizes.Reads as list-sizes-reads
-use Rattle.kinds.proofs.mat_sizes.Reads as mat-sizes-reads
-use Rattle.kinds.proofs.mid_sizes.Reads as mid-sizes-reads
-use Rattle.kinds.proofs.poly_sizes.Reads as poly-sizes-reads
-use Rattle.kinds.proofs.square_sizes.Reads as square-sizes-reads
 use Rattle.kinds.proofs.sizes_of.Goals as goal
 
 pub returns-in-Poly : goal.returns-in-Poly

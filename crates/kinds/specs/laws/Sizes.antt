@@ -5,8 +5,8 @@
 --   map_few        p, q and r are at most 64, but for list
 --   poly_some, square_some, mid_some   what sizes of poly, of short and circ, and of mid, say of p, q and r
 -- Assumes nothing.
-use Rattle.std.specs.Prelude.{◌≡◌, refl, Bool, true, false, not, ℕ, zero, suc, ◌+◌, ◌-◌, ◌*◌, ◌/◌, ◌≤◌, ◌<◌, leb, eqb}
-use Rattle.std.proofs.Common.{sym, ap, ap₂, ◌∙◌, subst, true≢false, le-mul_of_pos_right, mul_comm, mul-le-mul, le_trans, mul_assoc, mul_left_comm, suc-mul, le-div_iff_mul-le, arith, leb-true, le-leb, eqb-true, eq-eqb}
+use Rattle.std.specs.Prelude.{◌≡◌, refl, Bool, true, false, ℕ, zero, suc, ◌+◌, ◌-◌, ◌*◌, ◌/◌, ◌≤◌, leb, eqb}
+use Rattle.std.proofs.Common.{sym, ap, ap₂, ◌∙◌, subst, true≢false, le-mul_of_pos_right, mul_comm, mul-le-mul, suc-mul, le-div_iff_mul-le, arith, leb-true, le-leb, eqb-true, eq-eqb}
 use Rattle.std.proofs.Math.Bool.{◌&&◌, and-eq-true_iff}
 use Rattle.std.proofs.lemmas.Bool.{false≢true, lt-leb}
 use Rattle.std.proofs.Math.Option.{Option, none, some}

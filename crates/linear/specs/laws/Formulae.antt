@@ -13,9 +13,9 @@ use Rattle.std.proofs.Math.Option.{Option, none, some}
 use Prim.Native.Nat.{ℕ, ◌-◌}
 use Rattle.std.proofs.Math.ListN.{length}
 use Rattle.linear.specs.Space.{Space}
-use Rattle.linear.specs.Span.{Span, SameSpan, Independent}
+use Rattle.linear.specs.Span.{Span, Independent}
 use Rattle.linear.specs.Basis.{basis_of, inserts, Reduced, dim}
-use Rattle.linear.specs.Order.{Before, Rising, rising_lists, Ordered}
+use Rattle.linear.specs.Order.{Before, rising_lists, Ordered}
 use Rattle.linear.specs.Select.{only}
 use Rattle.linear.specs.Entry.{same_basis, chosen, Solution, space, entries}
 use Rattle.linear.specs.Formulae.{first, formulae, Formula}

@@ -16,7 +16,7 @@ use Rattle.linear.specs.Span.{Span}
 use Rattle.linear.specs.Basis.{reduce, insert, Reduced}
 use Rattle.linear.specs.Order.{Rising}
 use Rattle.linear.specs.Entry.{generator}
-use Rattle.linear.specs.Share.{Two, over, others}
+use Rattle.linear.specs.Share.{Two, others}
 use Rattle.linear.specs.Heavy.{rests, Fills}
 use Rattle.linear.specs.laws.Space.{add_comm, add_assoc, add_nul, nul_add, add_left_comm, zero_scale, one_scale}
 use Rattle.linear.specs.laws.Span.{mem_cons, cast, span_uncons, span_add, span_nul}
@@ -24,7 +24,7 @@ use Rattle.linear.specs.laws.Insert.{dec_nul, insert_reduced, insert_span, span_
 use Rattle.linear.specs.laws.Order.{rising_from, rising_mem, mem_map_inv, mem_append}
 use Rattle.linear.specs.laws.Share.{others_count, add_back}
 use Rattle.linear.specs.laws.Heavy.{rests_length, fills_one, rest_values, xs, made, xs_count}
-use Rattle.linear.specs.laws.Clash.{Clash, clash, clash_append, Twins, clash_rising, near, near_count, Near, near_mem}
+use Rattle.linear.specs.laws.Clash.{Clash, clash, clash_append, Twins, clash_rising, near, near_count, near_mem}
 use Rattle.linear.specs.laws.FormSum.{dec_vec, same_sum, form_sum, ShortRelation}
 
 -- ---- relations

@@ -1,11 +1,9 @@
 -- `maps::generator_cost` meets its contract: each mask has a one. Assumes nothing.
-use mathlib.Core.Path.{◌≡◌, ap, ap₂, ◌∙◌}
+use mathlib.Core.Path.{ap, ap₂, ◌∙◌}
 use Prim.Native.Nat.{ℕ, ◌+◌, ◌-◌}
 use native.Mathlib.Omega.{arith}
-use borrow.Author.Rules.{rules}
 use Rattle.forms.specs.Weight.{weight}
-use Rattle.maps.specs.Generators.{first_mask, second_mask}
-use Rattle.maps.specs.Costs.{generator_cost, Light, masks_light}
+use Rattle.maps.specs.Costs.{generator_cost, masks_light}
 use Rattle.maps.proofs.generator_cost.Goals as goal
 
 pub overflow_add-result : goal.overflow_add-result

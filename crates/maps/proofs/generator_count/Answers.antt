@@ -1,6 +1,5 @@
 -- `maps::generator_count` meets its contract: 13 variables on one side make too many, and with at most 12 nothing overflows. Assumes nothing.
 use native.Mathlib.Omega.{arith}
-use borrow.Author.Rules.{rules}
 use Rattle.maps.proofs.Counting.{count_is, count_many, count_none_left, count_none_right, many_left, many_right, low, counted, product_fits}
 use Rattle.maps.proofs.generator_count.Goals as goal
 

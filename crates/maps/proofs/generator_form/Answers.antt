@@ -1,6 +1,5 @@
 -- `maps::generator_form` meets its contract. Assumes nothing.
 use mathlib.Core.Path.{ap₂, ◌∙◌}
-use borrow.Author.Rules.{rules}
 use Rattle.forms.specs.products.Product.{product_form}
 use Rattle.maps.specs.Generators.{generator_form}
 use Rattle.maps.proofs.Counting.{numbered_mask}

@@ -1,9 +1,7 @@
 -- `maps::is_pair` meets its contract, kind by kind. Assumes nothing.
 use mathlib.Core.Path.{sym, ap, ◌∙◌}
 use native.Mathlib.Omega.{arith}
-use borrow.Author.Rules.{rules}
 use Rattle.kinds.specs.declared.Kind.{Kind}
-use Rattle.kinds.specs.laws.Sizes.{Within}
 use Rattle.maps.specs.Target.{pair_for}
 use Rattle.maps.proofs.Pairing.{row_off, inner_off, rest_left}
 use Rattle.maps.proofs.is_pair.Goals as goal

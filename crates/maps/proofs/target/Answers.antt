@@ -1,6 +1,5 @@
 -- `maps::target` meets its contract: a square poly size stands in the table. Assumes nothing.
 use mathlib.Core.Path.{sym, ◌∙◌}
-use borrow.Author.Rules.{rules}
 use Rattle.maps.specs.Accepted.{accepted_in_table, accepted_square}
 use Rattle.maps.proofs.target.Goals as goal
 

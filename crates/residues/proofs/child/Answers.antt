@@ -1,10 +1,8 @@
 -- `residues::child` meets its contract: the words so far are the residues, cleared. Assumes nothing.
 use mathlib.Core.Path.{refl, sym, ◌∙◌}
-use lib.ListN.{length}
-use Prim.Native.Nat.{◌-◌}
 use Rattle.linear.specs.Basis.{clear}
 use Rattle.linear.specs.Word.{word}
-use Rattle.residues.proofs.Loops.{Mapping, mapping_next, mapping_end}
+use Rattle.residues.proofs.Loops.{mapping_next, mapping_end}
 use native.Mathlib.Omega.{arith}
 use Rattle.residues.proofs.child.Goals as goal
 

@@ -1,8 +1,6 @@
 -- `residues::known` meets its contract: no residue so far is the one looked for. Assumes nothing.
-use mathlib.Core.Path.{◌≡◌, refl}
-use mathlib.Core.Logic.{◌≢◌}
-use Prim.Native.Nat.{ℕ, ◌-◌, ◌<◌, ◌≤◌}
-use lib.ListN.{get_or}
+use mathlib.Core.Path.{refl}
+use Prim.Native.Nat.{◌<◌}
 use borrow.Author.Count.{below_more}
 use Rattle.residues.specs.children.laws.Known.{known_zero, known_found, known_none}
 use native.Mathlib.Omega.{arith}

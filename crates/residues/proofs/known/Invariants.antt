@@ -1,11 +1,8 @@
 -- `residues::known` meets its contract: no residue so far is the one looked for. Assumes nothing.
-use mathlib.Core.Path.{◌≡◌, refl}
+use mathlib.Core.Path.{◌≡◌}
 use mathlib.Core.Logic.{◌≢◌}
 use Prim.Native.Nat.{ℕ, ◌-◌, ◌<◌, ◌≤◌}
 use lib.ListN.{get_or}
-use borrow.Author.Count.{below_more}
-use Rattle.residues.specs.children.laws.Known.{known_zero, known_found, known_none}
-use native.Mathlib.Omega.{arith}
 use Rattle.residues.proofs.known.Given as goal
 
 abbrev pub invariant-loop-i : goal.invariant-loop-i

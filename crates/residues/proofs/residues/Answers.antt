@@ -1,11 +1,9 @@
 -- `residues::residues` meets its contract: the words so far are the residues. Assumes nothing.
 use mathlib.Core.Path.{refl}
-use lib.ListN.{length}
-use Prim.Native.Nat.{◌-◌}
 use Rattle.linear.specs.Basis.{reduce}
 use Rattle.linear.specs.Word.{word}
 use Rattle.bases.specs.Basis.{rows_of}
-use Rattle.residues.proofs.Loops.{Mapping, mapping_next, mapping_end}
+use Rattle.residues.proofs.Loops.{mapping_next, mapping_end}
 use native.Mathlib.Omega.{arith}
 use Rattle.residues.proofs.residues.Goals as goal
 
@@ -21,4 +19,4 @@ loop-i-preserved c =
     mapping_next (reduce word (rows_of c.args.b)) c.args.gens.now l.out l.i c.requires.1 l.invariant (omega arith) c.reduce.result c.reduce.ensures
 
 pub returns : goal.returns
-returns c =let l = c.loop-i in mapping_end (reduce word (rows_of c.args.b)) c.args.gens.now l.out l.i l.invariant (omega arith)
+returns c = let l = c.loop-i in mapping_end (reduce word (rows_of c.args.b)) c.args.gens.now l.out l.i l.invariant (omega arith)

@@ -1,12 +1,10 @@
 -- `residues::residues` meets its contract: the words so far are the residues. Assumes nothing.
-use mathlib.Core.Path.{refl}
 use lib.ListN.{length}
 use Prim.Native.Nat.{◌-◌}
 use Rattle.linear.specs.Basis.{reduce}
 use Rattle.linear.specs.Word.{word}
 use Rattle.bases.specs.Basis.{rows_of}
-use Rattle.residues.proofs.Loops.{Mapping, mapping_next, mapping_end}
-use native.Mathlib.Omega.{arith}
+use Rattle.residues.proofs.Loops.{Mapping}
 use Rattle.residues.proofs.residues.Given as goal
 
 abbrev pub invariant-loop-i : goal.invariant-loop-i

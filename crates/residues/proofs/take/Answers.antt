@@ -1,18 +1,15 @@
 -- `residues::take` meets its contract: no number so far with the residue is flagged, and the generators to come, put into the basis so far, make the basis of all.
 -- Assumes nothing.
 use mathlib.Core.Path.{sym, subst}
-use mathlib.Core.Logic.{⊎_elim}
 use mathlib.Core.Bool.{true≢false, false≢true}
 use lib.ListN.{length}
-use Prim.Native.Nat.{◌+◌, ◌-◌, ◌<◌}
+use Prim.Native.Nat.{◌+◌, ◌<◌}
 use Rattle.bases.specs.Basis.{rows_of}
 use Rattle.bases.specs.declared.Basis.{Basis}
 use Rattle.residues.proofs.Loops.{Putting, putting_start, putting_in, putting_out, putting_end}
 use native.Mathlib.Omega.{arith}
 use Rattle.residues.proofs.take.Goals as goal
-use Rattle.residues.proofs.take.Goals.{else-h-i, then-h-i}
-
-}
+use Rattle.residues.proofs.take.Goals.{else-h-i, then-h-i+else-flags-i-ne0}
 
 pub loop-i-init : goal.loop-i-init
 loop-i-init c = putting_start c.args.gens.now c.args.h.now
@@ -27,6 +24,7 @@ returns-then-flags-i-ne0 c = record {
         c.if-h-i.true;
   };
   held = λ e. absurd (true≢false e);
+}
 
 pub insert-b-requires : goal.insert-b-requires
 insert-b-requires c = c.loop-i.invariant.valid
@@ -36,11 +34,16 @@ loop-i-preserved c =
     let l = c.loop-i in
     let a = c.args in
     let g : l.i < length a.gens.now = omega arith in
-    elim c.if-h-i.branch [ then-h-i w ↦ subst (λ (b : Basis). Putting a.gens.now a.h.now a.x (rows_of a.s) b (l.i + 1)) (sym w.5)
-    (putting_in a.gens.now a.h.now a.x (rows_of a.s) c.requires.1 l.b l.i
-    l.invariant g w.if-h-i.true w.4.result w.4.ensures) | else-h-i w ↦ subst (λ (b : Basis). Putting a.gens.now a.h.now a.x (rows_of a.s) b (l.i + 1)) (sym w.1)
-    (putting_out a.gens.now a.h.now a.x (rows_of a.s) c.requires.1 l.b l.i
-    l.invariant g w.if-h-i.false) ]
+    elim c.if-h-i.branch [
+      | then-h-i+else-flags-i-ne0 w ↦
+          subst (λ (b : Basis). Putting a.gens.now a.h.now a.x (rows_of a.s) b (l.i + 1)) (sym w.b-is)
+          (putting_in a.gens.now a.h.now a.x (rows_of a.s) c.requires.1 l.b l.i
+          l.invariant g w.if-h-i.true w.insert-b.result w.insert-b.ensures)
+      | else-h-i w ↦
+          subst (λ (b : Basis). Putting a.gens.now a.h.now a.x (rows_of a.s) b (l.i + 1)) (sym w.b-is)
+          (putting_out a.gens.now a.h.now a.x (rows_of a.s) c.requires.1 l.b l.i
+          l.invariant g w.if-h-i.false)
+    ]
 
 pub returns : goal.returns
 returns c =

@@ -1,14 +1,9 @@
 -- `residues::take` meets its contract: no number so far with the residue is flagged, and the generators to come, put into the basis so far, make the basis of all.
 -- Assumes nothing.
-use mathlib.Core.Path.{sym, subst}
-use mathlib.Core.Logic.{⊎_elim}
-use mathlib.Core.Bool.{true≢false, false≢true}
 use lib.ListN.{length}
-use Prim.Native.Nat.{◌+◌, ◌-◌, ◌<◌}
+use Prim.Native.Nat.{◌-◌}
 use Rattle.bases.specs.Basis.{rows_of}
-use Rattle.bases.specs.declared.Basis.{Basis}
-use Rattle.residues.proofs.Loops.{Putting, putting_start, putting_in, putting_out, putting_end}
-use native.Mathlib.Omega.{arith}
+use Rattle.residues.proofs.Loops.{Putting}
 use Rattle.residues.proofs.take.Given as goal
 
 abbrev pub invariant-loop-i : goal.invariant-loop-i

@@ -1,12 +1,8 @@
 -- `residues::with_residue` meets its contract: the generators to come, put into the basis so far, make the basis of all. Assumes nothing.
-use mathlib.Core.Path.{sym, subst}
-use mathlib.Core.Logic.{⊎_elim}
 use lib.ListN.{length}
-use Prim.Native.Nat.{◌+◌, ◌-◌, ◌<◌}
+use Prim.Native.Nat.{◌-◌}
 use Rattle.bases.specs.Basis.{rows_of}
-use Rattle.bases.specs.declared.Basis.{Basis}
-use Rattle.residues.proofs.Loops.{Putting, putting_start, putting_in, putting_out, putting_end}
-use native.Mathlib.Omega.{arith}
+use Rattle.residues.proofs.Loops.{Putting}
 use Rattle.residues.proofs.with_residue.Given as goal
 
 abbrev pub invariant-loop-i : goal.invariant-loop-i

@@ -1,5 +1,4 @@
 -- `text::digit_of` meets its contract. Assumes nothing.
-use borrow.Author.Rules.{rules}
 use borrow.Author.Tests.{le-leb, lt-leb}
 use native.Mathlib.Omega.{arith}
 use Rattle.text.proofs.digit_of.Goals as goal

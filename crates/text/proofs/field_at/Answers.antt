@@ -1,9 +1,8 @@
 -- `text::field_at` meets its contract. Assumes nothing.
-use borrow.Author.Rules.{rules}
 use mathlib.Core.Path.{ap, ◌∙◌}
 use native.Mathlib.Omega.{arith}
 use Rattle.text.specs.Views.{seen_number}
-use Rattle.text.specs.laws.Line.{Ends, ends, ends_length, cut_told, field_cut, field_not, field_is}
+use Rattle.text.specs.laws.Line.{ends, ends_length, cut_told, field_cut, field_not, field_is}
 use Rattle.text.proofs.field_at.Goals as goal
 
 pub returns-in_default : goal.returns-in_default

@@ -1,11 +1,8 @@
 -- `text::find` meets its contract. The invariant: what is left has the first c as far on as the whole has. Assumes nothing.
 use Prim.Native.Nat.{◌≤◌, ◌-◌, ◌+◌}
 use mathlib.Core.Path.{◌≡◌}
-use native.Mathlib.Omega.{arith}
-use borrow.Author.Rules.{rules}
 use lib.ListN.{length, drop}
 use Rattle.text.specs.Line.{till}
-use Rattle.text.specs.laws.Line.{till_here, till_later, till_end}
 use Rattle.text.proofs.find.Given as goal
 
 abbrev pub invariant-loop-i : goal.invariant-loop-i

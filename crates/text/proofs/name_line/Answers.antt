@@ -1,9 +1,7 @@
 -- `text::name_line` meets its contract. Assumes nothing.
-use borrow.Author.Rules.{rules}
 use mathlib.Core.Path.{sym, ◌∙◌}
 use native.Mathlib.Omega.{arith}
-use Rattle.text.specs.Line.{LF}
-use Rattle.text.specs.laws.Line.{Ends, ends, ends_length, cut_told, name_cut, name_other, name_is}
+use Rattle.text.specs.laws.Line.{ends, ends_length, cut_told, name_cut, name_other, name_is}
 use Rattle.text.proofs.name_line.Goals as goal
 
 pub returns-in_default : goal.returns-in_default

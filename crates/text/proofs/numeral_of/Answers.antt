@@ -1,15 +1,12 @@
 -- `text::numeral_of` meets its contract. The invariant: what is left to read, after the value so far, reads as the whole does. Assumes nothing.
-use Prim.Native.Nat.{◌≤◌, ◌<◌, ◌-◌, ◌^◌}
 use mathlib.Core.Path.{◌≡◌, refl, ◌∙◌}
-use mathlib.Core.Logic.{⊎_elim}
+use Rattle.std.proofs.Common.{eq-eqb, ne_eqb}
 use native.Mathlib.Omega.{arith}
 use native.Mathlib.Nat.{pow-zero}
-use borrow.Author.Rules.{rules}
-use lib.ListN.{length, drop}
-use Rattle.text.specs.Numeral.{digits, numeral}
+use lib.ListN.{length}
 use Rattle.text.specs.laws.Numeral.{digits_step, digits_stop, digits_end, bound, numeral_fits, numeral_empty, numeral_long, numeral_zero, numeral_one, numeral_more}
 use Rattle.text.proofs.numeral_of.Goals as goal
-use Rattle.text.proofs.numeral_of.Goals.{else-n-gt1, then-n-gt1}
+use Rattle.text.proofs.numeral_of.Goals.{else-n-gt1-via-else-n-gt1, else-n-gt1-via-then-n-gt1+else-s-eq48}
 
 pub returns-then-n-eq0 : goal.returns-then-n-eq0
 returns-then-n-eq0 c = numeral_empty _ _ _ c.if-n-eq0.true
@@ -18,7 +15,7 @@ pub returns-then-most-n : goal.returns-then-most-n
 returns-then-most-n c = numeral_long _ _ _ c.if-most-n.true
 
 pub returns-then-s-eq48 : goal.returns-then-s-eq48
-returns-then-s-eq48 c = numeral_zero _ _ _ c.if-n-gt1.true c.if-most-n.false c.if-s-eq48.true-raw
+returns-then-s-eq48 c = numeral_zero _ _ _ c.if-n-gt1.true c.if-most-n.false (eq-eqb _ _ c.if-s-eq48.true)
 
 pub loop-i-init : goal.loop-i-init
 loop-i-init c = (
@@ -26,7 +23,7 @@ loop-i-init c = (
   omega arith,
   c.if-most-n.false,
   rw pow-zero (omega arith),
-  elim c.if-n-gt1.branch [ then-n-gt1 w ↦ numeral_more _ _ _ w.if-n-gt1.true c.if-most-n.false w.2.left | else-n-gt1 w ↦ numeral_one _ _ _ c.if-n-eq0.false w.left c.if-most-n.false ],
+  elim c.else-n-gt1.branch [ else-n-gt1-via-then-n-gt1+else-s-eq48 w ↦ numeral_more _ _ _ w.if-n-gt1.true c.if-most-n.false (ne_eqb _ _ w.if-s-eq48.false) | else-n-gt1-via-else-n-gt1 w ↦ numeral_one _ _ _ c.if-n-eq0.false w.if-n-gt1.false c.if-most-n.false ],
 )
 
 pub returns-then-d-base : goal.returns-then-d-base

@@ -1,13 +1,8 @@
 -- `text::numeral_of` meets its contract. The invariant: what is left to read, after the value so far, reads as the whole does. Assumes nothing.
 use Prim.Native.Nat.{◌≤◌, ◌<◌, ◌-◌, ◌^◌}
-use mathlib.Core.Path.{◌≡◌, refl, ◌∙◌}
-use mathlib.Core.Logic.{⊎_elim}
-use native.Mathlib.Omega.{arith}
-use native.Mathlib.Nat.{pow-zero}
-use borrow.Author.Rules.{rules}
+use mathlib.Core.Path.{◌≡◌}
 use lib.ListN.{length, drop}
 use Rattle.text.specs.Numeral.{digits, numeral}
-use Rattle.text.specs.laws.Numeral.{digits_step, digits_stop, digits_end, bound, numeral_fits, numeral_empty, numeral_long, numeral_zero, numeral_one, numeral_more}
 use Rattle.text.proofs.numeral_of.Given as goal
 
 abbrev pub invariant-loop-i : goal.invariant-loop-i

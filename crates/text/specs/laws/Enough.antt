@@ -1,8 +1,8 @@
 -- A program reads no more than `input_room` bytes of its input.
 --   read_enough   what is `long` of every input of more than `most_bytes` bytes, and else f of it, is the same of what is read
 -- Assumes nothing.
-use Rattle.std.specs.Prelude.{◌≡◌, refl, Bool, cond, List, ℕ, ◌≤◌, ◌<◌, length, take, ltb}
-use Rattle.std.proofs.Common.{sym, ap, ap₂, ◌∙◌, arith, length-take-le, take_all, le-ltb, lt-ltb}
+use Rattle.std.specs.Prelude.{◌≡◌, Bool, cond, List, ℕ, ◌≤◌, ◌<◌, length, take, ltb}
+use Rattle.std.proofs.Common.{sym, ap, ◌∙◌, arith, length-take-le, take_all, lt-ltb}
 use Rattle.std.proofs.Math.Decide.{dec_le}
 use Rattle.text.specs.Limits.{most_bytes, input_room}
 

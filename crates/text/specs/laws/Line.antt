@@ -16,7 +16,7 @@ use Rattle.text.specs.Numeral.{numeral}
 use Rattle.text.specs.Line.{till, cut, LF, name_line, field}
 use Rattle.text.specs.Views.{seen_cut, bytes_cut, seen_used, bytes_used, seen_field, bytes_field}
 use Rattle.text.specs.declared.Cut.{Cut}
-use Rattle.text.specs.declared.Cut.TheVariants.{At, No}
+use Rattle.text.specs.declared.Cut.TheVariants.{At}
 use Rattle.text.specs.declared.Used.{Used}
 use Rattle.text.specs.declared.Used.TheVariants as used
 use Rattle.text.specs.declared.FieldRead.{FieldRead}

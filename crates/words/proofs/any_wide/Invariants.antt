@@ -1,12 +1,8 @@
 -- `words::any_wide` meets its contract. Assumes nothing.
-use mathlib.Core.Path.{◌≡◌, refl, sym, ◌∙◌}
-use Prim.Native.Nat.{◌+◌, ◌-◌, ◌≤◌}
-use mathlib.Core.Bool.{Bool, ◌||◌}
+use mathlib.Core.Path.{◌≡◌}
+use Prim.Native.Nat.{◌-◌, ◌≤◌}
 use lib.ListN.{length, drop}
-use borrow.Author.Rules.{rules}
 use Rattle.words.specs.Masks.{wide}
-use Rattle.words.specs.laws.Scan.{wide_turn, wide_end}
-use native.Mathlib.Omega.{arith}
 use Rattle.words.proofs.any_wide.Given as goal
 
 abbrev pub invariant-loop-i : goal.invariant-loop-i

@@ -1,8 +1,5 @@
 -- `words::any_zero` meets its contract. Assumes nothing.
-use mathlib.Core.Path.{◌≡◌, refl}
-use Prim.Native.Nat.{◌-◌, ◌≤◌}
-use lib.ListN.{length, drop}
-use Rattle.words.specs.Masks.{zero_in}
+use mathlib.Core.Path.{refl}
 use Rattle.words.specs.laws.Scan.{zero_turn, zero_end}
 use borrow.Author.Tests.{eq-eqb, ne_eqb}
 use native.Mathlib.Omega.{arith}

@@ -1,11 +1,8 @@
 -- `words::any_zero` meets its contract. Assumes nothing.
-use mathlib.Core.Path.{◌≡◌, refl}
+use mathlib.Core.Path.{◌≡◌}
 use Prim.Native.Nat.{◌-◌, ◌≤◌}
 use lib.ListN.{length, drop}
 use Rattle.words.specs.Masks.{zero_in}
-use Rattle.words.specs.laws.Scan.{zero_turn, zero_end}
-use borrow.Author.Tests.{eq-eqb, ne_eqb}
-use native.Mathlib.Omega.{arith}
 use Rattle.words.proofs.any_zero.Given as goal
 
 abbrev pub invariant-loop-i : goal.invariant-loop-i

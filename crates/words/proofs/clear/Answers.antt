@@ -1,10 +1,9 @@
 -- `words::clear` meets its contract. The invariant: the words passed are 0 and the others as they were. Assumes nothing.
-use Prim.Native.Nat.{◌≤◌, ◌<◌, ◌-◌, ℕ}
+use Prim.Native.Nat.{◌<◌, ℕ}
 use mathlib.Core.Path.{◌≡◌, refl, ap, ◌∙◌}
 use native.Mathlib.Omega.{arith}
-use borrow.Author.Rules.{rules}
-use mathlib.Core.List.{List, ◌++◌, append-nil}
-use lib.ListN.{set, length, drop, replicate, length-set}
+use mathlib.Core.List.{List, append-nil}
+use lib.ListN.{set, length, length-set}
 use lib.Seq.{drop-length}
 use borrow.Author.Fill.{fill_none, fill_more}
 use Rattle.words.proofs.clear.Goals as goal

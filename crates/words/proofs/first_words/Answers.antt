@@ -1,7 +1,6 @@
 -- `words::first_words` meets its contract. Assumes nothing.
 use mathlib.Core.Path.{sym}
 use native.Mathlib.Omega.{arith}
-use borrow.Author.Rules.{rules}
 use lib.Seq.{take_all, length-take-le}
 use Rattle.words.proofs.first_words.Goals as goal
 

@@ -1,5 +1,4 @@
 -- `words::nil` meets its contract. Assumes nothing.
-use borrow.Author.Rules.{rules}
 use Rattle.words.proofs.nil.Goals as goal
 
 pub returns : goal.returns

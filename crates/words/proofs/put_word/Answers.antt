@@ -1,6 +1,5 @@
 -- `words::put_word` meets its contract. Assumes nothing.
 use mathlib.Core.Path.{sym}
-use borrow.Author.Rules.{rules}
 use lib.Seq.{set_out}
 use Rattle.words.proofs.put_word.Goals as goal
 

@@ -1,7 +1,6 @@
 -- `words::wider` meets its contract. Assumes nothing.
 use Prim.Native.Nat.{◌≤◌, ◌^◌}
 use native.Mathlib.Omega.{arith}
-use borrow.Author.Rules.{rules}
 use borrow.Author.Tests.{lt-ltb}
 use lib.Pow.{pow_mono}
 use Rattle.words.specs.laws.Masks.{shift_none}

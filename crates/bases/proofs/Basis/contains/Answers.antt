@@ -1,7 +1,6 @@
 -- `bases::Basis::contains` meets its contract. Assumes nothing.
 use mathlib.Core.Path.{◌≡◌, refl, ap, ◌∙◌}
 use Prim.Native.Nat.{ℕ, zero, suc}
-use borrow.Author.Rules.{rules}
 use lib.Dec.{eqb, eqb-suc-zero}
 use Rattle.linear.specs.Entry.{inside}
 use Rattle.linear.specs.Word.{is_zero}

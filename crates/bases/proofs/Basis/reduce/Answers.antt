@@ -1,6 +1,5 @@
 -- `bases::Basis::reduce` meets its contract. Assumes nothing.
 use mathlib.Core.Path.{sym}
-use borrow.Author.Rules.{rules}
 use Rattle.bases.specs.Basis.{rows_length}
 use Rattle.bases.proofs.Basis.reduce.Goals as goal
 

@@ -1,10 +1,8 @@
 -- `bases::rows::rest_of` meets its contract: the rows from i on, of what is left, leave and take what all do of v. Assumes nothing.
 use mathlib.Core.Path.{◌≡◌, sym, subst₂}
-use mathlib.Core.Logic.{⊎_elim}
 use mathlib.Core.List.{List}
-use Prim.Native.Nat.{ℕ, ◌+◌, ◌-◌}
+use Prim.Native.Nat.{ℕ, ◌+◌}
 use native.Mathlib.Omega.{arith}
-use lib.ListN.{length}
 use Rattle.bases.specs.rows.laws.Rest.{Resting, resting_start, resting_added, resting_kept, resting_end}
 use Rattle.bases.proofs.rows.rest_of.Goals as goal
 use Rattle.bases.proofs.rows.rest_of.Goals.{else-w-x, then-w-x}

@@ -1,11 +1,7 @@
 -- `bases::rows::rest_of` meets its contract: the rows from i on, of what is left, leave and take what all do of v. Assumes nothing.
-use mathlib.Core.Path.{◌≡◌, sym, subst₂}
-use mathlib.Core.Logic.{⊎_elim}
-use mathlib.Core.List.{List}
-use Prim.Native.Nat.{ℕ, ◌+◌, ◌-◌}
-use native.Mathlib.Omega.{arith}
+use Prim.Native.Nat.{◌-◌}
 use lib.ListN.{length}
-use Rattle.bases.specs.rows.laws.Rest.{Resting, resting_start, resting_added, resting_kept, resting_end}
+use Rattle.bases.specs.rows.laws.Rest.{Resting}
 use Rattle.bases.proofs.rows.rest_of.Given as goal
 
 abbrev pub invariant-loop-i : goal.invariant-loop-i

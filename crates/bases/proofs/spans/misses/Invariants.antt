@@ -1,12 +1,8 @@
 -- `bases::spans::misses` meets its contract. Assumes nothing.
-use native.Mathlib.Omega.{arith}
-use mathlib.Core.Path.{sym, ap, ◌∙◌}
-use mathlib.Core.Bool.{not}
 use Prim.Native.Nat.{◌-◌}
 use lib.ListN.{length}
 use Rattle.bases.specs.Basis.{rows_of}
-use Rattle.bases.specs.spans.laws.Missing.{Missing, missing_start, missing_found, missing_past, missing_end}
-use Rattle.bases.proofs.Basis.contains.Reads as contains-reads
+use Rattle.bases.specs.spans.laws.Missing.{Missing}
 use Rattle.bases.proofs.spans.misses.Given as goal
 
 abbrev pub invariant-loop-i : goal.invariant-loop-i

@@ -3,10 +3,10 @@
 --   nonzero_at, two_at   the bits of the masks
 -- Assumes nothing.
 use Rattle.std.specs.Prelude.{◌≡◌, refl, Bool, false, ◌&&◌, List, [], ◌∷◌, map, ℕ, zero, suc, get_or}
-use Rattle.std.proofs.Common.{sym, ap, ap₂, ◌∙◌}
+use Rattle.std.proofs.Common.{sym, ap₂, ◌∙◌}
 use Rattle.std.specs.Int.Bits.{bit_and}
 use Rattle.linear.specs.Bit.{bit}
-use Rattle.linear.specs.Planes.{Three, n0, n1, n2, trit}
+use Rattle.linear.specs.Planes.{Three, n0, n1, n2}
 use Rattle.linear.specs.laws.Bit.{bit_of_and, bit_ext}
 use Rattle.linear.specs.laws.Planes.{nonzero, is_two}
 use Rattle.bases.specs.rows.Rows.{mask_of}

@@ -4,7 +4,7 @@
 --   row_fits     it has a digit for each product
 --   rows_length  how many words the rows have
 -- Assumes nothing.
-use Rattle.std.specs.Prelude.{◌≡◌, refl, List, [], ◌∷◌, map, ℕ, zero, suc, ◌+◌, ◌*◌, ◌^◌, ◌<◌, ◌≤◌, length, get_or}
+use Rattle.std.specs.Prelude.{◌≡◌, refl, List, [], ◌∷◌, map, ℕ, zero, suc, ◌+◌, ◌^◌, ◌<◌, length, get_or}
 use Rattle.std.proofs.Common.{sym, ap, ap₂, ◌∙◌, subst, zero-add, arith}
 use Rattle.std.proofs.Math.Decide.{dec_lt}
 use Rattle.std.proofs.lemmas.List.{length-map}
@@ -19,7 +19,7 @@ use Rattle.linear.specs.laws.Coefficients.{coefficients_length, coefficients_sum
 use Rattle.linear.specs.laws.Planes.{nonzero, is_two, planes_ext, add3, scale3}
 use Rattle.layouts.specs.declared.Layout.{Layout}
 use Rattle.layouts.specs.declared.Layout.TheVariants as layout
-use Rattle.layouts.specs.Layout.{form_space, row_words, apart}
+use Rattle.layouts.specs.Layout.{form_space, row_words}
 use Rattle.layouts.specs.laws.Layout.{apart_length}
 use Rattle.bases.specs.rows.Rows.{mask_of, row_of}
 use Rattle.bases.specs.rows.Layouts.{Row, digits_of, row_digits, row_in, row_sum, RowFits, rows_in}

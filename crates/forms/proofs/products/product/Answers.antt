@@ -1,11 +1,10 @@
 -- `forms::products::product` meets its contract: after i turns the form has the rows of the first i variables a. Assumes nothing.
 use mathlib.Core.Path.{◌≡◌, ap, ◌∙◌}
-use mathlib.Core.Logic.{⊎_elim}
 use Prim.Native.Nat.{ℕ, ◌-◌, ◌^◌, min}
 use native.Mathlib.Omega.{arith}
 use lib.Bits.{bit_and}
 use Rattle.forms.specs.products.Product.{form_of, term, product_form}
-use Rattle.forms.proofs.Making.{Making, Small, making_start, making_end, making_small, making_set, making_unset}
+use Rattle.forms.proofs.Making.{Small, making_start, making_end, making_small, making_set, making_unset}
 use Rattle.forms.proofs.products.product.Goals as goal
 use Rattle.forms.proofs.products.product.Goals.{then-a-i-eq1, else-a-i-eq1}
 use Rattle.forms.proofs.products.product.Goals.{In-loop-at}
@@ -46,10 +45,10 @@ loop-at-preserved c =
     let row : ℕ = bit_and a.b c.mask.result in
     let e : row ≡ bit_and a.b (2 ^ min a.m 64 - 1) = ap (λ (k : ℕ). bit_and a.b k) c.mask.ensures in
     elim c.if-a-i-eq1.branch [
-      then-a-i-eq1 t ↦
-        making_set a.n a.m a.a a.b w.result l.form l.i l.at row w.ensures e l.invariant h s c.if-a-i-eq1.form t.if-a-i-eq1.true t.form-is
+      | then-a-i-eq1 t ↦
+          making_set a.n a.m a.a a.b w.result l.form l.i l.at row w.ensures e l.invariant h s c.if-a-i-eq1.form t.if-a-i-eq1.true t.form-is
       | else-a-i-eq1 t ↦
-        making_unset a.n a.m a.a a.b w.result l.form l.i l.at row w.ensures e l.invariant h s c.if-a-i-eq1.form t.if-a-i-eq1.false t.form-is
+          making_unset a.n a.m a.a a.b w.result l.form l.i l.at row w.ensures e l.invariant h s c.if-a-i-eq1.form t.if-a-i-eq1.false t.form-is
     ]
 
 pub returns : goal.returns

@@ -1,11 +1,6 @@
 -- `forms::products::product` meets its contract: after i turns the form has the rows of the first i variables a. Assumes nothing.
-use mathlib.Core.Path.{◌≡◌, ap, ◌∙◌}
-use mathlib.Core.Logic.{⊎_elim}
-use Prim.Native.Nat.{ℕ, ◌-◌, ◌^◌, min}
-use native.Mathlib.Omega.{arith}
-use lib.Bits.{bit_and}
-use Rattle.forms.specs.products.Product.{form_of, term, product_form}
-use Rattle.forms.proofs.Making.{Making, Small, making_start, making_end, making_small, making_set, making_unset}
+use Prim.Native.Nat.{◌-◌}
+use Rattle.forms.proofs.Making.{Making}
 use Rattle.forms.proofs.products.product.Given as goal
 
 abbrev pub invariant-loop-at : goal.invariant-loop-at

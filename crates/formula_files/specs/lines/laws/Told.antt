@@ -2,7 +2,7 @@
 --   body_long, body_lengths   a body has as many factors and rows as it should
 --   body_told, body_none      what the answer says
 -- Assumes nothing.
-use Rattle.std.specs.Prelude.{ℕ, zero, suc, ◌-◌, ◌≡◌, refl, List, ◌∷◌, Bool, true, false, ◌||◌, length}
+use Rattle.std.specs.Prelude.{ℕ, zero, suc, ◌≡◌, refl, List, ◌∷◌, Bool, true, false, ◌||◌, length}
 use Rattle.std.proofs.Common.{sym, ap, ◌∙◌, arith}
 use Rattle.std.proofs.Math.Option.{Option, none, some}
 use Rattle.std.proofs.lemmas.List.Edits.{sets}

@@ -1,10 +1,7 @@
 -- `kinds::names::equal` meets its contract. The invariant: what is left is the same exactly if the whole is. Assumes nothing.
-use Prim.Native.Nat.{◌≤◌, ◌-◌}
 use mathlib.Core.Path.{◌≡◌, refl, sym, ◌∙◌}
 use native.Mathlib.Omega.{arith}
-use borrow.Author.Rules.{rules}
-use lib.ListN.{length, drop}
-use Rattle.kinds.specs.Kinds.{same}
+use lib.ListN.{length}
 use Rattle.kinds.specs.names.laws.Same.{same_step, same_stop, same_end, same_length}
 use Rattle.kinds.proofs.names.equal.Goals as goal
 

@@ -1,11 +1,8 @@
 -- `kinds::names::equal` meets its contract. The invariant: what is left is the same exactly if the whole is. Assumes nothing.
 use Prim.Native.Nat.{◌≤◌, ◌-◌}
-use mathlib.Core.Path.{◌≡◌, refl, sym, ◌∙◌}
-use native.Mathlib.Omega.{arith}
-use borrow.Author.Rules.{rules}
+use mathlib.Core.Path.{◌≡◌}
 use lib.ListN.{length, drop}
 use Rattle.kinds.specs.Kinds.{same}
-use Rattle.kinds.specs.names.laws.Same.{same_step, same_stop, same_end, same_length}
 use Rattle.kinds.proofs.names.equal.Given as goal
 
 abbrev pub invariant-loop-i : goal.invariant-loop-i

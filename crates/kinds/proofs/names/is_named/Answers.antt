@@ -3,7 +3,6 @@ use Prim.Native.Nat.{ℕ}
 use mathlib.Core.Path.{sym, ap, ◌∙◌}
 use mathlib.Core.List.{List}
 use lib.Seq.{length-take-le}
-use borrow.Author.Rules.{rules}
 use Rattle.kinds.specs.Kinds.{same}
 use Rattle.kinds.proofs.names.is_named.Goals as goal
 

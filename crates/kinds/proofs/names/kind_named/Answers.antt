@@ -1,12 +1,8 @@
 -- `kinds::names::kind_named` meets its contract. The invariant: the kinds from the number on have the answer. Assumes nothing.
-use Prim.Native.Nat.{◌-◌, ◌<◌}
-use mathlib.Core.Path.{◌≡◌, refl, sym, ap, ◌∙◌}
-use mathlib.Core.Option.{some}
+use mathlib.Core.Path.{refl, sym, ap, ◌∙◌}
 use native.Mathlib.Omega.{arith}
-use borrow.Author.Rules.{rules}
-use lib.ListN.{length}
-use Rattle.kinds.specs.Kinds.{kinds, kind_numbered, kind_named, seen_kind}
-use Rattle.kinds.specs.names.laws.Names.{named_from, number_below, named_here, named_on, named_none}
+use Rattle.kinds.specs.Kinds.{seen_kind}
+use Rattle.kinds.specs.names.laws.Names.{number_below, named_here, named_on, named_none}
 use Rattle.kinds.proofs.names.kind_named.Goals as goal
 
 pub loop-kind-init : goal.loop-kind-init

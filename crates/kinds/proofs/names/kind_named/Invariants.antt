@@ -1,12 +1,9 @@
 -- `kinds::names::kind_named` meets its contract. The invariant: the kinds from the number on have the answer. Assumes nothing.
-use Prim.Native.Nat.{◌-◌, ◌<◌}
-use mathlib.Core.Path.{◌≡◌, refl, sym, ap, ◌∙◌}
-use mathlib.Core.Option.{some}
-use native.Mathlib.Omega.{arith}
-use borrow.Author.Rules.{rules}
+use Prim.Native.Nat.{◌-◌}
+use mathlib.Core.Path.{◌≡◌}
 use lib.ListN.{length}
-use Rattle.kinds.specs.Kinds.{kinds, kind_numbered, kind_named, seen_kind}
-use Rattle.kinds.specs.names.laws.Names.{named_from, number_below, named_here, named_on, named_none}
+use Rattle.kinds.specs.Kinds.{kinds, kind_named}
+use Rattle.kinds.specs.names.laws.Names.{named_from}
 use Rattle.kinds.proofs.names.kind_named.Given as goal
 
 abbrev pub invariant-loop-kind : goal.invariant-loop-kind

@@ -1,9 +1,7 @@
 -- `maps::form_lists::copy_forms` meets its contract. Assumes nothing.
 use native.Mathlib.Omega.{arith}
-use mathlib.Core.Path.{◌≡◌, refl, ◌∙◌}
-use mathlib.Core.List.{◌++◌}
-use Prim.Native.Nat.{◌-◌, ◌≤◌}
-use lib.ListN.{length, get_or, take, drop, length-set}
+use mathlib.Core.Path.{refl, ◌∙◌}
+use lib.ListN.{get_or, length-set}
 use Rattle.maps.specs.form_lists.laws.Filling.{copied_next, copied_end}
 use Rattle.maps.proofs.form_lists.copy_forms.Goals as goal
 

@@ -1,10 +1,8 @@
 -- `maps::form_lists::copy_forms` meets its contract. Assumes nothing.
-use native.Mathlib.Omega.{arith}
-use mathlib.Core.Path.{◌≡◌, refl, ◌∙◌}
+use mathlib.Core.Path.{◌≡◌}
 use mathlib.Core.List.{◌++◌}
 use Prim.Native.Nat.{◌-◌, ◌≤◌}
-use lib.ListN.{length, get_or, take, drop, length-set}
-use Rattle.maps.specs.form_lists.laws.Filling.{copied_next, copied_end}
+use lib.ListN.{length, take, drop}
 use Rattle.maps.proofs.form_lists.copy_forms.Given as goal
 
 abbrev pub invariant-loop-i : goal.invariant-loop-i

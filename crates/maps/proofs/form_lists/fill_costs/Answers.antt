@@ -1,9 +1,7 @@
 -- `maps::form_lists::fill_costs` meets its contract. Assumes nothing.
 use native.Mathlib.Omega.{arith}
-use mathlib.Core.Path.{◌≡◌, refl, sym, ap, ◌∙◌}
-use mathlib.Core.List.{◌++◌}
-use Prim.Native.Nat.{◌-◌, ◌≤◌}
-use lib.ListN.{length, take, length-set}
+use mathlib.Core.Path.{refl, sym, ap, ◌∙◌}
+use lib.ListN.{length-set}
 use Rattle.maps.specs.Generators.{list_of}
 use Rattle.maps.specs.Costs.{generator_cost, generator_costs}
 use Rattle.maps.specs.form_lists.laws.Filling.{listed_none, listed_next, listed_end}

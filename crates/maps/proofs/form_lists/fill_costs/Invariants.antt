@@ -1,13 +1,10 @@
 -- `maps::form_lists::fill_costs` meets its contract. Assumes nothing.
-use native.Mathlib.Omega.{arith}
-use mathlib.Core.Path.{◌≡◌, refl, sym, ap, ◌∙◌}
+use mathlib.Core.Path.{◌≡◌}
 use mathlib.Core.List.{◌++◌}
 use Prim.Native.Nat.{◌-◌, ◌≤◌}
-use lib.ListN.{length, take, length-set}
+use lib.ListN.{length, take}
 use Rattle.maps.specs.Generators.{list_of}
-use Rattle.maps.specs.Costs.{generator_cost, generator_costs}
-use Rattle.maps.specs.form_lists.laws.Filling.{listed_none, listed_next, listed_end}
-use Rattle.maps.proofs.Counting.{numbered_mask}
+use Rattle.maps.specs.Costs.{generator_cost}
 use Rattle.maps.proofs.form_lists.fill_costs.Given as goal
 
 abbrev pub invariant-loop-i : goal.invariant-loop-i

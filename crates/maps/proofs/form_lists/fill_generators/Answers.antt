@@ -1,9 +1,7 @@
 -- `maps::form_lists::fill_generators` meets its contract. Assumes nothing.
 use native.Mathlib.Omega.{arith}
-use mathlib.Core.Path.{◌≡◌, refl, sym, ap, ◌∙◌}
-use mathlib.Core.List.{◌++◌}
-use Prim.Native.Nat.{ℕ, ◌-◌, ◌≤◌}
-use lib.ListN.{length, take, length-set}
+use mathlib.Core.Path.{refl, sym, ap, ◌∙◌}
+use lib.ListN.{length-set}
 use Rattle.maps.specs.Generators.{list_of, generator_form, generator_forms}
 use Rattle.maps.specs.form_lists.laws.Filling.{listed_none, listed_next, listed_end}
 use Rattle.maps.proofs.form_lists.fill_generators.Goals as goal

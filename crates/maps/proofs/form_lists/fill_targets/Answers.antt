@@ -1,10 +1,7 @@
 -- `maps::form_lists::fill_targets` meets its contract. Assumes nothing.
 use native.Mathlib.Omega.{arith}
-use mathlib.Core.Path.{◌≡◌, refl, ◌∙◌}
-use mathlib.Core.List.{◌++◌}
-use mathlib.Core.Option.{some}
-use Prim.Native.Nat.{ℕ, ◌-◌, ◌≤◌}
-use lib.ListN.{length, take, length-set}
+use mathlib.Core.Path.{refl, ◌∙◌}
+use lib.ListN.{length-set}
 use Rattle.kinds.specs.laws.Sizes.{sizes_bounds}
 use Rattle.maps.specs.Generators.{list_of}
 use Rattle.maps.specs.Target.{target_form}

@@ -1,6 +1,5 @@
 -- `maps::squares::square` meets its contract: the index is below 64, and the entry is the form by the rule of the table. Assumes nothing.
 use native.Mathlib.Omega.{arith}
-use borrow.Author.Rules.{rules}
 use Rattle.maps.specs.Squares.{table_end, squares_rule}
 use Rattle.maps.proofs.squares.square.Goals as goal
 

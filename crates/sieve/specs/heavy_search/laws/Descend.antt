@@ -3,8 +3,8 @@
 --   descend_one, descend_two, descend_three   the residues with one number put in, with two, and beneath the relation
 --   descended           what is given
 -- Assumes nothing.
-use Rattle.std.specs.Prelude.{◌≡◌, refl, ◌⊎◌, true, false, cond, ℕ, ◌<◌, ◌≤◌, length, get_or, take, ltb}
-use Rattle.std.proofs.Common.{sym, ap, ap₂, ◌∙◌, subst, inl, inr, arith, get_or-take, length-take-le}
+use Rattle.std.specs.Prelude.{◌≡◌, ◌⊎◌, cond, ℕ, ◌<◌, ◌≤◌, length, get_or, take, ltb}
+use Rattle.std.proofs.Common.{sym, ap, ap₂, ◌∙◌, subst, inl, inr, arith, get_or-take}
 use mathlib.Core.List.Memᴰ
 use mathlib.Core.List.{List, map, Memᴰ}
 use Rattle.std.proofs.lemmas.List.{length-map}
@@ -24,7 +24,7 @@ use Rattle.residues.specs.Mapped.{Mapped}
 use Rattle.residues.specs.Taking.{Took}
 use Rattle.residues.specs.declared.Taken.{Taken}
 use Rattle.relations.specs.declared.Place.{Place}
-use Rattle.sieve.specs.heavy_search.Relate.{put_in, first_at, second_at, third_row, beneath, Descending, Descended}
+use Rattle.sieve.specs.heavy_search.Relate.{put_in, first_at, second_at, third_row, beneath, Descended}
 use Rattle.residues.specs.Room.{search_room}
 
 pub again_basis : (gens d e : List ℕ) → length d ≡ length e → ((i : ℕ) → get_or d i 0 ≡ 0 → get_or e i 0 ≡ 0)

@@ -5,13 +5,12 @@
 --   Visited                        == the spaces with the relation at a place are met, and marks stay and stay fair; visit_shared, visit_found
 --   PassedMet                      == the spaces with a relation that is passed are met, and marks stay and stay fair; going_start, going_next, going_end
 -- Assumes nothing.
-use Rattle.std.specs.Prelude.{◌≡◌, refl, ◌≢◌, ◌⊎◌, Bool, true, false, cond, List, [], ◌∷◌, map, ℕ, suc, ◌+◌, ◌-◌, ◌*◌, ◌/◌, ◌%◌, ◌<◌, ◌≤◌, length, get_or, ltb}
-use Rattle.std.proofs.Common.{sym, ap, ap₂, ◌∙◌, subst, inl, inr, arith, add-zero, lt-ltb, le-ltb}
+use Rattle.std.specs.Prelude.{◌≡◌, refl, ◌≢◌, ◌⊎◌, Bool, true, false, cond, List, [], ◌∷◌, map, ℕ, ◌+◌, ◌-◌, ◌*◌, ◌<◌, ◌≤◌, length, get_or, ltb}
+use Rattle.std.proofs.Common.{sym, ap, ap₂, ◌∙◌, subst, inl, inr, arith, lt-ltb, le-ltb}
 use Rattle.std.proofs.Math.Decide.{dec_lt}
-use Rattle.std.specs.Int.Bits.{bit_xor, xor_self, xor_zero_r}
+use Rattle.std.specs.Int.Bits.{bit_xor, xor_self}
 use Rattle.std.proofs.lemmas.Nat.{xor_comm}
 use Rattle.std.proofs.Math.ListN.{get_or-eq_default}
-use Rattle.linear.specs.Span.{Span}
 use Rattle.linear.specs.Basis.{clear, reduce, insert, basis_of, Reduced}
 use Rattle.linear.specs.Entry.{generator}
 use Rattle.linear.specs.Word.{word}
@@ -21,14 +20,14 @@ use Rattle.residues.specs.children.Residues.{residues, with_residue}
 use Rattle.residues.specs.children.Found.{Leads, Spared, Fair, Grown, Found}
 use Rattle.residues.specs.children.Weighed.{Shared}
 use Rattle.residues.specs.children.Relation.{Standing, Related, AllRelated}
-use Rattle.residues.specs.children.laws.Child.{clear_zero, clear_at, residue_at}
+use Rattle.residues.specs.children.laws.Child.{clear_zero, clear_at}
 use Rattle.residues.specs.children.laws.Handed.{xor_back, clear_two}
 use Rattle.residues.specs.children.laws.Found.{value_at, child}
 use Rattle.residues.specs.children.laws.Leads.{leads_one}
-use Rattle.relations.specs.pairs.Pairs.{first_of, second_of, place_of, Values}
+use Rattle.relations.specs.pairs.Pairs.{Values}
 use Rattle.relations.specs.Relations.{Relation, Passed, Here, FirstPlace, NextPlace}
 use Rattle.relations.specs.declared.Place.{Place}
-use Rattle.sieve.specs.heavy_search.Relate.{put_in, first_at, second_at, third_row, beneath}
+use Rattle.sieve.specs.heavy_search.Relate.{put_in, first_at, second_at, beneath}
 use Rattle.residues.specs.Room.{search_room}
 
 -- ---- related numbers are a relation of values

@@ -5,8 +5,8 @@
 --   relate_descending   what is asked at a place
 --   relate_child        what is asked for the search beneath a relation
 -- Assumes nothing.
-use Rattle.std.specs.Prelude.{◌≡◌, ◌≢◌, ◌⊎◌, Bool, true, false, List, map, ℕ, ◌-◌, ◌<◌, ◌≤◌, eqb, length, get_or, take}
-use Rattle.std.proofs.Common.{sym, ap, ◌∙◌, subst, inl, inr, arith, eqb-true}
+use Rattle.std.specs.Prelude.{◌≡◌, ◌≢◌, ◌⊎◌, Bool, true, false, List, ℕ, ◌-◌, ◌<◌, ◌≤◌, eqb, length, get_or, take}
+use Rattle.std.proofs.Common.{sym, ◌∙◌, subst, inl, inr, arith, eqb-true}
 use Rattle.std.proofs.Math.Decide.{dec_lt}
 use Rattle.std.proofs.lemmas.List.{length-map}
 use Rattle.std.proofs.lemmas.Bool.{eqb-false}
@@ -15,7 +15,7 @@ use Rattle.linear.specs.Word.{word}
 use Rattle.bases.specs.Basis.{based_dim}
 use Rattle.bases.specs.declared.Basis.{Basis}
 use Rattle.residues.specs.children.Residues.{with_residue}
-use Rattle.residues.specs.children.Found.{Fair, Grown, Found, LeftOver, Spared}
+use Rattle.residues.specs.children.Found.{Found, Spared}
 use Rattle.residues.specs.children.Relation.{Short, AllRelated}
 use Rattle.residues.specs.children.laws.Weighed.{weighed_more}
 use Rattle.residues.specs.children.laws.Relation.{leads_related}

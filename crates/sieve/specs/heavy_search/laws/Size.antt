@@ -3,12 +3,11 @@
 --   size_none, size_three, size_four                             no relation is sought; of three values; of four
 --   join_sized                                                   the arrays of a join
 -- Assumes nothing.
-use Rattle.std.specs.Prelude.{◌≡◌, refl, List, ℕ, ◌+◌, ◌-◌, ◌*◌, ◌%◌, ◌^◌, ◌<◌, ◌≤◌, length, get_or, replicate}
+use Rattle.std.specs.Prelude.{◌≡◌, refl, List, ℕ, ◌+◌, ◌-◌, ◌*◌, ◌%◌, ◌^◌, ◌<◌, ◌≤◌, length, replicate}
 use Rattle.std.proofs.Common.{ap, subst, mul-le-mul, arith, pow_mono, pow-add, Fits}
 use Rattle.std.proofs.lemmas.List.{length-replicate}
 use Rattle.std.specs.Int.{w64}
 use Rattle.linear.specs.laws.Shift.{one_shift}
-use Rattle.residues.specs.children.Relation.{Short}
 use Rattle.words.specs.laws.Blank.{zero_at}
 use Rattle.relations.specs.pairs.Pairs.{head_room, link_room, Falling, Values}
 use Rattle.relations.specs.Relations.{Sized}

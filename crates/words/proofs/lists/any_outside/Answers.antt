@@ -1,8 +1,6 @@
 -- `words::lists::any_outside` meets its contract. Assumes nothing.
 use native.Mathlib.Omega.{arith}
-use Prim.Native.Nat.{◌-◌}
-use lib.ListN.{length}
-use Rattle.words.specs.lists.laws.Outside.{Checking, checking_start, checking_found, checking_past, checking_end}
+use Rattle.words.specs.lists.laws.Outside.{checking_start, checking_found, checking_past, checking_end}
 use Rattle.words.proofs.lists.any_outside.Goals as goal
 
 pub loop-i-init : goal.loop-i-init

@@ -1,8 +1,7 @@
 -- `words::lists::any_outside` meets its contract. Assumes nothing.
-use native.Mathlib.Omega.{arith}
 use Prim.Native.Nat.{◌-◌}
 use lib.ListN.{length}
-use Rattle.words.specs.lists.laws.Outside.{Checking, checking_start, checking_found, checking_past, checking_end}
+use Rattle.words.specs.lists.laws.Outside.{Checking}
 use Rattle.words.proofs.lists.any_outside.Given as goal
 
 abbrev pub invariant-loop-i : goal.invariant-loop-i

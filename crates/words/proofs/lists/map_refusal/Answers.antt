@@ -1,5 +1,4 @@
 -- `words::lists::map_refusal` meets its contract. Assumes nothing.
-use borrow.Author.Rules.{rules}
 use mathlib.Core.Path.{◌≡◌, refl, sym, ◌∙◌}
 use mathlib.Core.Bool.{true}
 use lib.ListN.{length}
@@ -17,7 +16,13 @@ returns-then-ts-ne0 c =
     map_as _ _ _ _ (eq-eqb (length a.gs.now) 0 c.if-gs-ne0.false) (ne_eqb (length a.ts.now) 0 c.if-ts-ne0.true) refl
 
 pub returns-then-any_wide : goal.returns-then-any_wide
-returns-then-any_wide c = let e = (let it : (let a = c.args in (eqb (length a.gs.now) 0 ≡ true) × (eqb (length a.ts.now) 0 ≡ true)) = let a = c.args in (eq-eqb (length a.gs.now) 0 c.if-gs-ne0.false, eq-eqb (length a.ts.now) 0 c.if-ts-ne0.false) in it) in map_as _ _ _ _ e.0 e.1 (sym c.any_wide.ensures ∙ c.if-any_wide.true)
+returns-then-any_wide c = let e = (let it : (let a = c.args in
+    (eqb (length a.gs.now) 0 ≡ true) × (eqb (length a.ts.now) 0 ≡ true)) = let a = c.args in
+    (eq-eqb (length a.gs.now) 0 c.if-gs-ne0.false, eq-eqb (length a.ts.now) 0 c.if-ts-ne0.false) in it) in
+    map_as _ _ _ _ e.0 e.1 (sym c.any_wide.ensures ∙ c.if-any_wide.true)
 
 pub returns-else-any_wide : goal.returns-else-any_wide
-returns-else-any_wide c = let e = (let it : (let a = c.args in (eqb (length a.gs.now) 0 ≡ true) × (eqb (length a.ts.now) 0 ≡ true)) = let a = c.args in (eq-eqb (length a.gs.now) 0 c.if-gs-ne0.false, eq-eqb (length a.ts.now) 0 c.if-ts-ne0.false) in it) in map_as _ _ _ _ e.0 e.1 (sym c.any_wide.ensures ∙ c.if-any_wide.false)
+returns-else-any_wide c = let e = (let it : (let a = c.args in
+    (eqb (length a.gs.now) 0 ≡ true) × (eqb (length a.ts.now) 0 ≡ true)) = let a = c.args in
+    (eq-eqb (length a.gs.now) 0 c.if-gs-ne0.false, eq-eqb (length a.ts.now) 0 c.if-ts-ne0.false) in it) in
+    map_as _ _ _ _ e.0 e.1 (sym c.any_wide.ensures ∙ c.if-any_wide.false)

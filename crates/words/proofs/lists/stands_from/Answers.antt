@@ -1,10 +1,6 @@
 -- `words::lists::stands_from` meets its contract. Assumes nothing.
 use native.Mathlib.Omega.{arith}
-use mathlib.Core.Path.{◌≡◌, refl}
-use Prim.Native.Nat.{◌-◌}
-use lib.ListN.{length, drop}
-use lib.Dec.{eqb}
-use Rattle.linear.specs.Select.{any_of}
+use mathlib.Core.Path.{refl}
 use Rattle.words.specs.lists.laws.Standing.{stands_turn, stands_end}
 use borrow.Author.Tests.{eq-eqb, ne_eqb}
 use Rattle.words.proofs.lists.stands_from.Goals as goal

@@ -1,12 +1,9 @@
 -- `words::lists::stands_from` meets its contract. Assumes nothing.
-use native.Mathlib.Omega.{arith}
-use mathlib.Core.Path.{◌≡◌, refl}
+use mathlib.Core.Path.{◌≡◌}
 use Prim.Native.Nat.{◌-◌}
 use lib.ListN.{length, drop}
 use lib.Dec.{eqb}
 use Rattle.linear.specs.Select.{any_of}
-use Rattle.words.specs.lists.laws.Standing.{stands_turn, stands_end}
-use borrow.Author.Tests.{eq-eqb, ne_eqb}
 use Rattle.words.proofs.lists.stands_from.Given as goal
 
 abbrev pub invariant-loop-i : goal.invariant-loop-i

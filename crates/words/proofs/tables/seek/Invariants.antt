@@ -1,7 +1,5 @@
 -- `words::tables::seek` meets its contract: from the slot `q` on the search gives what it gives from the first. Assumes nothing.
-use mathlib.Core.Path.{refl}
-use native.Mathlib.Omega.{arith}
-use Rattle.words.specs.tables.laws.Seek.{Seeking, seek_more, seek_free, seek_found, seek_none}
+use Rattle.words.specs.tables.laws.Seek.{Seeking}
 use Rattle.words.proofs.tables.seek.Given as goal
 
 abbrev pub invariant-loop-t : goal.invariant-loop-t

@@ -1,0 +1,39 @@
+-- `sieve::heavy_search::first_new` meets its contract: no number so far is new by h and not in the child. Assumes nothing.
+use mathlib.Core.Path.{sym, ◌∙◌}
+use mathlib.Core.List.{map}
+use Rattle.linear.specs.Basis.{clear}
+use Rattle.linear.specs.Word.{word}
+use Rattle.residues.specs.children.laws.Child.{clear_at}
+use Rattle.sieve.specs.heavy_search.laws.Find.{looking_start, looking_more, looking_found, looking_end}
+use Rattle.sieve.proofs.heavy_search.first_new.Goals as goal
+
+pub loop-j-init : goal.loop-j-init
+loop-j-init c = let a = c.args in looking_start a.h.now (map (clear word a.x) a.d.now) a.start
+    c.requires.1
+
+pub returns-then-h-j-ne0 : goal.returns-then-h-j-ne0
+returns-then-h-j-ne0 c =
+    let a = c.args in
+    let l = c.loop-j in
+    looking_found a.h.now (map (clear word a.x) a.d.now) a.start l.j l.invariant
+    (clear_at a.x a.d.now l.j ∙ sym c.clear.ensures ∙ c.if-clear-eq0.true) c.if-h-j-ne0.true
+
+pub loop-j-preserved-then-clear-eq0 : goal.loop-j-preserved-then-clear-eq0
+loop-j-preserved-then-clear-eq0 c =
+    let a = c.args in
+    let l = c.loop-j in
+    looking_more a.h.now (map (clear word a.x) a.d.now) a.start l.j l.invariant
+    c.loop-j-test.true (λ z. c.if-h-j-ne0.false)
+
+pub loop-j-preserved : goal.loop-j-preserved
+loop-j-preserved c =
+    let a = c.args in
+    let l = c.loop-j in
+    looking_more a.h.now (map (clear word a.x) a.d.now) a.start l.j l.invariant c.loop-j-test.true
+    (λ z. absurd (c.if-clear-eq0.false (c.clear.ensures ∙ sym (clear_at a.x a.d.now l.j) ∙ z)))
+
+pub returns : goal.returns
+returns c =
+    let a = c.args in
+    let l = c.loop-j in
+    looking_end a.h.now (map (clear word a.x) a.d.now) a.start l.j l.invariant c.loop-j-test.false

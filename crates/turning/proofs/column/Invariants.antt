@@ -1,0 +1,22 @@
+-- `turning::column` meets its contract: after t turns the form has the bits of the first t masks. Assumes nothing.
+use mathlib.Core.Path.{◌≡◌, refl, sym, ap, ◌∙◌}
+use mathlib.Core.Bool.{Bool}
+use mathlib.Core.List.{List}
+use mathlib.Core.Logic.{⊎_elim}
+use Prim.Native.Nat.{ℕ, ◌-◌, ◌≤◌}
+use native.Mathlib.Omega.{arith}
+use borrow.Author.Rules.{rules}
+use lib.ListN.{length, get_or}
+use Rattle.linear.specs.Bit.{bit}
+use Rattle.forms.specs.products.Product.{form_of}
+use Rattle.forms.specs.products.laws.Product.{form_set, form_unset}
+use Rattle.turning.proofs.column.Given as goal
+
+abbrev pub bits : List ℕ → ℕ → ℕ → Bool
+bits masks l t = bit (get_or masks t 0) l
+
+abbrev pub invariant-loop-t : goal.invariant-loop-t
+invariant-loop-t l = (l.t ≤ length l.masks) × (l.form ≡ form_of l.t (bits l.masks l.l))
+
+abbrev pub decreases-loop-t : goal.decreases-loop-t
+decreases-loop-t l = length l.masks - l.t

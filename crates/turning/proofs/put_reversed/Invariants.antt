@@ -1,0 +1,19 @@
+-- `turning::put_reversed` meets its contract. Assumes nothing.
+use mathlib.Core.Path.{sym, ap, ◌∙◌}
+use mathlib.Core.List.{List}
+use Prim.Native.Nat.{ℕ, ◌-◌}
+use native.Mathlib.Omega.{arith}
+use lib.ListN.{length, get_or}
+use Rattle.words.specs.Buffers.{filled}
+use Rattle.turning.specs.Turning.{reversed}
+use Rattle.turning.specs.laws.Loops.{map_list, Put, put_start, put_next, put_end}
+use Rattle.turning.proofs.put_reversed.Given as goal
+
+abbrev pub each : ℕ → List ℕ → ℕ → ℕ
+each n masks l = reversed n (get_or masks l 0)
+
+abbrev pub invariant-loop-l : goal.invariant-loop-l
+invariant-loop-l l = Put (each l.n l.masks) (length l.masks) l.initial.out l.out l.l
+
+abbrev pub decreases-loop-l : goal.decreases-loop-l
+decreases-loop-l l = length l.masks - l.l
