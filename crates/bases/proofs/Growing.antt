@@ -15,9 +15,9 @@ use lib.ListN.{length, get_or, take, drop, replicate, drop_of_length-le}
 use lib.Seq.{drop-cons, drop-drop}
 use Rattle.linear.specs.Basis.{reduce, place, insert, inserts, basis_of, Reduced}
 use Rattle.linear.specs.Word.{word, Below}
-use Rattle.linear.specs.laws.Insert.{insert_old, insert_reduced, insert_length_new}
+use Rattle.linear.proofs.laws.Insert.{insert_old, insert_reduced, insert_length_new}
 use Rattle.bases.specs.Basis.{rows_of, Valid, Holds, rows_length}
-use Rattle.linear.specs.laws.Word.{at_most, insert_below, insert_place}
+use Rattle.linear.proofs.laws.Word.{at_most, insert_below, insert_place}
 use Rattle.bases.specs.declared.Basis.{Basis}
 use Rattle.bases.specs.insertion.Placing.{Placed}
 use Rattle.bases.specs.insertion.laws.Sifting.{sift_place}

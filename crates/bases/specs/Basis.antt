@@ -19,8 +19,8 @@ use Rattle.linear.specs.Basis.{Reduced, basis_of, dim}
 use Rattle.linear.specs.Entry.{inside}
 use Rattle.linear.specs.Span.{Span}
 use Rattle.linear.specs.Word.{word, Below}
-use Rattle.linear.specs.laws.Entry.{inside_yes, yes_inside}
-use Rattle.linear.specs.laws.Word.{at_most}
+use Rattle.linear.proofs.laws.Entry.{inside_yes, yes_inside}
+use Rattle.linear.proofs.laws.Word.{at_most}
 use Rattle.bases.specs.declared.Basis.{Basis}
 
 -- document 01: "That basis is a record of at most 64 rows and their number"

@@ -4,7 +4,7 @@
 ghost use Rattle.std.specs.Prelude.{◌≤◌, ◌<◌, ◌≡◌, length};
 ghost use Rattle.call_values.specs.Rooms.{lent_words};
 
-use libc::{STDIN_FILENO, STDOUT_FILENO};
+use std::io::{Input, Print};
 
 mod numbers;
 mod searches;
@@ -25,7 +25,14 @@ struct Call {
 }
 
 // One call, on the forms of a list, the costs of its generators, the rows of a space or a selection, and a lent buffer.
-fn call_on(call: Call, gs: &[u64], ts: &[u64], others: &[u64], out: &mut [u64]) {
+fn call_on(
+    rt: &impl Print,
+    call: Call,
+    gs: &[u64],
+    ts: &[u64],
+    others: &[u64],
+    out: &mut [u64],
+) {
     let which = call.which;
     let number = call.number;
     let p = call.p;
@@ -36,22 +43,22 @@ fn call_on(call: Call, gs: &[u64], ts: &[u64], others: &[u64], out: &mut [u64]) 
     match which {
         0 => {
             let said = catalogue::catalogue(number, p, q, r, asked, gs, ts, out);
-            searches::print_catalogued(said, asked, out);
+            searches::print_catalogued(rt, said, asked, out);
         }
         1 => {
             let said = rank::rank(number, p, q, r, asked, gs, ts, others, out);
-            searches::print_ranked(said, out);
+            searches::print_ranked(rt, said, out);
         }
-        2 => numbers::print_words(records::lookup::entry(out, number, p, q, r)),
+        2 => numbers::print_words(rt, records::lookup::entry(out, number, p, q, r)),
         3 => {
             let said = space_formulae::formulae(number, p, q, r, gs, ts, others, out);
-            spaces::print_listed(said, out);
+            spaces::print_listed(rt, said, out);
         }
         4 => {
             let said = selections::is_sum(number, p, q, r, gs, ts, others, asked, out);
-            spaces::print_summed(said, out);
+            spaces::print_summed(rt, said, out);
         }
-        _ => spaces::print_said(selections::is_redundant(number, p, q, r, gs, ts, others, asked)),
+        _ => spaces::print_said(rt, selections::is_redundant(number, p, q, r, gs, ts, others, asked)),
     }
 }
 
@@ -66,7 +73,14 @@ fn lent_words() -> [u64; LENT_WORDS]
 }
 
 // One call and the end of its line, in a buffer of w words, of LENT_WORDS at most; a turning in buffers of its own.
-fn call_one(call: Call, w: u64, gs: &[u64], ts: &[u64], others: &[u64]) {
+fn call_one(
+    rt: &impl Print,
+    call: Call,
+    w: u64,
+    gs: &[u64],
+    ts: &[u64],
+    others: &[u64],
+) {
     if call.which == 6 {
         let formula = turns::Formula {
             number: call.number,
@@ -75,16 +89,16 @@ fn call_one(call: Call, w: u64, gs: &[u64], ts: &[u64], others: &[u64]) {
             r: call.r,
             k: call.asked,
         };
-        turns::turn_one(formula, w, gs, ts, others);
-        io::write_all(STDOUT_FILENO, b"\n");
+        turns::turn_one(rt, formula, w, gs, ts, others);
+        numbers::print_text(rt, "\n");
         return;
     }
     if w > LENT_WORDS as u64 {
         return;
     }
     let mut buffer = lent_words();
-    call_on(call, gs, ts, others, &mut buffer[..w as usize]);
-    io::write_all(STDOUT_FILENO, b"\n");
+    call_on(rt, call, gs, ts, others, &mut buffer[..w as usize]);
+    numbers::print_text(rt, "\n");
 }
 
 // The end of a stretch of some words from a place, or the end of all n where they are too few.
@@ -100,7 +114,7 @@ fn past(at: usize, some: u64, n: usize) -> usize
 }
 
 // The call at a place in some words; the place behind it, or the end of all where they are too few.
-fn call_at(words: &[u64], at: usize) -> usize
+fn call_at(rt: &impl Print, words: &[u64], at: usize) -> usize
     requires { at < length words.now }
     ensures { (at < result) × (result ≤ length words.now) }
 {
@@ -121,22 +135,22 @@ fn call_at(words: &[u64], at: usize) -> usize
     let b = past(a, words[at + 7], n);
     let c = past(b, words[at + 8], n);
     let end = past(c, words[at + 9], n);
-    call_one(call, w, &words[a..b], &words[b..c], &words[c..end]);
+    call_one(rt, call, w, &words[a..b], &words[b..c], &words[c..end]);
     end
 }
 
 // The calls of some words, one after the other.
-fn call_all(words: &[u64]) {
+fn call_all(rt: &impl Print, words: &[u64]) {
     let mut at: usize = 0;
     while at < words.len() {
-        at = call_at(words, at);
+        at = call_at(rt, words, at);
     }
 }
 
-fn main() {
+fn main(rt: HostRuntime) {
     let mut text = numbers::text_room();
-    let n = io::read_full(STDIN_FILENO, &mut text);
+    let n = streams::read_full(&mut rt.reader(), &mut text).count;
     let mut found = numbers::number_room();
     let c = numbers::read_numbers(&text[..n], &mut found);
-    call_all(&found[..c]);
+    call_all(&rt, &found[..c]);
 }

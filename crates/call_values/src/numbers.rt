@@ -3,7 +3,7 @@ ghost use Rattle.std.specs.Prelude.{◌≤◌, ◌≡◌, length};
 ghost use Rattle.io.specs.Counts.{IsPrefixLen};
 ghost use Rattle.call_values.specs.Rooms.{text_bytes, number_words};
 
-use libc::STDOUT_FILENO;
+use std::io::Print;
 
 // The bytes of the calls' text, and the words of its numbers (`text_bytes`, `number_words`).
 const TEXT_BYTES: usize = 393216;
@@ -77,24 +77,28 @@ pub fn read_numbers(text: &[u8], out: &mut [u64]) -> usize
     at
 }
 
+// Some text. A write that fails is passed over here and below: what the run prints is looked at as a whole.
+pub fn print_text(rt: &impl Print, text: &str) {
+    let _ = rt.print(text);
+}
+
 // A space and a number.
-pub fn print_next(x: u64) {
-    io::write_all(STDOUT_FILENO, b" ");
-    io::print_decimal(STDOUT_FILENO, x);
+pub fn print_next(rt: &impl Print, x: u64) {
+    let _ = print!(rt; " {x}");
 }
 
 // Some numbers, and a colon before them.
-pub fn print_words(xs: &[u64]) {
-    io::write_all(STDOUT_FILENO, b" :");
+pub fn print_words(rt: &impl Print, xs: &[u64]) {
+    print_text(rt, " :");
     let mut i: usize = 0;
     while i < xs.len() {
-        print_next(xs[i]);
+        print_next(rt, xs[i]);
         i += 1;
     }
 }
 
 // A word, and a number behind it.
-pub fn print_number(word: &[u8], x: u64) {
-    io::write_all(STDOUT_FILENO, word);
-    print_next(x);
+pub fn print_number(rt: &impl Print, word: &str, x: u64) {
+    print_text(rt, word);
+    print_next(rt, x);
 }

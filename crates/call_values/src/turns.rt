@@ -3,6 +3,7 @@ ghost use Rattle.std.specs.Prelude.{◌≡◌, ◌≤◌, length};
 ghost use Rattle.call_values.specs.Rooms.{turn_words};
 
 use super::numbers::{print_next, print_number, print_words};
+use std::io::Print;
 use turning::Turned;
 
 // The words of the longest buffer that a turning is lent (`turn_words`).
@@ -16,16 +17,16 @@ fn turn_room() -> [u64; TURN_WORDS]
 }
 
 // What is said.
-fn print_turned(said: Turned) {
+fn print_turned(rt: &impl Print, said: Turned) {
     match said {
-        Turned::Refused(e) => print_number(b"refused", e),
+        Turned::Refused(e) => print_number(rt, "refused", e),
         Turned::Formula(shape, k) => {
             let kind = shape.kind;
-            print_number(b"formula", kinds::number_of(kind));
-            print_next(shape.p);
-            print_next(shape.q);
-            print_next(shape.r);
-            print_next(k);
+            print_number(rt, "formula", kinds::number_of(kind));
+            print_next(rt, shape.p);
+            print_next(rt, shape.q);
+            print_next(rt, shape.r);
+            print_next(rt, k);
         }
     }
 }
@@ -42,6 +43,7 @@ fn lent(asked: u64) -> usize
 
 // Turns a formula, and prints what is said and the three buffers.
 fn turn_in(
+    rt: &impl Print,
     call: Formula,
     a: &[u64],
     b: &[u64],
@@ -63,10 +65,10 @@ fn turn_in(
         new_b,
         new_rows,
     );
-    print_turned(said);
-    print_words(new_a);
-    print_words(new_b);
-    print_words(new_rows);
+    print_turned(rt, said);
+    print_words(rt, new_a);
+    print_words(rt, new_b);
+    print_words(rt, new_rows);
 }
 
 // A formula to be turned, but for its masks and rows.
@@ -80,7 +82,7 @@ pub struct Formula {
 }
 
 // The same in buffers of w modulo 100, w / 100 modulo 100 and w / 10000 words, of TURN_WORDS at most.
-pub fn turn_one(call: Formula, w: u64, a: &[u64], b: &[u64], rows: &[u64]) {
+pub fn turn_one(rt: &impl Print, call: Formula, w: u64, a: &[u64], b: &[u64], rows: &[u64]) {
     let x = lent(w % 100);
     let y = lent(w / 100 % 100);
     let z = lent(w / 10000);
@@ -88,6 +90,7 @@ pub fn turn_one(call: Formula, w: u64, a: &[u64], b: &[u64], rows: &[u64]) {
     let mut new_b = turn_room();
     let mut new_rows = turn_room();
     turn_in(
+        rt,
         call,
         a,
         b,

@@ -14,7 +14,7 @@ use lib.ListN.{length, get_or, take}
 use Rattle.linear.specs.Basis.{clear, reduce, insert}
 use Rattle.linear.specs.Entry.{generator}
 use Rattle.linear.specs.Word.{word}
-use Rattle.linear.specs.laws.Residue.{insert_residue}
+use Rattle.linear.proofs.laws.Residue.{insert_residue}
 use Rattle.bases.specs.Basis.{rows_of, Valid, Holds}
 use Rattle.bases.specs.declared.Basis.{Basis}
 use Rattle.residues.specs.children.Residues.{residues, known}

@@ -19,7 +19,7 @@ use Rattle.linear.specs.Bit.{bit, xor_b}
 use Rattle.linear.specs.Word.{word, two, scale_w}
 use Rattle.linear.specs.laws.Bit.{bit_ext, bit_of_xor}
 use Rattle.linear.specs.laws.Bit.{bit_below}
-use Rattle.linear.specs.laws.Shift.{bit_mod, bit_shift, bit_shift_low, bit_set, bit_unset}
+use Rattle.linear.proofs.laws.Shift.{bit_mod, bit_shift, bit_shift_low, bit_set, bit_unset}
 use Rattle.forms.specs.products.Product.{form_of, term}
 use Rattle.forms.specs.products.laws.Product.{bit_form_of, form_of_above}
 

@@ -17,7 +17,6 @@ pub mod Heavy
 pub mod Spread
 pub mod Rank
 pub mod Formulae
-pub mod Theorems
 pub mod Bit
 pub mod Word
 pub mod Planes

@@ -18,7 +18,7 @@ use lib.Pow.{pow_mono, pow_pos}
 use borrow.Author.Tests.{leb-true}
 use Rattle.kinds.specs.laws.Sizes.{given_yes, given_no}
 use borrow.Author.Tests.{le-leb}
-use Rattle.linear.specs.laws.Shift.{one_shift}
+use Rattle.linear.proofs.laws.Shift.{one_shift}
 use Rattle.maps.specs.Generators.{generator_count, count_of, Numbered, MaskNumber}
 use Rattle.kinds.specs.Limits.{most_generators}
 

@@ -1,24 +1,25 @@
 // What the Catalogue, Rank and Formulae programs write to standard output of the bytes that they have read. Check's: `check_output`.
 #![tactic(auto)]
 
+use std::io::{Eprint, Print};
 use streams::write_printed;
 
 // Writes what the Catalogue program prints of an input.
-pub fn write_catalogue(input: &[u8]) {
+pub fn write_catalogue(rt: &(impl Print + Eprint), input: &[u8]) {
     let mut page = printing::pages::reply_page();
     let said = programs::catalogue_program(input, &mut page);
-    write_printed(said, &page);
+    write_printed(rt, said, &page);
 }
 
 // Writes what the Rank program prints of an input.
-pub fn write_rank(input: &[u8]) {
+pub fn write_rank(rt: &(impl Print + Eprint), input: &[u8]) {
     let mut page = printing::pages::reply_page();
     let said = programs::rank_program(input, &mut page);
-    write_printed(said, &page);
+    write_printed(rt, said, &page);
 }
 
 // Writes what the Formulae program prints of an input, part by part.
-pub fn write_formulae(input: &[u8]) {
+pub fn write_formulae(rt: &(impl Print + Eprint), input: &[u8]) {
     let mut gs = [0u64; kinds::GENERATORS];
     let mut ts = [0u64; kinds::TARGETS];
     let mut listing = [0u64; text::PROGRAM_WORDS];
@@ -27,7 +28,7 @@ pub fn write_formulae(input: &[u8]) {
     let mut i = 0;
     while formulae_program::parts::is_part(started, i) {
         let said = formulae_program::parts::part_page(started, i, &gs, &ts, &listing, &mut page);
-        if !write_printed(said, &page) {
+        if !write_printed(rt, said, &page) {
             return;
         }
         i += 1;

@@ -31,8 +31,8 @@ use Rattle.linear.specs.Select.{any_of}
 use Rattle.linear.specs.Entry.{chosen}
 use Rattle.linear.specs.Rank.{Computes}
 use Rattle.linear.specs.Word.{word}
-use Rattle.linear.specs.laws.Part.{part_rising, part_selected, part_independent, part_spans, part_first}
-use Rattle.linear.specs.laws.Select.{any_of_no, no_any_of, stood}
+use Rattle.linear.proofs.laws.Part.{part_rising, part_selected, part_independent, part_spans, part_first}
+use Rattle.linear.proofs.laws.Select.{any_of_no, no_any_of, stood}
 use Rattle.bases.specs.rows.Rows.{row_of}
 use Rattle.bases.specs.rows.Terms.{named, sum_of_forms, terms}
 use Rattle.bases.specs.rows.laws.Terms.{terms_rising, terms_part, terms_sum, terms_only, terms_few, row_terms, row_bit_law}

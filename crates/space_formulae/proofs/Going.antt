@@ -16,10 +16,10 @@ use Rattle.linear.specs.Entry.{inside, generator, chosen}
 use Rattle.linear.specs.Span.{Span}
 use Rattle.linear.specs.Spread.{completes, Inner}
 use Rattle.linear.specs.Word.{word}
-use Rattle.linear.specs.laws.Extension.{chosen_append, inserts_append}
-use Rattle.linear.specs.laws.Independent.{independent_dim}
-use Rattle.linear.specs.laws.Insert.{basis_of_span}
-use Rattle.linear.specs.laws.Spread.{inner_down, full_is, spread_leaf, spread_none, spread_end, spread_skip, spread_down}
+use Rattle.linear.proofs.laws.Extension.{chosen_append, inserts_append}
+use Rattle.linear.proofs.laws.Independent.{independent_dim}
+use Rattle.linear.proofs.laws.Insert.{basis_of_span}
+use Rattle.linear.proofs.laws.Spread.{inner_down, full_is, spread_leaf, spread_none, spread_end, spread_skip, spread_down}
 use Rattle.bases.specs.Basis.{rows_of, Valid, Holds}
 use Rattle.bases.specs.declared.Basis.{Basis}
 use Rattle.choices.specs.declared.Choice.{Choice}

@@ -7,6 +7,7 @@ ghost use Rattle.io.specs.Counts.{IsPrefixLen};
 ghost use Rattle.printing.specs.pages.Printed.{PrintedWhole};
 
 use printing::pages::Printed;
+use std::io::{Eprint, Print, Read};
 
 // What one read brings: nothing and `failed`, or `count` bytes, none at the end of the input.
 #[derive(Clone, Copy)]
@@ -15,15 +16,20 @@ struct Got {
     count: usize,
 }
 
-// One read of standard input, into the room from place `done` on.
-fn read_from(room: &mut [u8], done: usize) -> Got
+// One read of the input, into the room from place `done` on.
+fn read_from<R: Read>(reader: &mut R, room: &mut [u8], done: usize) -> Got
     requires { done ≤ length room.old }
     ensures { done + result.count ≤ length room.new }
 {
-    let got = libc::read(libc::STDIN_FILENO, &mut room[done..]);
-    Got {
-        failed: got < 0,
-        count: io::count(got, &room[done..]),
+    match reader.read(&mut room[done..]) {
+        Ok(count) => Got {
+            failed: false,
+            count,
+        },
+        Err(_) => Got {
+            failed: true,
+            count: 0,
+        },
     }
 }
 
@@ -34,18 +40,14 @@ pub struct Input {
     pub count: usize,
 }
 
-// Reads standard input until it ends, the room is full, or a read fails, which is said on standard error.
-pub fn read_input(room: &mut [u8]) -> Input
+// Reads until the input ends, the room is full, or a read fails.
+pub fn read_full<R: Read>(reader: &mut R, room: &mut [u8]) -> Input
     ensures { IsPrefixLen result.count room.new }
 {
     let mut done = 0;
     while done < room.len() {
-        let got = read_from(room, done);
+        let got = read_from(reader, room, done);
         if got.failed {
-            io::write_all(
-                libc::STDERR_FILENO,
-                b"gijpsando: standard input can't be read\n",
-            );
             return Input {
                 whole: false,
                 count: done,
@@ -62,19 +64,27 @@ pub fn read_input(room: &mut [u8]) -> Input
     }
 }
 
+// Reads standard input until it ends, the room is full, or a read fails, which is said on standard error.
+pub fn read_input(rt: &(impl std::io::Input + Eprint), room: &mut [u8]) -> Input
+    ensures { IsPrefixLen result.count room.new }
+{
+    let input = read_full(&mut rt.reader(), room);
+    if !input.whole {
+        let _ = rt.eprint("gijpsando: standard input can't be read\n");
+    }
+    input
+}
+
 // Writes what a call has printed, from the start of a page; whether all of it was written. (The call was not refused: the programs' pages take every text.)
-pub fn write_printed(said: Printed, page: &[u8]) -> bool
+pub fn write_printed(rt: &(impl Print + Eprint), said: Printed, page: &[u8]) -> bool
     requires { PrintedWhole said page.now }
 {
     let Printed::Bytes(m) = said else {
         return false;
     };
-    if io::write_all(libc::STDOUT_FILENO, &page[..m]) {
+    if rt.write_all(&page[..m]).is_ok() {
         return true;
     }
-    io::write_all(
-        libc::STDERR_FILENO,
-        b"gijpsando: standard output can't be written\n",
-    );
+    let _ = rt.eprint("gijpsando: standard output can't be written\n");
     false
 }

@@ -18,9 +18,9 @@ use Rattle.linear.specs.Basis.{dim}
 use Rattle.linear.specs.Order.{rising_lists}
 use Rattle.linear.specs.Entry.{entries, space, fits, same_basis}
 use Rattle.linear.specs.Word.{word}
-use Rattle.linear.specs.laws.Dimension.{dim_length}
-use Rattle.linear.specs.laws.Rank.{entries_below}
-use Rattle.linear.specs.laws.Select.{first_length}
+use Rattle.linear.proofs.laws.Dimension.{dim_length}
+use Rattle.linear.proofs.laws.Rank.{entries_below}
+use Rattle.linear.proofs.laws.Select.{first_length}
 use Rattle.catalogue.specs.listing.Listing.{fitting}
 use Rattle.catalogue.specs.listing.laws.Run.{fitting_in, fitting_le}
 use Rattle.catalogue.specs.Catalogue.{Catalogued, entry_listing, catalogue_of, seen_catalogue}

@@ -16,9 +16,9 @@ use Rattle.linear.specs.Entry.{inside, generator}
 use Rattle.linear.specs.Greedy.{wanted}
 use Rattle.linear.specs.Prices.{along, cheapest_in}
 use Rattle.linear.specs.Sorted.{place, placing, sorted}
-use Rattle.linear.specs.Theorems.{insertion_new}
+use Rattle.linear.proofs.Theorems.{insertion_new}
 use Rattle.linear.specs.Word.{word}
-use Rattle.linear.specs.laws.Greedy.{wanted_new}
+use Rattle.linear.proofs.laws.Greedy.{wanted_new}
 use Rattle.bases.specs.declared.Basis.{Basis}
 use Rattle.bases.specs.Basis.{rows_of, Valid, Holds, rows_length}
 use Rattle.words.specs.laws.Masks.{AllBelow, below_at}

@@ -3,7 +3,7 @@ use native.Mathlib.Omega.{arith}
 use mathlib.Core.Path.{◌≡◌, sym, ◌∙◌}
 use Prim.Native.Nat.{◌-◌}
 use lib.ListN.{length, take, get_or}
-use Rattle.linear.specs.laws.Order.{mem_get_d}
+use Rattle.linear.proofs.laws.Order.{mem_get_d}
 use Rattle.bases.specs.rows.Rows.{row_of}
 use Rattle.bases.specs.rows.laws.Echelon.{rows_first, masks_first, first_fit, rest_row}
 use Rattle.choices.specs.laws.Writing.{Writing, writing_start, writing_next, writing_end}

@@ -16,9 +16,9 @@ use Rattle.linear.specs.Basis.{insert}
 use Rattle.linear.specs.Entry.{inside, generator, chosen}
 use Rattle.linear.specs.Word.{word}
 use Rattle.linear.specs.Greedy.{wanted, greedy}
-use Rattle.linear.specs.Theorems.{insertion_new}
-use Rattle.linear.specs.laws.Greedy.{wanted_new}
-use Rattle.linear.specs.laws.Extension.{chosen_append}
+use Rattle.linear.proofs.Theorems.{insertion_new}
+use Rattle.linear.proofs.laws.Greedy.{wanted_new}
+use Rattle.linear.proofs.laws.Extension.{chosen_append}
 use Rattle.bases.specs.declared.Basis.{Basis}
 use Rattle.bases.specs.Basis.{rows_of, Valid, Holds, rows_length}
 use Rattle.choices.specs.declared.Choice.{Choice}

@@ -12,7 +12,7 @@ use Rattle.std.proofs.Math.ListN.{get_or, take}
 use Rattle.std.proofs.Math.Seq.{take-length}
 use Rattle.linear.specs.Entry.{generator, chosen}
 use Rattle.linear.specs.Word.{word}
-use Rattle.linear.specs.laws.Extension.{chosen_append}
+use Rattle.linear.proofs.laws.Extension.{chosen_append}
 use Rattle.choices.specs.declared.Choice.{Choice}
 use Rattle.kinds.specs.Limits.{most_products}
 use Rattle.choices.specs.Choice.{Whole, Chose, Added}

@@ -2,7 +2,7 @@
 use mathlib.Core.Path.{sym}
 use native.Mathlib.Omega.{arith}
 use Rattle.linear.specs.laws.Bit.{bit_below}
-use Rattle.linear.specs.laws.Shift.{bit_test}
+use Rattle.linear.proofs.laws.Shift.{bit_test}
 use Rattle.forms.proofs.coordinate.Goals as goal
 
 pub returns-then-t-lt64 : goal.returns-then-t-lt64

@@ -3,7 +3,7 @@ use mathlib.Core.Path.{sym, ap, ◌∙◌}
 use native.Mathlib.Omega.{arith}
 use lib.Count.{leading_le}
 use Rattle.linear.specs.Bit.{top}
-use Rattle.linear.specs.laws.Shift.{top_leading, top_zero}
+use Rattle.linear.proofs.laws.Shift.{top_leading, top_zero}
 use Rattle.forms.proofs.lead.Goals as goal
 
 pub returns-then-x-eq0 : goal.returns-then-x-eq0

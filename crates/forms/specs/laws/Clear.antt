@@ -15,7 +15,7 @@ use Rattle.linear.specs.Basis.{clear, reduce}
 use Rattle.linear.specs.Bit.{bit, bit_of, top}
 use Rattle.linear.specs.Word.{word, scale_w}
 use Rattle.linear.specs.laws.Bit.{top_span}
-use Rattle.linear.specs.laws.Reduce.{clear_nul}
+use Rattle.linear.proofs.laws.Reduce.{clear_nul}
 
 -- ---- a number and 1
 xor_one : (x d : ℕ) → x % 2 ≡ d → bit_xor x 1 ≡ x / 2 * 2 + differ d 1

@@ -8,7 +8,7 @@ use Rattle.std.proofs.Common.{sym, ◌∙◌, subst, true≢false, arith}
 use Rattle.std.proofs.Math.Decide.{dec_lt}
 use Rattle.linear.specs.Bit.{bit, top}
 use Rattle.linear.specs.laws.Bit.{top_one}
-use Rattle.linear.specs.laws.Word.{top_below}
+use Rattle.linear.proofs.laws.Word.{top_below}
 use Rattle.forms.specs.Weight.{weight}
 
 pub weight_most : (w x : ℕ) → weight w x ≤ w

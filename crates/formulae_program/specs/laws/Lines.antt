@@ -8,7 +8,7 @@ use Rattle.std.proofs.lemmas.List.{length-map}
 use Rattle.std.proofs.Math.ListN.{get_or-map}
 use Rattle.linear.specs.Entry.{chosen}
 use Rattle.linear.specs.Word.{word}
-use Rattle.linear.specs.laws.Order.{mem_get_d, mem_map_inv}
+use Rattle.linear.proofs.laws.Order.{mem_get_d, mem_map_inv}
 use Rattle.bases.specs.rows.Rows.{row_of}
 use Rattle.catalogue.specs.listing.laws.Run.{fitting_le}
 use Rattle.catalogue.specs.listing.laws.Placed.{placed}

@@ -9,7 +9,7 @@ use Rattle.kinds.specs.Refusal.{accepted, refuse}
 use Rattle.linear.specs.Basis.{dim}
 use Rattle.linear.specs.Entry.{Solution, space}
 use Rattle.linear.specs.Word.{word}
-use Rattle.linear.specs.laws.Order.{mem_get_d, mem_map}
+use Rattle.linear.proofs.laws.Order.{mem_get_d, mem_map}
 use Rattle.catalogue.specs.listing.laws.Run.{fitting_le}
 use Rattle.problems.specs.Problem.{Problem}
 use Rattle.catalogue.specs.Catalogue.{Catalogued, catalogue_of}

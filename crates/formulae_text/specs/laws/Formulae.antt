@@ -11,7 +11,7 @@ use Rattle.kinds.specs.laws.Refusal.{accepted_inj, refuse_inv}
 use Rattle.linear.specs.Basis.{dim}
 use Rattle.linear.specs.Formulae.{formulae}
 use Rattle.linear.specs.Word.{word}
-use Rattle.linear.specs.laws.Dimension.{dim_length}
+use Rattle.linear.proofs.laws.Dimension.{dim_length}
 use Rattle.catalogue.specs.listing.Listing.{fitting}
 use Rattle.catalogue.specs.listing.laws.Run.{fitting_in}
 use Rattle.problems.specs.Problem.{Problem}

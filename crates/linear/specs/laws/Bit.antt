@@ -1,6 +1,6 @@
 -- The laws of binary digits: those of a sum (`bit_of_xor`), of `and` and `or`; numbers with equal digits are equal (`bit_ext`); the highest digit (`top_is`, `top_span`).
 -- Assumes nothing.
-use Rattle.std.specs.Prelude.{◌≡◌, refl, ◌≢◌, false, ◌&&◌, ◌||◌, ℕ, zero, suc, ◌+◌, ◌-◌, ◌*◌, ◌/◌, ◌%◌, ◌^◌, ◌<◌, ◌≤◌, min, max}
+use Rattle.std.specs.Prelude.{◌≡◌, refl, ◌≢◌, Bool, true, false, not, ◌&&◌, ◌||◌, ℕ, zero, suc, ◌+◌, ◌-◌, ◌*◌, ◌/◌, ◌%◌, ◌^◌, ◌<◌, ◌≤◌, min, max}
 use Rattle.std.proofs.Common.{sym, ap, ◌∙◌, subst, true≢false, mod-lt, pow-suc, zero-lt-suc, div-one, le_refl, arith, pow_mono, pow_pos}
 use Rattle.std.proofs.lemmas.Bool.{false≢true}
 use Rattle.std.proofs.Math.Nat.{div-eq_of_lt, div-eq_of_lt-le, pow-succ', suc_inj, div-div-eq-div-mul, zero-div}

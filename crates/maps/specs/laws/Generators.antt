@@ -7,7 +7,7 @@ use Rattle.std.proofs.Math.Bool.{and-eq-true_iff}
 use Rattle.std.proofs.Math.Decide.{dec_lt}
 use Rattle.linear.specs.Bit.{bit, top}
 use Rattle.linear.specs.laws.Bit.{bit_zero, bit_ext, bit_below, top_one}
-use Rattle.linear.specs.laws.Word.{top_below}
+use Rattle.linear.proofs.laws.Word.{top_below}
 use Rattle.forms.specs.products.Product.{product_form}
 use Rattle.forms.specs.products.laws.Product.{product_coordinate}
 use Rattle.maps.specs.Textbook.{sum_to}

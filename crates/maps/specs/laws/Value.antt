@@ -11,7 +11,7 @@ use Rattle.std.specs.Int.Bits.{bit_xor}
 use Rattle.std.proofs.Math.Pow.{pow-lt}
 use Rattle.linear.specs.Bit.{bit, xor_b}
 use Rattle.linear.specs.laws.Bit.{bit_of_xor, bit_zero, bit_ext, bit_below}
-use Rattle.linear.specs.laws.Shift.{bit_shift, bit_shift_low}
+use Rattle.linear.proofs.laws.Shift.{bit_shift, bit_shift_low}
 use Rattle.forms.specs.products.Product.{product_form}
 use Rattle.forms.specs.products.laws.Product.{product_coordinate}
 use Rattle.maps.specs.Textbook.{sum_to}

@@ -1,5 +1,4 @@
 -- `problems::pose` meets its contract. Assumes nothing.
-use borrow.Author.Rules.{rules}
 use mathlib.Core.Path.{ap, ◌∙◌}
 use Rattle.kinds.specs.Kinds.{seen_kind}
 use Rattle.problems.specs.laws.Laying.{posed_2_laid, posed_kind_laid}

@@ -1,6 +1,4 @@
 -- `problems::pose_list` meets its contract. Assumes nothing.
-use borrow.Author.Rules.{rules}
-use Prim.Native.Nat.{ℕ, ◌≤◌}
 use native.Mathlib.Omega.{arith}
 use Rattle.problems.specs.laws.Laying.{listed_by_laid, listed_few, listed_laid}
 use Rattle.problems.proofs.pose_list.Goals as goal

@@ -1,8 +1,7 @@
 -- `problems::pose_map` meets its contract. Assumes nothing.
 use native.Mathlib.Omega.{arith}
-use borrow.Author.Rules.{rules}
-use mathlib.Core.Path.{◌≡◌, sym, ap, ◌∙◌}
-use Prim.Native.Nat.{ℕ, ◌≤◌}
+use mathlib.Core.Path.{◌≡◌, ap, ◌∙◌}
+use Prim.Native.Nat.{◌≤◌}
 use mathlib.Core.Option.{some}
 use Rattle.kinds.specs.laws.Sizes.{sizes_bounds}
 use Rattle.maps.specs.Generators.{count_of, seen_count}

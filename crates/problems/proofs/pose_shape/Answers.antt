@@ -1,6 +1,4 @@
 -- `problems::pose_shape` meets its contract. Assumes nothing.
-use borrow.Author.Rules.{rules}
-use borrow.Author.Tests.{not-true}
 use mathlib.Core.Path.{sym, ap, ◌∙◌}
 use Rattle.kinds.specs.Sizes.{seen_sizes}
 use Rattle.problems.specs.laws.Laying.{shaped_3_laid, shaped_list_laid, shaped_map_laid, list_targets}

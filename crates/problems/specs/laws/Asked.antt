@@ -16,7 +16,7 @@ use Rattle.kinds.specs.declared.Kind.{Kind}
 use Rattle.kinds.specs.declared.Shape.{Shape}
 use Rattle.kinds.specs.Limits.{most_generators}
 use Rattle.linear.specs.laws.Span.{mem_cons}
-use Rattle.linear.specs.laws.Order.{mem_index}
+use Rattle.linear.proofs.laws.Order.{mem_index}
 use Rattle.words.specs.Masks.{outside, wide, zero_in}
 use Rattle.words.specs.lists.Lists.{repeats, unlike}
 use Rattle.maps.specs.Generators.{generator_forms, count_of, length_list_of, at_list_of}

@@ -6,7 +6,7 @@
 --   list_targets                                 a list has between 1 and 64 targets
 --   sorted_list, sorted_map                      a list is sorted as a list, another kind as a map
 -- Assumes nothing.
-use Rattle.std.specs.Prelude.{◌≡◌, refl, Bool, true, false, cond, length, take}
+use Rattle.std.specs.Prelude.{◌≡◌, Bool, true, false, cond, length, take}
 use Rattle.std.proofs.Common.{sym, ◌∙◌, arith}
 use Rattle.std.proofs.Math.Path.{ap, ap₂}
 use mathlib.Core.List.{List}

@@ -4,13 +4,11 @@
 -- Assumes nothing.
 use Rattle.std.specs.Prelude.{◌≡◌, Bool, ◌||◌, cond, List, ℕ, ◌*◌, ◌≤◌, ltb, leb}
 use Rattle.std.proofs.Math.Path.{refl, ap}
-use Rattle.std.proofs.Common.{sym, ◌∙◌, arith, leb-true}
+use Rattle.std.proofs.Common.{◌∙◌, arith, leb-true}
 use Rattle.std.proofs.Math.Bool.{true, false}
 use Rattle.std.proofs.Math.Option.{Option, none, some}
-use Rattle.kinds.specs.Kinds.{kind_numbered}
-use Rattle.kinds.specs.Sizes.{sizes, given}
 use Rattle.kinds.specs.laws.Sizes.{given_some}
-use Rattle.kinds.specs.Refusal.{Answer, refused, accepted, need, refuse, refused_by}
+use Rattle.kinds.specs.Refusal.{refused, accepted, need, refuse, refused_by}
 use Rattle.kinds.specs.declared.Shape.{Shape}
 use Rattle.words.specs.Masks.{wide, zero_in}
 use Rattle.words.specs.lists.Lists.{repeats, unlike, list_refusal, map_refusal}

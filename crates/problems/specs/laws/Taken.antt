@@ -11,7 +11,7 @@ use Rattle.std.proofs.Math.Option.{some}
 use Rattle.std.proofs.lemmas.Bool.{not-false}
 use Rattle.kinds.specs.Kinds.{kind_numbered}
 use Rattle.kinds.specs.Sizes.{shape_of, sizes}
-use Rattle.kinds.specs.Refusal.{Answer, accepted, need, refuse}
+use Rattle.kinds.specs.Refusal.{Answer, accepted, refuse}
 use Rattle.kinds.specs.laws.Refusal.{accepted_inj, need_inv, refuse_inv, neither}
 use Rattle.kinds.specs.declared.Kind.{Kind}
 use Rattle.kinds.specs.declared.Shape.{Shape}

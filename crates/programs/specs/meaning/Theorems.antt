@@ -11,7 +11,7 @@ use Rattle.kinds.specs.Refusal.{Answer, accepted, follow}
 use Rattle.linear.specs.Basis.{dim}
 use Rattle.linear.specs.Entry.{space}
 use Rattle.linear.specs.Word.{word}
-use Rattle.linear.specs.laws.Order.{mem_get_d, mem_map}
+use Rattle.linear.proofs.laws.Order.{mem_get_d, mem_map}
 use Rattle.records.specs.Length.{record_length}
 use Rattle.catalogue.specs.listing.laws.Run.{fitting_le}
 use Rattle.printing.specs.record_lines.RecordLines.{entry_text, record_lines}

@@ -1,7 +1,7 @@
 -- `records::count` meets its contract, case by case. Assumes nothing.
 use native.Mathlib.Omega.{arith}
 use mathlib.Core.Path.{◌≡◌}
-use Prim.Native.Nat.{◌+◌, ◌<◌, ◌≤◌}
+use Prim.Native.Nat.{◌+◌}
 use mir.Syntax.{w64}
 use mir.Val.{Fits}
 use Rattle.records.specs.declared.Tally.{Tally}

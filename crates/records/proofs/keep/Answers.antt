@@ -1,13 +1,7 @@
 -- `records::keep` meets its contract: the entry is counted up to the limit, and written where it fits. Assumes nothing.
-use borrow.Author.Rules.{rules}
 use native.Mathlib.Omega.{arith}
-use mathlib.Core.Path.{◌≡◌, sym, ◌∙◌}
-use mathlib.Core.Logic.{◌≢◌}
+use mathlib.Core.Path.{sym, ◌∙◌}
 use mathlib.Core.List.{◌++◌}
-use Prim.Native.Nat.{◌+◌, ◌≤◌}
-use mir.Syntax.{w64}
-use mir.Val.{Fits}
-use lib.ListN.{length}
 use Rattle.bases.specs.Basis.{rows_of, rows_length}
 use Rattle.records.specs.Keep.{chain_of}
 use Rattle.records.specs.laws.Counted.{sane_counting, kept_unshown, kept_room, kept_shown}

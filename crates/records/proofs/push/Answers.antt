@@ -1,7 +1,6 @@
 -- `records::push` meets its contract: the number stands after the others. Assumes nothing.
 use native.Mathlib.Omega.{arith}
 use Rattle.records.proofs.Keeping.{pushed}
-use borrow.Author.Rules.{rules}
 use Rattle.records.proofs.push.Goals as goal
 
 pub returns : goal.returns

@@ -9,7 +9,7 @@ use Rattle.std.proofs.Common.{sym, ap, ap₂, ◌∙◌, arith}
 use Rattle.std.proofs.Math.Seq.{paste}
 use borrow.Author.Tests.{eq-eqb, ne_eqb, eqb-true, eqb-false, le-leb, lt-leb, leb-true, leb-false}
 use Rattle.records.specs.declared.Tally.{Tally}
-use Rattle.records.specs.Records.{State, note, Sane}
+use Rattle.records.specs.Records.{note, Sane}
 use Rattle.records.specs.Keep.{state_of, Counting, tallied}
 use Rattle.records.specs.laws.Records.{note_full, note_fits, note_short}
 

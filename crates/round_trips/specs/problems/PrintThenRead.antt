@@ -14,7 +14,7 @@ use Rattle.std.proofs.lemmas.Bool.{not-false}
 use Rattle.kinds.specs.Limits.{cost_bits}
 use Rattle.linear.specs.Basis.{dim}
 use Rattle.linear.specs.Word.{word}
-use Rattle.linear.specs.laws.Dimension.{dim_length}
+use Rattle.linear.proofs.laws.Dimension.{dim_length}
 use Rattle.kinds.specs.Refusal.{Answer, accepted, follow}
 use Rattle.words.specs.Masks.{wide}
 use Rattle.problems.specs.Problem.{Problem, shaped}

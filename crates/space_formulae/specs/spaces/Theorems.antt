@@ -19,9 +19,9 @@ use Rattle.linear.specs.Order.{Before, Ordered}
 use Rattle.linear.specs.Entry.{Solution, chosen, space, entries}
 use Rattle.linear.specs.Formulae.{formula, formulae, fewest, Formula}
 use Rattle.linear.specs.Word.{word}
-use Rattle.linear.specs.Theorems.{entry_solves, formulae_exactly, rank_formula}
-use Rattle.linear.specs.laws.Extension.{chosen_length}
-use Rattle.linear.specs.laws.Formulae.{formulae_ordered}
+use Rattle.linear.proofs.Theorems.{entry_solves, formulae_exactly, rank_formula}
+use Rattle.linear.proofs.laws.Extension.{chosen_length}
+use Rattle.linear.proofs.laws.Formulae.{formulae_ordered}
 use Rattle.bases.specs.rows.Rows.{row_of}
 use Rattle.bases.specs.rows.laws.Rows.{row_sum_law, row_only}
 use Rattle.catalogue.specs.listing.Listing.{flat, fitting}

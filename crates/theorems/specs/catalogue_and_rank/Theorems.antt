@@ -28,10 +28,10 @@ use Rattle.linear.specs.Rank.{Chosen, Computes, Rank}
 use Rattle.linear.specs.Formulae as formulae
 use Rattle.linear.specs.Formulae.{Fewest, formula, fewest, RankFormula}
 use Rattle.linear.specs.Word.{word}
-use Rattle.linear.specs.Theorems.{one_basis, entry_solves, solution_listed, spaces_once, space_once, entry_space, entries_in_order, extension_shape, extension_first, no_fewer, rank_formula, rank_exactly, rank_above, rank_beyond}
-use Rattle.linear.specs.laws.Order.{before_asym, ordered_same, rising_mem, mem_get_d, mem_map, mem_map_inv}
-use Rattle.linear.specs.laws.Entry.{space_reduced}
-use Rattle.linear.specs.laws.Rank.{solution_within, entries_below}
+use Rattle.linear.proofs.Theorems.{one_basis, entry_solves, solution_listed, spaces_once, space_once, entry_space, entries_in_order, extension_shape, extension_first, no_fewer, rank_formula, rank_exactly, rank_above, rank_beyond}
+use Rattle.linear.proofs.laws.Order.{before_asym, ordered_same, rising_mem, mem_get_d, mem_map, mem_map_inv}
+use Rattle.linear.proofs.laws.Entry.{space_reduced}
+use Rattle.linear.proofs.laws.Rank.{solution_within, entries_below}
 use Rattle.bases.specs.rows.Rows.{row_of}
 use Rattle.bases.specs.rows.laws.Rows.{row_sum_law, row_only}
 use Rattle.catalogue.specs.listing.laws.Run.{fitting_le, fitting_none}

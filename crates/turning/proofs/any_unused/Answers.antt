@@ -1,12 +1,12 @@
 -- `turning::any_unused` meets its contract: none of the first l products is. Assumes nothing.
 use mathlib.Core.Path.{◌≡◌, ap, ◌∙◌}
 use mathlib.Core.Bool.{true, false}
-use Prim.Native.Nat.{ℕ, ◌-◌, ◌≤◌}
+use Prim.Native.Nat.{ℕ, ◌-◌}
 use native.Mathlib.Omega.{arith}
 use borrow.Author.Tests.{eq-eqb, ne_eqb}
 use Rattle.words.specs.Masks.{zero_in}
 use Rattle.maps.specs.Generators.{list_of}
-use Rattle.turning.specs.Turning.{column, columns}
+use Rattle.turning.specs.Turning.{column}
 use Rattle.turning.specs.laws.Loops.{zero_here, zero_none}
 use Rattle.turning.proofs.any_unused.Goals as goal
 

@@ -1,13 +1,9 @@
 -- `turning::any_unused` meets its contract: none of the first l products is. Assumes nothing.
-use mathlib.Core.Path.{◌≡◌, ap, ◌∙◌}
-use mathlib.Core.Bool.{true, false}
-use Prim.Native.Nat.{ℕ, ◌-◌, ◌≤◌}
-use native.Mathlib.Omega.{arith}
-use borrow.Author.Tests.{eq-eqb, ne_eqb}
+use mathlib.Core.Path.{◌≡◌}
+use Prim.Native.Nat.{◌-◌, ◌≤◌}
 use Rattle.words.specs.Masks.{zero_in}
 use Rattle.maps.specs.Generators.{list_of}
 use Rattle.turning.specs.Turning.{column, columns}
-use Rattle.turning.specs.laws.Loops.{zero_here, zero_none}
 use Rattle.turning.proofs.any_unused.Given as goal
 
 abbrev pub invariant-loop-l : goal.invariant-loop-l

@@ -1,13 +1,8 @@
 -- `turning::column` meets its contract: after t turns the form has the bits of the first t masks. Assumes nothing.
 use mathlib.Core.Path.{◌≡◌, refl, sym, ap, ◌∙◌}
-use mathlib.Core.Bool.{Bool}
-use mathlib.Core.List.{List}
-use mathlib.Core.Logic.{⊎_elim}
-use Prim.Native.Nat.{ℕ, ◌-◌, ◌≤◌}
+use Prim.Native.Nat.{ℕ}
 use native.Mathlib.Omega.{arith}
-use borrow.Author.Rules.{rules}
-use lib.ListN.{length, get_or}
-use Rattle.linear.specs.Bit.{bit}
+use lib.ListN.{length}
 use Rattle.forms.specs.products.Product.{form_of}
 use Rattle.forms.specs.products.laws.Product.{form_set, form_unset}
 use Rattle.turning.proofs.column.Goals as goal

@@ -1,12 +1,9 @@
 -- `turning::put_reversed` meets its contract. Assumes nothing.
-use mathlib.Core.Path.{sym, ap, ◌∙◌}
 use mathlib.Core.List.{List}
 use Prim.Native.Nat.{ℕ, ◌-◌}
-use native.Mathlib.Omega.{arith}
 use lib.ListN.{length, get_or}
-use Rattle.words.specs.Buffers.{filled}
 use Rattle.turning.specs.Turning.{reversed}
-use Rattle.turning.specs.laws.Loops.{map_list, Put, put_start, put_next, put_end}
+use Rattle.turning.specs.laws.Loops.{Put}
 use Rattle.turning.proofs.put_reversed.Given as goal
 
 abbrev pub each : ℕ → List ℕ → ℕ → ℕ

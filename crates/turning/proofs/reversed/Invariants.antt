@@ -1,13 +1,9 @@
 -- `turning::reversed` meets its contract: after i turns the form has its bits below i. Assumes nothing.
-use mathlib.Core.Path.{◌≡◌, refl, sym, ap, ◌∙◌}
+use mathlib.Core.Path.{◌≡◌}
 use mathlib.Core.Bool.{Bool}
-use mathlib.Core.Logic.{⊎_elim}
 use Prim.Native.Nat.{ℕ, ◌-◌, ◌≤◌}
-use native.Mathlib.Omega.{arith}
-use borrow.Author.Rules.{rules}
 use Rattle.linear.specs.Bit.{bit}
 use Rattle.forms.specs.products.Product.{form_of}
-use Rattle.forms.specs.products.laws.Product.{form_set, form_unset}
 use Rattle.turning.proofs.reversed.Given as goal
 
 abbrev pub bits : ℕ → ℕ → ℕ → Bool

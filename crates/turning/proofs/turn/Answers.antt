@@ -4,7 +4,6 @@ use mathlib.Core.Option.{Option}
 use mathlib.Core.List.{List}
 use Prim.Native.Nat.{ℕ}
 use native.Mathlib.Omega.{arith}
-use borrow.Author.Rules.{rules}
 use lib.ListN.{length, length-map}
 use Rattle.kinds.specs.Kinds.{kind_numbered}
 use Rattle.kinds.specs.Refusal.{Answer, accepted, refused_by, follow}
@@ -13,9 +12,8 @@ use Rattle.kinds.specs.laws.Sizes.{sizes_bounds}
 use Rattle.kinds.specs.declared.Kind.{Kind}
 use Rattle.kinds.specs.declared.Shape.{Shape}
 use Rattle.formula_check.specs.Formula.{Admitted, formula_of, admit, lists_handed}
-use Rattle.formula_check.specs.Replies.{seen_admission, Fitting}
+use Rattle.formula_check.specs.Replies.{Fitting}
 use Rattle.formula_check.specs.laws.Admitted.{HandedSo, handed_inv, handed_fitting}
-use Rattle.formula_check.specs.declared.Admission.{Admission}
 use Rattle.turning.specs.Turning.{reversed, turned, turnable, turned_into, turning}
 use Rattle.turning.specs.Lent.{turned_reply}
 use Rattle.turning.specs.laws.Refusals.{lent_refused}

@@ -1,10 +1,9 @@
 -- `turning::turn_admitted` meets its contract. Assumes nothing.
 use mathlib.Core.Path.{refl, sym, ◌∙◌}
 use Prim.Native.Nat.{◌≤◌}
-use borrow.Author.Rules.{rules}
 use lib.ListN.{length}
 use Rattle.turning.specs.Turning.{turned}
-use Rattle.turning.specs.Lent.{full_of, Words}
+use Rattle.turning.specs.Lent.{full_of}
 use Rattle.turning.specs.laws.Refusals.{turned_as, short_room, lent_refused, lent_filled}
 use Rattle.turning.proofs.turn_admitted.Goals as goal
 
@@ -29,10 +28,10 @@ pub put_reversed-requires : goal.put_reversed-requires
 put_reversed-requires c = (((c.requires)).bits, ((let it : (let a = c.args in (length a.a.now ≤ length a.u.now) × (length a.a.now ≤ length a.v.now) × (a.n ≤ length a.w.now)) = short_room _ _ _ _ _ (sym c.too_short.ensures ∙ c.if-too_short.false) in it)).0)
 
 pub put_columns-requires : goal.put_columns-requires
-put_columns-requires c =(((c.requires)).outputs, ((let it : (let a = c.args in (length a.a.now ≤ length a.u.now) × (length a.a.now ≤ length a.v.now) × (a.n ≤ length a.w.now)) = short_room _ _ _ _ _ (sym c.too_short.ensures ∙ c.if-too_short.false) in it)).1)
+put_columns-requires c = (((c.requires)).outputs, ((let it : (let a = c.args in (length a.a.now ≤ length a.u.now) × (length a.a.now ≤ length a.v.now) × (a.n ≤ length a.w.now)) = short_room _ _ _ _ _ (sym c.too_short.ensures ∙ c.if-too_short.false) in it)).1)
 
 pub put_columns-requires-2 : goal.put_columns-requires-2
-put_columns-requires-2 c =(((c.requires)).pairs, ((let it : (let a = c.args in (length a.a.now ≤ length a.u.now) × (length a.a.now ≤ length a.v.now) × (a.n ≤ length a.w.now)) = short_room _ _ _ _ _ (sym c.too_short.ensures ∙ c.if-too_short.false) in it)).2)
+put_columns-requires-2 c = (((c.requires)).pairs, ((let it : (let a = c.args in (length a.a.now ≤ length a.u.now) × (length a.a.now ≤ length a.v.now) × (a.n ≤ length a.w.now)) = short_room _ _ _ _ _ (sym c.too_short.ensures ∙ c.if-too_short.false) in it)).2)
 
 pub returns : goal.returns
 returns c =

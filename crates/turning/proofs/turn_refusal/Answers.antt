@@ -1,18 +1,12 @@
 -- `turning::turn_refusal` meets its contract. Assumes nothing.
-use mathlib.Core.Path.{◌≡◌, refl, sym, ap, ◌∙◌}
-use mathlib.Core.Bool.{true}
-use mathlib.Core.Option.{Option, some}
-use Prim.Native.Nat.{ℕ}
+use mathlib.Core.Path.{refl, sym, ap, ◌∙◌}
 use native.Mathlib.Omega.{arith}
-use borrow.Author.Rules.{rules}
 use borrow.Author.Tests.{eq-eqb, ne_eqb}
 use Rattle.kinds.specs.Kinds.{number_of, seen_kind}
-use Rattle.kinds.specs.Sizes.{shape_of, sizes, seen_sizes}
-use Rattle.kinds.specs.Refusal.{accepted, need}
+use Rattle.kinds.specs.Sizes.{sizes, seen_sizes}
 use Rattle.kinds.specs.laws.Sizes.{poly_some}
 use Rattle.kinds.specs.declared.Known.{Known}
-use Rattle.kinds.specs.declared.Kind.TheVariants as kind
-use Rattle.turning.specs.Turning.{is_poly, turnable}
+use Rattle.turning.specs.Turning.{is_poly}
 use Rattle.turning.specs.laws.Refusals.{turnable_as}
 use Rattle.turning.proofs.turn_refusal.Goals as goal
 

@@ -11,10 +11,10 @@ use Rattle.linear.specs.Basis.{inserts, basis_of, Reduced}
 use Rattle.linear.specs.Share.{over}
 use Rattle.linear.specs.Span.{Span}
 use Rattle.linear.specs.Word.{word, Below}
-use Rattle.linear.specs.laws.Dimension.{sub_length, inserts_le}
-use Rattle.linear.specs.laws.Insert.{inserts_reduced, inserts_span, basis_of_reduced}
+use Rattle.linear.proofs.laws.Dimension.{sub_length, inserts_le}
+use Rattle.linear.proofs.laws.Insert.{inserts_reduced, inserts_span, basis_of_reduced}
 use Rattle.linear.specs.laws.Span.{span_bind, span_mem}
-use Rattle.linear.specs.laws.Word.{at_most, inserts_below, basis_of_below}
+use Rattle.linear.proofs.laws.Word.{at_most, inserts_below, basis_of_below}
 use Rattle.residues.specs.children.Residues.{with_residue}
 use Rattle.residues.specs.children.Weighed.{rank_of, Shared, Owner, Weighed}
 use Rattle.residues.specs.children.laws.Handed.{residue_mem}

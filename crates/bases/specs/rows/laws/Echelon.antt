@@ -20,14 +20,14 @@ use Rattle.linear.specs.Bit.{bit, top}
 use Rattle.linear.specs.Entry.{inside}
 use Rattle.linear.specs.Span.{Span, Independent}
 use Rattle.linear.specs.Word.{word, is_zero}
-use Rattle.linear.specs.laws.Echelon.{echelon_next, next_span}
-use Rattle.linear.specs.laws.Entry.{inside_yes, yes_inside}
-use Rattle.linear.specs.laws.Insert.{norm_one, basis_of_reduced, basis_of_span}
-use Rattle.linear.specs.laws.Reduce.{echelon_member}
-use Rattle.linear.specs.laws.Shift.{one_shift}
+use Rattle.linear.proofs.laws.Echelon.{echelon_next, next_span}
+use Rattle.linear.proofs.laws.Entry.{inside_yes, yes_inside}
+use Rattle.linear.proofs.laws.Insert.{norm_one, basis_of_reduced, basis_of_span}
+use Rattle.linear.proofs.laws.Reduce.{echelon_member}
+use Rattle.linear.proofs.laws.Shift.{one_shift}
 use Rattle.linear.specs.laws.Space.{minus_add}
 use Rattle.linear.specs.laws.Span.{mem_cons, span_bind, span_mono}
-use Rattle.linear.specs.laws.Word.{norm_word}
+use Rattle.linear.proofs.laws.Word.{norm_word}
 use Rattle.forms.specs.Row.{row_form}
 use Rattle.bases.specs.Basis.{most_rows}
 use Rattle.bases.specs.declared.rows.Echelon.{Echelon}

@@ -15,7 +15,7 @@ use Rattle.linear.specs.Coefficients.{coefficients}
 use Rattle.linear.specs.Planes.{Three, n0, n1, n2, trit, Planes, coord3}
 use Rattle.linear.specs.Trit.{trits}
 use Rattle.linear.specs.laws.Bit.{bit_below}
-use Rattle.linear.specs.laws.Coefficients.{coefficients_length, coefficients_sum, coefficients_only}
+use Rattle.linear.proofs.laws.Coefficients.{coefficients_length, coefficients_sum, coefficients_only}
 use Rattle.linear.specs.laws.Planes.{nonzero, is_two, planes_ext, add3, scale3}
 use Rattle.layouts.specs.declared.Layout.{Layout}
 use Rattle.layouts.specs.declared.Layout.TheVariants as layout

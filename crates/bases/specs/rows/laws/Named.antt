@@ -16,7 +16,7 @@ use Rattle.linear.specs.Bit.{bit}
 use Rattle.linear.specs.Order.{Rising}
 use Rattle.linear.specs.Entry.{chosen, generator}
 use Rattle.linear.specs.Word.{word, scale_w}
-use Rattle.linear.specs.laws.Order.{rising_from, rising_mem, mem_get_d}
+use Rattle.linear.proofs.laws.Order.{rising_from, rising_mem, mem_get_d}
 use Rattle.linear.specs.laws.Span.{mem_cons}
 use Rattle.forms.specs.Row.{row_form}
 use Rattle.bases.specs.rows.Terms.{named, sum_of_forms}

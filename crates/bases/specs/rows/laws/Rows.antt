@@ -16,7 +16,7 @@ use Rattle.linear.specs.Bit.{bit, bit_of}
 use Rattle.linear.specs.Word.{word, scale_w}
 use Rattle.linear.specs.laws.Space.{add_assoc, add_left_comm, plus_scale}
 use Rattle.linear.specs.laws.Span.{span_cons, span_nul}
-use Rattle.linear.specs.laws.Coefficients.{coefficients_length, coefficients_sum, coefficients_only}
+use Rattle.linear.proofs.laws.Coefficients.{coefficients_length, coefficients_sum, coefficients_only}
 use Rattle.linear.specs.laws.Bit.{bit_suc, bit_of_xor, bit_zero}
 use Rattle.forms.specs.Row.{row_form}
 use Rattle.bases.specs.rows.Rows.{row_bit, mask_of, row_of}

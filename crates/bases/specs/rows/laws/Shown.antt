@@ -13,9 +13,9 @@ use Rattle.linear.specs.Part.{part}
 use Rattle.linear.specs.Entry.{chosen}
 use Rattle.linear.specs.Planes.{Three, n0, n1, n2, Planes, coord3}
 use Rattle.linear.specs.Trit.{trits}
-use Rattle.linear.specs.laws.Dimension.{dim_length}
-use Rattle.linear.specs.laws.Extension.{chosen_length}
-use Rattle.linear.specs.laws.Part.{part_members, part_own, part_size}
+use Rattle.linear.proofs.laws.Dimension.{dim_length}
+use Rattle.linear.proofs.laws.Extension.{chosen_length}
+use Rattle.linear.proofs.laws.Part.{part_members, part_own, part_size}
 use Rattle.layouts.specs.declared.Layout.{Layout}
 use Rattle.layouts.specs.declared.Layout.TheVariants as layout
 use Rattle.layouts.specs.Layout.{form_space}

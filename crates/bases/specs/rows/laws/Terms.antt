@@ -12,9 +12,9 @@ use Rattle.linear.specs.Order.{Rising}
 use Rattle.linear.specs.Part.{part}
 use Rattle.linear.specs.Entry.{chosen}
 use Rattle.linear.specs.Word.{word}
-use Rattle.linear.specs.laws.Dimension.{dim_length}
-use Rattle.linear.specs.laws.Extension.{chosen_length}
-use Rattle.linear.specs.laws.Part.{part_rising, part_independent, part_spans, part_members, part_own, part_size}
+use Rattle.linear.proofs.laws.Dimension.{dim_length}
+use Rattle.linear.proofs.laws.Extension.{chosen_length}
+use Rattle.linear.proofs.laws.Part.{part_rising, part_independent, part_spans, part_members, part_own, part_size}
 use Rattle.bases.specs.rows.Rows.{row_of}
 use Rattle.bases.specs.rows.Terms.{named, sum_of_forms, terms}
 use Rattle.bases.specs.rows.laws.Rows.{row_sum_law, row_only}

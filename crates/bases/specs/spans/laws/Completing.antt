@@ -11,10 +11,10 @@ use Rattle.linear.specs.Entry.{inside, generator}
 use Rattle.linear.specs.Select.{only}
 use Rattle.linear.specs.Spread.{later, completes}
 use Rattle.linear.specs.Word.{word}
-use Rattle.linear.specs.laws.Dimension.{sub_length}
-use Rattle.linear.specs.laws.Insert.{inserts_reduced}
-use Rattle.linear.specs.laws.Greedy.{inserts_within}
-use Rattle.linear.specs.laws.Spread.{later_in, later_out}
+use Rattle.linear.proofs.laws.Dimension.{sub_length}
+use Rattle.linear.proofs.laws.Insert.{inserts_reduced}
+use Rattle.linear.proofs.laws.Greedy.{inserts_within}
+use Rattle.linear.proofs.laws.Spread.{later_in, later_out}
 use Rattle.bases.specs.declared.Basis.{Basis}
 use Rattle.bases.specs.Basis.{rows_of, Valid, Holds, rows_length}
 use Rattle.bases.specs.spans.laws.Missing.{left_none, left_some}

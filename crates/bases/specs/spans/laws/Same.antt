@@ -6,7 +6,7 @@ use Rattle.std.proofs.Common.{sym, ap, ap₂, ◌∙◌, arith, add-one, take-su
 use Rattle.std.proofs.Math.Seq.{take-length}
 use Rattle.linear.specs.Entry.{same_basis}
 use Rattle.linear.specs.Word.{word}
-use Rattle.linear.specs.laws.Entry.{same_basis_yes, same_yes}
+use Rattle.linear.proofs.laws.Entry.{same_basis_yes, same_yes}
 
 module _ (B C : List ℕ) where
   pub record Alike (i : ℕ) : Type 0 where

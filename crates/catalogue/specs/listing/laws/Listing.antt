@@ -12,10 +12,10 @@ use Rattle.std.proofs.lemmas.List.{length-map}
 use Rattle.linear.specs.Basis.{dim}
 use Rattle.linear.specs.Entry.{entries, space}
 use Rattle.linear.specs.Word.{word}
-use Rattle.linear.specs.laws.Order.{mem_map_inv}
-use Rattle.linear.specs.laws.Entry.{entries_sound, entries_shape}
-use Rattle.linear.specs.laws.Rank.{entries_below}
-use Rattle.linear.specs.laws.Count.{entries_count}
+use Rattle.linear.proofs.laws.Order.{mem_map_inv}
+use Rattle.linear.proofs.laws.Entry.{entries_sound, entries_shape}
+use Rattle.linear.proofs.laws.Rank.{entries_below}
+use Rattle.linear.proofs.laws.Count.{entries_count}
 use Rattle.records.specs.declared.Tally.{Tally}
 use Rattle.records.specs.Records.{State, run}
 use Rattle.records.specs.Keep.{state_of}

@@ -16,8 +16,8 @@ use Rattle.std.proofs.Math.ListN.{length, take}
 use Rattle.linear.specs.Entry.{entries, space}
 use Rattle.linear.specs.Prices.{precedes, cheaper, cheapest_from, cheapest_in, by_price}
 use Rattle.linear.specs.Word.{word}
-use Rattle.linear.specs.laws.Cheapest.{cheapest_in_formula}
-use Rattle.linear.specs.laws.Entry.{entries_sound}
+use Rattle.linear.proofs.laws.Cheapest.{cheapest_in_formula}
+use Rattle.linear.proofs.laws.Entry.{entries_sound}
 use Rattle.kinds.specs.Limits.{most_generators}
 use Rattle.records.specs.Records.{State, runs}
 use Rattle.cheapest.specs.Offers.{offered, priced, price_base}

@@ -18,8 +18,8 @@ use Rattle.linear.specs.Entry.{generator, chosen, generators_in, space, entries}
 use Rattle.linear.specs.Order.{Rising}
 use Rattle.linear.specs.Walk.{Next, spans, walk, Steps}
 use Rattle.linear.specs.Word.{word}
-use Rattle.linear.specs.laws.Insert.{insert_reduced}
-use Rattle.linear.specs.laws.Walk.{walk_is, Free, walk_none, free_steps}
+use Rattle.linear.proofs.laws.Insert.{insert_reduced}
+use Rattle.linear.proofs.laws.Walk.{walk_is, Free, walk_none, free_steps}
 use Rattle.residues.specs.children.Residues.{residues, known, with_residue}
 use Rattle.residues.specs.children.laws.Known.{known_yes, known_no}
 use Rattle.residues.specs.children.laws.Child.{with_zero}

@@ -18,7 +18,7 @@ use Rattle.std.specs.Int.Bits.{bit_xor, xor_shifted}
 use Rattle.std.proofs.Math.Pow.{high, low}
 use Rattle.linear.specs.Bit.{bit, bit_of}
 use Rattle.linear.specs.laws.Bit.{bit_below}
-use Rattle.linear.specs.laws.Shift.{bit_mod, one_shift}
+use Rattle.linear.proofs.laws.Shift.{bit_mod, one_shift}
 use Rattle.forms.specs.products.Product.{form_of, term, product_form}
 
 -- ---- the coordinates of form_of

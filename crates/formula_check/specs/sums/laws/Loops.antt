@@ -11,7 +11,7 @@ use Rattle.std.specs.Int.Bits.{bit_xor, bit_and, xor_zero_r, xor_zero_l}
 use Rattle.linear.specs.Bit.{bit}
 use Rattle.linear.specs.Word.{word, scale_w}
 use Rattle.linear.specs.laws.Space.{add_assoc}
-use Rattle.linear.specs.laws.Shift.{bit_set, bit_unset}
+use Rattle.linear.proofs.laws.Shift.{bit_set, bit_unset}
 use Rattle.words.specs.laws.Scan.{next}
 use Rattle.forms.specs.products.Product.{product_form}
 use Rattle.forms.specs.Weight.{weight}

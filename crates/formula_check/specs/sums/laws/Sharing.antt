@@ -15,9 +15,9 @@ use mathlib.Core.List.Permᴰ
 use mathlib.Core.List.{Permᴰ}
 use Rattle.linear.specs.Select.{any_of, Once}
 use Rattle.linear.specs.laws.Span.{mem_cons}
-use Rattle.linear.specs.laws.Select.{any_of_no, stands, stood}
-use Rattle.linear.specs.laws.Permuted.{perm_mem}
-use Rattle.linear.specs.laws.Order.{mem_index, mem_get_d}
+use Rattle.linear.proofs.laws.Select.{any_of_no, stands, stood}
+use Rattle.linear.proofs.laws.Permuted.{perm_mem}
+use Rattle.linear.proofs.laws.Order.{mem_index, mem_get_d}
 use Rattle.words.specs.laws.Scan.{next}
 use Rattle.forms.specs.Weight.{weight}
 use Rattle.formula_check.specs.Formula.{adders, unshared_adders}

@@ -1,5 +1,4 @@
 -- `problems::prices::pose_priced` meets its contract. Assumes nothing.
-use borrow.Author.Rules.{rules}
 use mathlib.Core.Path.{ap, ◌∙◌}
 use Rattle.kinds.specs.Kinds.{seen_kind}
 use Rattle.problems.specs.prices.laws.Laying.{priced_2_laid, priced_kind_laid}

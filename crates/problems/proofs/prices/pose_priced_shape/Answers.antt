@@ -1,5 +1,4 @@
 -- `problems::prices::pose_priced_shape` meets its contract. Assumes nothing.
-use borrow.Author.Rules.{rules}
 use native.Mathlib.Omega.{arith}
 use mathlib.Core.Path.{sym, ◌∙◌}
 use Rattle.problems.specs.prices.laws.Laying.{also_laid, refused_laid, laid_asked, made_laid}

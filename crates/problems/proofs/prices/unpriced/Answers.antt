@@ -1,5 +1,4 @@
 -- `problems::prices::unpriced` meets its contract. Assumes nothing.
-use borrow.Author.Rules.{rules}
 use mathlib.Core.Path.{sym, ◌∙◌}
 use Rattle.problems.specs.prices.laws.Taken.{unpriced_many, unpriced_rest}
 use Rattle.problems.proofs.prices.unpriced.Goals as goal

@@ -12,8 +12,8 @@ use Rattle.linear.specs.Basis.{dim}
 use Rattle.linear.specs.Formulae as formulae
 use Rattle.linear.specs.Formulae.{Fewest, fewest}
 use Rattle.linear.specs.Word.{word}
-use Rattle.linear.specs.Theorems.{rank_formula}
-use Rattle.linear.specs.laws.Dimension.{dim_length}
+use Rattle.linear.proofs.Theorems.{rank_formula}
+use Rattle.linear.proofs.laws.Dimension.{dim_length}
 use Rattle.choices.specs.Choice.{formula_record}
 use Rattle.problems.specs.Problem.{Problem, shaped}
 use Rattle.problems.specs.Theorems.{Few, shaped_few}

@@ -3,7 +3,7 @@ use native.Mathlib.Omega.{arith}
 use borrow.Author.Rules.{rules}
 use Prim.Native.Nat.{ℕ}
 use lib.Pow.{pow_pos}
-use Rattle.linear.specs.laws.Shift.{one_shift}
+use Rattle.linear.proofs.laws.Shift.{one_shift}
 use Rattle.rank.specs.matrix_rank.laws.Loops.{lowest}
 use Rattle.rank.proofs.matrix_rank.lowest.Statement.{statement}
 use Rattle.rank.proofs.matrix_rank.lowest.Tie as tie

@@ -27,9 +27,9 @@ use Rattle.linear.specs.Order.{Rising}
 use Rattle.linear.specs.Prices.{cheapest, cheapest_in, by_price}
 use Rattle.linear.specs.Select.{any_of}
 use Rattle.linear.specs.Word.{word}
-use Rattle.linear.specs.laws.Fewest.{fewest_formula, fewest_some, fewest_none, fewest_missed}
-use Rattle.linear.specs.laws.AllFormulae.{cheapest_entries}
-use Rattle.linear.specs.laws.Prices.{cheapest_none, by_price_length}
+use Rattle.linear.proofs.laws.Fewest.{fewest_formula, fewest_some, fewest_none, fewest_missed}
+use Rattle.linear.proofs.laws.AllFormulae.{cheapest_entries}
+use Rattle.linear.proofs.laws.Prices.{cheapest_none, by_price_length}
 use Rattle.bases.specs.declared.Basis.{Basis}
 use Rattle.bases.specs.Basis.{rows_of, Holds, based_dim}
 use Rattle.bases.specs.rows.Rows.{row_of}

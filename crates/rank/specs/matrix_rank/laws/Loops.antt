@@ -20,9 +20,9 @@ use Rattle.std.proofs.Math.ListN.{length}
 use Rattle.linear.specs.Basis.{basis_of, insert, inserts, dim}
 use Rattle.linear.specs.Span.{Span}
 use Rattle.linear.specs.Word.{word}
-use Rattle.linear.specs.laws.Extension.{inserts_append}
-use Rattle.linear.specs.laws.Order.{mem_get_d}
-use Rattle.linear.specs.laws.Shift.{one_shift}
+use Rattle.linear.proofs.laws.Extension.{inserts_append}
+use Rattle.linear.proofs.laws.Order.{mem_get_d}
+use Rattle.linear.proofs.laws.Shift.{one_shift}
 use Rattle.linear.specs.laws.Span.{cast, mem_cons, span_none, span_nul, span_head, span_mem, span_add}
 use Rattle.bases.specs.Basis.{rows_of, Valid, Holds, rows_length}
 use Rattle.bases.specs.declared.Basis.{Basis}

@@ -15,10 +15,10 @@ use Rattle.linear.specs.Basis.{dim}
 use Rattle.linear.specs.Entry.{entries, space}
 use Rattle.linear.specs.Span.{Span}
 use Rattle.linear.specs.Word.{word, scale_w}
-use Rattle.linear.specs.laws.Dimension.{dim_le, dim_length}
-use Rattle.linear.specs.laws.Entry.{entries_sound}
-use Rattle.linear.specs.laws.Insert.{basis_of_span}
-use Rattle.linear.specs.laws.Rank.{chosen_from}
+use Rattle.linear.proofs.laws.Dimension.{dim_le, dim_length}
+use Rattle.linear.proofs.laws.Entry.{entries_sound}
+use Rattle.linear.proofs.laws.Insert.{basis_of_span}
+use Rattle.linear.proofs.laws.Rank.{chosen_from}
 use Rattle.linear.specs.laws.Span.{cast, mem_cons, span_uncons, span_nil, span_weak, span_none, span_head, span_add, span_scale, span_bind}
 use Rattle.bases.specs.declared.Basis.{Basis}
 use Rattle.rank.specs.matrix_rank.Matrix.{row, Products, Ranked, Summed, Bound}

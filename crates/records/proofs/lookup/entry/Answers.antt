@@ -1,6 +1,5 @@
 -- `records::lookup::entry` meets its contract. Assumes nothing.
 use native.Mathlib.Omega.{arith}
-use borrow.Author.Rules.{rules}
 use Rattle.records.specs.lookup.laws.Lookup.{not_shown, below, too_long, no_size, runs_past, fits_in, held}
 use Rattle.records.proofs.lookup.entry.Goals as goal
 

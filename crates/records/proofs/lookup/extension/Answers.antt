@@ -1,7 +1,6 @@
 -- `records::lookup::extension` meets its contract. Assumes nothing.
 use mathlib.Core.Path.{ap₂, ◌∙◌}
 use lib.ListN.{take}
-use borrow.Author.Rules.{rules}
 use Rattle.records.proofs.lookup.extension.Goals as goal
 
 pub returns : goal.returns

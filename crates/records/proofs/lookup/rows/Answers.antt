@@ -1,7 +1,6 @@
 -- `records::lookup::rows` meets its contract. Assumes nothing.
 use mathlib.Core.Path.{ap₂, ◌∙◌}
 use lib.ListN.{drop}
-use borrow.Author.Rules.{rules}
 use Rattle.records.proofs.lookup.rows.Goals as goal
 
 pub returns : goal.returns

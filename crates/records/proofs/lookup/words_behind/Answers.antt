@@ -1,6 +1,5 @@
 -- `records::lookup::words_behind` meets its contract. Assumes nothing.
 use native.Mathlib.Omega.{arith}
-use borrow.Author.Rules.{rules}
 use borrow.Author.Rules.{part_to_end}
 use Rattle.records.specs.lookup.laws.Lookup.{drop_none}
 use Rattle.records.proofs.lookup.words_behind.Goals as goal

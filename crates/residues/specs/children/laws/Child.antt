@@ -19,11 +19,11 @@ use Rattle.linear.specs.Select.{only}
 use Rattle.linear.specs.Entry.{same_vec, inside, generator, generators_in}
 use Rattle.linear.specs.Word.{word, scale_w, is_zero}
 use Rattle.linear.specs.laws.Bit.{bit_zero, top_one}
-use Rattle.linear.specs.laws.Reduce.{clear_done}
-use Rattle.linear.specs.laws.Residue.{reduce_nul, reduce_insert}
-use Rattle.linear.specs.laws.Select.{mem_only}
-use Rattle.linear.specs.laws.Entry.{same_vec_yes}
-use Rattle.linear.specs.laws.Word.{norm_word}
+use Rattle.linear.proofs.laws.Reduce.{clear_done}
+use Rattle.linear.proofs.laws.Residue.{reduce_nul, reduce_insert}
+use Rattle.linear.proofs.laws.Select.{mem_only}
+use Rattle.linear.proofs.laws.Entry.{same_vec_yes}
+use Rattle.linear.proofs.laws.Word.{norm_word}
 use Rattle.residues.specs.children.Residues.{residues, with_residue}
 
 -- ---- its residues

@@ -18,14 +18,14 @@ use Rattle.linear.specs.Entry.{inside, generator, chosen, generators_in}
 use Rattle.linear.specs.Walk.{Next, Steps}
 use Rattle.linear.specs.Word.{word}
 use Rattle.linear.specs.laws.Span.{mem_cons, span_mem, span_bind, span_head}
-use Rattle.linear.specs.laws.Reduce.{member}
-use Rattle.linear.specs.laws.Insert.{insert_reduced, insert_span, inserts_reduced, inserts_span, dec_member}
-use Rattle.linear.specs.laws.Order.{mem_get_d}
-use Rattle.linear.specs.laws.Select.{mem_only}
-use Rattle.linear.specs.laws.Entry.{yes_inside}
-use Rattle.linear.specs.laws.Greedy.{inserts_within}
-use Rattle.linear.specs.laws.Residue.{residue_span}
-use Rattle.linear.specs.laws.Canonical.{steps_low, steps_length}
+use Rattle.linear.proofs.laws.Reduce.{member}
+use Rattle.linear.proofs.laws.Insert.{insert_reduced, insert_span, inserts_reduced, inserts_span, dec_member}
+use Rattle.linear.proofs.laws.Order.{mem_get_d}
+use Rattle.linear.proofs.laws.Select.{mem_only}
+use Rattle.linear.proofs.laws.Entry.{yes_inside}
+use Rattle.linear.proofs.laws.Greedy.{inserts_within}
+use Rattle.linear.proofs.laws.Residue.{residue_span}
+use Rattle.linear.proofs.laws.Canonical.{steps_low, steps_length}
 use Rattle.residues.specs.children.Residues.{residues, known, with_residue}
 use Rattle.residues.specs.children.Barren.{Barren}
 use Rattle.residues.specs.children.Found.{Leads, Spared, Met, MetBy, Grown, Found, FoundBy, Finished, LeftOver}

@@ -17,9 +17,9 @@ use Rattle.linear.specs.Basis.{clear, inserts, basis_of, Reduced}
 use Rattle.linear.specs.Share.{over}
 use Rattle.linear.specs.Word.{word, scale_w}
 use Rattle.linear.specs.laws.Span.{span_mem, span_bind, span_mono}
-use Rattle.linear.specs.laws.Insert.{inserts_reduced, inserts_span, basis_of_reduced, basis_of_span}
-use Rattle.linear.specs.laws.Dimension.{basis_of_is}
-use Rattle.linear.specs.laws.Share.{less_new, inserts_grow, over_append, over_sub, add_back}
+use Rattle.linear.proofs.laws.Insert.{inserts_reduced, inserts_span, basis_of_reduced, basis_of_span}
+use Rattle.linear.proofs.laws.Dimension.{basis_of_is}
+use Rattle.linear.proofs.laws.Share.{less_new, inserts_grow, over_append, over_sub, add_back}
 use Rattle.residues.specs.children.Residues.{with_residue}
 use Rattle.residues.specs.children.Weighed.{rank_of}
 use Rattle.residues.specs.children.laws.Child.{clear_zero, clear_self, zero_clear, clear_at}

@@ -12,10 +12,10 @@ use Rattle.linear.specs.Basis.{clear, insert, inserts, basis_of, Reduced, dim}
 use Rattle.linear.specs.Entry.{generator}
 use Rattle.linear.specs.Word.{word}
 use Rattle.linear.specs.laws.Span.{cast, span_add, span_rest, span_head}
-use Rattle.linear.specs.laws.Reduce.{reduce_rest}
-use Rattle.linear.specs.laws.Insert.{insert_reduced, insert_span}
-use Rattle.linear.specs.laws.Greedy.{inserts_within}
-use Rattle.linear.specs.laws.Share.{over_some}
+use Rattle.linear.proofs.laws.Reduce.{reduce_rest}
+use Rattle.linear.proofs.laws.Insert.{insert_reduced, insert_span}
+use Rattle.linear.proofs.laws.Greedy.{inserts_within}
+use Rattle.linear.proofs.laws.Share.{over_some}
 use Rattle.residues.specs.children.Residues.{residues, with_residue}
 use Rattle.residues.specs.children.Found.{Leads, Spared}
 use Rattle.residues.specs.children.Weighed.{points, rank_of, Shared, Owner, Weighed, Pick, Apart, Joined, PickedBy}

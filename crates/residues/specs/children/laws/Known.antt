@@ -15,10 +15,10 @@ use Rattle.linear.specs.Select.{any_of}
 use Rattle.linear.specs.Entry.{generator}
 use Rattle.linear.specs.Walk.{Next}
 use Rattle.linear.specs.Word.{word, scale_w, is_zero}
-use Rattle.linear.specs.laws.Reduce.{member}
-use Rattle.linear.specs.laws.Insert.{insert_reduced}
-use Rattle.linear.specs.laws.Select.{no_any_of, any_of_here, any_of_yes}
-use Rattle.linear.specs.laws.Order.{mem_index, mem_get_d}
+use Rattle.linear.proofs.laws.Reduce.{member}
+use Rattle.linear.proofs.laws.Insert.{insert_reduced}
+use Rattle.linear.proofs.laws.Select.{no_any_of, any_of_here, any_of_yes}
+use Rattle.linear.proofs.laws.Order.{mem_index, mem_get_d}
 use Rattle.residues.specs.children.Residues.{residues, known}
 use Rattle.residues.specs.children.laws.Child.{residue_at, reduce_child, clear_zero, zero_yes}
 

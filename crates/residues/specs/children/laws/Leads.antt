@@ -18,13 +18,13 @@ use Rattle.linear.specs.Entry.{generator, generators_in}
 use Rattle.linear.specs.Share.{Two, over, alike, space_weight}
 use Rattle.linear.specs.Heavy.{Heavy}
 use Rattle.linear.specs.Word.{word}
-use Rattle.linear.specs.laws.Reduce.{member}
-use Rattle.linear.specs.laws.Insert.{basis_of_reduced}
-use Rattle.linear.specs.laws.Order.{mem_get_d}
-use Rattle.linear.specs.laws.Greedy.{inserts_within}
-use Rattle.linear.specs.laws.Residue.{residue_span}
-use Rattle.linear.specs.laws.Share.{over_sub, alike_mem}
-use Rattle.linear.specs.laws.Heavy.{in_w, fills_one, fills_none, heavy}
+use Rattle.linear.proofs.laws.Reduce.{member}
+use Rattle.linear.proofs.laws.Insert.{basis_of_reduced}
+use Rattle.linear.proofs.laws.Order.{mem_get_d}
+use Rattle.linear.proofs.laws.Greedy.{inserts_within}
+use Rattle.linear.proofs.laws.Residue.{residue_span}
+use Rattle.linear.proofs.laws.Share.{over_sub, alike_mem}
+use Rattle.linear.proofs.laws.Heavy.{in_w, fills_one, fills_none, heavy}
 use Rattle.residues.specs.children.Residues.{residues, known, with_residue}
 use Rattle.residues.specs.children.Found.{Leads}
 use Rattle.residues.specs.children.Weighed.{points, rank_of}

@@ -22,17 +22,17 @@ use Rattle.linear.specs.Greedy.{greedy}
 use Rattle.linear.specs.Word.{word}
 use Rattle.linear.specs.laws.Space.{add_assoc}
 use Rattle.linear.specs.laws.Span.{mem_cons, cast, span_add, span_mem, span_bind}
-use Rattle.linear.specs.laws.Reduce.{member}
-use Rattle.linear.specs.laws.Insert.{inserts_reduced, basis_of_reduced, basis_of_span}
-use Rattle.linear.specs.laws.Dimension.{sub_length, inserts_le}
-use Rattle.linear.specs.laws.Order.{rising_mem}
-use Rattle.linear.specs.laws.Entry.{inside_yes, yes_inside, generators_in_within}
-use Rattle.linear.specs.laws.Extension.{chosen_length}
-use Rattle.linear.specs.laws.Greedy.{inserts_within, greedy_rising, greedy_passes, greedy_fresh, greedy_covers}
-use Rattle.linear.specs.laws.Residue.{residue_span}
-use Rattle.linear.specs.laws.Heavy.{in_w}
-use Rattle.linear.specs.laws.FormSum.{form_sum, ShortRelation, reduce_add, over_one, fresh_sum}
-use Rattle.linear.specs.laws.Relation.{relation_pairs, relation_lines}
+use Rattle.linear.proofs.laws.Reduce.{member}
+use Rattle.linear.proofs.laws.Insert.{inserts_reduced, basis_of_reduced, basis_of_span}
+use Rattle.linear.proofs.laws.Dimension.{sub_length, inserts_le}
+use Rattle.linear.proofs.laws.Order.{rising_mem}
+use Rattle.linear.proofs.laws.Entry.{inside_yes, yes_inside, generators_in_within}
+use Rattle.linear.proofs.laws.Extension.{chosen_length}
+use Rattle.linear.proofs.laws.Greedy.{inserts_within, greedy_rising, greedy_passes, greedy_fresh, greedy_covers}
+use Rattle.linear.proofs.laws.Residue.{residue_span}
+use Rattle.linear.proofs.laws.Heavy.{in_w}
+use Rattle.linear.proofs.laws.FormSum.{form_sum, ShortRelation, reduce_add, over_one, fresh_sum}
+use Rattle.linear.proofs.laws.Relation.{relation_pairs, relation_lines}
 use Rattle.residues.specs.children.Residues.{residues, with_residue}
 use Rattle.residues.specs.children.Found.{Leads, Spared}
 use Rattle.residues.specs.children.Weighed.{rank_of, Owner, Weighed}

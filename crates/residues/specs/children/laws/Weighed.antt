@@ -9,7 +9,7 @@ use Rattle.linear.specs.Span.{Span}
 use Rattle.linear.specs.Basis.{reduce, Reduced, dim}
 use Rattle.linear.specs.Entry.{generator}
 use Rattle.linear.specs.Word.{word}
-use Rattle.linear.specs.laws.Residue.{residue_span}
+use Rattle.linear.proofs.laws.Residue.{residue_span}
 use Rattle.residues.specs.children.Residues.{residues, with_residue}
 use Rattle.residues.specs.children.Found.{Leads, Spared}
 use Rattle.residues.specs.children.Weighed.{points, rank_of, Owner, Weighed, Light, Pick, Picked}

@@ -5,7 +5,7 @@ use mathlib.Core.Path.{sym, subst}
 use mathlib.Core.List.{List}
 use Prim.Native.Nat.{ℕ, ◌+◌, ◌-◌, ◌<◌}
 use lib.ListN.{length, get_or}
-use Rattle.linear.specs.laws.Order.{mem_get_d}
+use Rattle.linear.proofs.laws.Order.{mem_get_d}
 use Rattle.selections.specs.on_forms.laws.Marking.{Marking, marking_start, marking_skip, marking_next, marking_end}
 use Rattle.selections.proofs.on_forms.mark.Goals as goal
 use Rattle.selections.proofs.on_forms.mark.Goals.{else-e-skip, then-e-skip}

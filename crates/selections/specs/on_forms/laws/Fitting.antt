@@ -18,14 +18,14 @@ use Rattle.linear.specs.Order.{Rising}
 use Rattle.linear.specs.Select.{any_of, only}
 use Rattle.linear.specs.Entry.{inside, chosen, generator}
 use Rattle.linear.specs.Word.{word}
-use Rattle.linear.specs.laws.Order.{rising_mem}
+use Rattle.linear.proofs.laws.Order.{rising_mem}
 use Rattle.linear.specs.laws.Span.{span_mono}
-use Rattle.linear.specs.laws.Insert.{basis_of_reduced, basis_of_span}
-use Rattle.linear.specs.laws.Dimension.{basis_of_is}
-use Rattle.linear.specs.laws.Entry.{inside_yes, yes_inside}
-use Rattle.linear.specs.laws.Select.{no_any_of, only_mem, stands, stood}
-use Rattle.linear.specs.laws.Permuted.{perm_mem, any_of_perm}
-use Rattle.linear.specs.laws.Share.{only_length}
+use Rattle.linear.proofs.laws.Insert.{basis_of_reduced, basis_of_span}
+use Rattle.linear.proofs.laws.Dimension.{basis_of_is}
+use Rattle.linear.proofs.laws.Entry.{inside_yes, yes_inside}
+use Rattle.linear.proofs.laws.Select.{no_any_of, only_mem, stands, stood}
+use Rattle.linear.proofs.laws.Permuted.{perm_mem, any_of_perm}
+use Rattle.linear.proofs.laws.Share.{only_length}
 use Rattle.words.specs.lists.Lists.{repeats}
 use Rattle.words.specs.lists.laws.Standing.{repeats_perm}
 use Rattle.bases.specs.rows.Terms.{terms}

@@ -18,8 +18,8 @@ use Rattle.linear.specs.Greedy.{greedy}
 use Rattle.linear.specs.Part.{part}
 use Rattle.linear.specs.Select.{any_of, only}
 use Rattle.linear.specs.Word.{word}
-use Rattle.linear.specs.laws.Greedy.{greedy_same}
-use Rattle.linear.specs.laws.Select.{any_of_no, only_mem}
+use Rattle.linear.proofs.laws.Greedy.{greedy_same}
+use Rattle.linear.proofs.laws.Select.{any_of_no, only_mem}
 use Rattle.words.specs.laws.Scan.{next}
 use Rattle.words.specs.laws.Blank.{zero_at}
 use Rattle.words.specs.lists.Lists.{repeats}

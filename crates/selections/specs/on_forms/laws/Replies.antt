@@ -16,7 +16,7 @@ use Rattle.linear.specs.Part.{part}
 use Rattle.linear.specs.Select.{any_of}
 use Rattle.linear.specs.Entry.{inside, chosen}
 use Rattle.linear.specs.Word.{word}
-use Rattle.linear.specs.laws.Part.{part_basis, part_independent}
+use Rattle.linear.proofs.laws.Part.{part_basis, part_independent}
 use Rattle.bases.specs.declared.Basis.{Basis}
 use Rattle.bases.specs.Basis.{rows_of, Holds}
 use Rattle.bases.specs.declared.rows.Echelon.{Echelon}

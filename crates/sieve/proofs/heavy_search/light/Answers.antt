@@ -1,7 +1,7 @@
 -- `sieve::heavy_search::light` meets its contract: a shift is a power of two, and a quotient times its divisor is at most what is divided. Assumes nothing.
 use native.Mathlib.Omega.{arith}
 use lib.Pow.{pow_pos}
-use Rattle.linear.specs.laws.Shift.{one_shift}
+use Rattle.linear.proofs.laws.Shift.{one_shift}
 use Rattle.sieve.specs.heavy_search.laws.Light.{points_shift, points_some, light_none, light_most}
 use Rattle.sieve.proofs.heavy_search.light.Goals as goal
 

@@ -1,6 +1,6 @@
 -- `sieve::sizes::relation_size` meets its contract: a shift is a power of two, and what is compared with it is below it. Assumes nothing.
 use native.Mathlib.Omega.{arith}
-use Rattle.linear.specs.laws.Shift.{one_shift}
+use Rattle.linear.proofs.laws.Shift.{one_shift}
 use Rattle.sieve.specs.heavy_search.laws.Size.{all_small, sum_fits, double_fits, product_fits, bound_fits, size_three, size_four}
 use Rattle.sieve.proofs.sizes.relation_size.Goals as goal
 

@@ -12,8 +12,8 @@ use Rattle.linear.specs.Span.{Span}
 use Rattle.linear.specs.Basis.{clear, inserts, basis_of}
 use Rattle.linear.specs.Word.{word}
 use Rattle.linear.specs.laws.Span.{span_mem, span_bind}
-use Rattle.linear.specs.laws.Insert.{inserts_reduced, inserts_span, basis_of_reduced, basis_of_span}
-use Rattle.linear.specs.laws.Dimension.{basis_of_is}
+use Rattle.linear.proofs.laws.Insert.{inserts_reduced, inserts_span, basis_of_reduced, basis_of_span}
+use Rattle.linear.proofs.laws.Dimension.{basis_of_is}
 use Rattle.bases.specs.Basis.{rows_of, Holds}
 use Rattle.bases.specs.declared.Basis.{Basis}
 use Rattle.residues.specs.children.Residues.{with_residue}

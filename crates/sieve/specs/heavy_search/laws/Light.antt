@@ -5,7 +5,7 @@
 use Rattle.std.specs.Prelude.{◌≡◌, ◌≢◌, ℕ, ◌-◌, ◌*◌, ◌/◌, ◌%◌, ◌^◌, ◌<◌, ◌≤◌}
 use Rattle.std.proofs.Common.{ap, subst, inl, inr, mul-le-mul_left, arith, pow_mono}
 use Rattle.std.proofs.Math.Nat.{mul-div-le}
-use Rattle.linear.specs.laws.Shift.{one_shift}
+use Rattle.linear.proofs.laws.Shift.{one_shift}
 use Rattle.residues.specs.children.Weighed.{points, Light}
 
 pub points_shift : (missing : ℕ) → missing ≤ 8 → 1 * 2 ^ missing % 2 ^ 64 - 1 ≡ points missing

@@ -14,8 +14,8 @@ use Rattle.std.proofs.Math.ListN.{get_or-eq_default}
 use Rattle.linear.specs.Basis.{clear, reduce, insert, basis_of, Reduced}
 use Rattle.linear.specs.Entry.{generator}
 use Rattle.linear.specs.Word.{word}
-use Rattle.linear.specs.laws.Insert.{insert_reduced}
-use Rattle.linear.specs.laws.Reduce.{clear_nul, member}
+use Rattle.linear.proofs.laws.Insert.{insert_reduced}
+use Rattle.linear.proofs.laws.Reduce.{clear_nul, member}
 use Rattle.residues.specs.children.Residues.{residues, with_residue}
 use Rattle.residues.specs.children.Found.{Leads, Spared, Fair, Grown, Found}
 use Rattle.residues.specs.children.Weighed.{Shared}

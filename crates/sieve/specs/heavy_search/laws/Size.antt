@@ -7,7 +7,7 @@ use Rattle.std.specs.Prelude.{◌≡◌, refl, List, ℕ, ◌+◌, ◌-◌, ◌*
 use Rattle.std.proofs.Common.{ap, subst, mul-le-mul, arith, pow_mono, pow-add, Fits}
 use Rattle.std.proofs.lemmas.List.{length-replicate}
 use Rattle.std.specs.Int.{w64}
-use Rattle.linear.specs.laws.Shift.{one_shift}
+use Rattle.linear.proofs.laws.Shift.{one_shift}
 use Rattle.words.specs.laws.Blank.{zero_at}
 use Rattle.relations.specs.pairs.Pairs.{head_room, link_room, Falling, Values}
 use Rattle.relations.specs.Relations.{Sized}

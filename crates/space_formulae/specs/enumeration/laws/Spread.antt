@@ -5,7 +5,7 @@ use Rattle.std.specs.Prelude.{◌≡◌, List, [], map, ℕ, length}
 use Rattle.linear.specs.Basis.{Reduced}
 use Rattle.linear.specs.Formulae.{formulae}
 use Rattle.linear.specs.Word.{word}
-use Rattle.linear.specs.laws.Spread.{spread_is}
+use Rattle.linear.proofs.laws.Spread.{spread_is}
 use Rattle.choices.specs.Choice.{formula_record}
 use Rattle.space_formulae.specs.enumeration.Spread.{formulae_from}
 

@@ -17,10 +17,10 @@ use Rattle.linear.specs.Select.{any_of}
 use Rattle.linear.specs.Entry.{same_basis, inside, generators_in, fits, Solution}
 use Rattle.linear.specs.Spread.{later, completes}
 use Rattle.linear.specs.Word.{word}
-use Rattle.linear.specs.laws.Insert.{basis_of_reduced}
-use Rattle.linear.specs.laws.Dimension.{basis_of_is, dim_le}
-use Rattle.linear.specs.laws.Select.{any_of_no, no_any_of}
-use Rattle.linear.specs.laws.Entry.{same_basis_yes, same_yes, inside_yes, yes_inside, fits_yes, yes_fits, generators_in_within}
+use Rattle.linear.proofs.laws.Insert.{basis_of_reduced}
+use Rattle.linear.proofs.laws.Dimension.{basis_of_is, dim_le}
+use Rattle.linear.proofs.laws.Select.{any_of_no, no_any_of}
+use Rattle.linear.proofs.laws.Entry.{same_basis_yes, same_yes, inside_yes, yes_inside, fits_yes, yes_fits, generators_in_within}
 use Rattle.bases.specs.declared.Basis.{Basis}
 use Rattle.bases.specs.Basis.{rows_of, Holds, rows_length}
 use Rattle.space_formulae.specs.spaces.Spaces.{is_entry, Rows}

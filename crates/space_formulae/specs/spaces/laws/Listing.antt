@@ -19,8 +19,8 @@ use Rattle.linear.specs.Formulae.{formulae}
 use Rattle.linear.specs.Spread.{Inner}
 use Rattle.linear.specs.Word.{word}
 use Rattle.linear.specs.laws.Span.{span_nil, span_none}
-use Rattle.linear.specs.laws.Order.{mem_map_inv}
-use Rattle.linear.specs.laws.Formulae.{formulae_are}
+use Rattle.linear.proofs.laws.Order.{mem_map_inv}
+use Rattle.linear.proofs.laws.Formulae.{formulae_are}
 use Rattle.bases.specs.declared.Basis.{Basis}
 use Rattle.bases.specs.Basis.{rows_of, Holds}
 use Rattle.bases.specs.rows.Rows.{row_of}

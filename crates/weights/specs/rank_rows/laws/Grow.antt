@@ -17,7 +17,7 @@ use Rattle.linear.specs.Span.{Span}
 use Rattle.linear.specs.Word.{word}
 use Rattle.linear.specs.laws.Space.{add_assoc, add_nul}
 use Rattle.linear.specs.laws.Span.{cast, span_add, span_mem, span_mono}
-use Rattle.linear.specs.laws.Reduce.{reduce_rest}
+use Rattle.linear.proofs.laws.Reduce.{reduce_rest}
 use Rattle.weights.specs.rank_rows.Stretch.{stretch, StretchGrowing, StretchGrown, row_room}
 use Rattle.residues.specs.Room.{search_room}
 

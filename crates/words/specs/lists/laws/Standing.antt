@@ -10,9 +10,9 @@ use mathlib.Core.List.Memᴰ
 use mathlib.Core.List.{List, Permᴰ}
 use Rattle.std.proofs.Math.Decide.{ℕ_discrete}
 use Rattle.linear.specs.Select.{any_of}
-use Rattle.linear.specs.laws.Select.{stands, stood}
-use Rattle.linear.specs.laws.Permuted.{any_of_perm}
-use Rattle.linear.specs.laws.Order.{mem_index, mem_get_d}
+use Rattle.linear.proofs.laws.Select.{stands, stood}
+use Rattle.linear.proofs.laws.Permuted.{any_of_perm}
+use Rattle.linear.proofs.laws.Order.{mem_index, mem_get_d}
 use Rattle.words.specs.laws.Scan.{turn, done}
 use Rattle.words.specs.lists.Lists.{repeats}
 
