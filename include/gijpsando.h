@@ -1,7 +1,7 @@
 /*
  * Check, for callers in C: is a formula for a bilinear map right for every input, and how many adders does it need?
  *
- * Link with target/staticlib/libservice.a, which `rt staticlib service` proves and writes. Both calls are total: they take any input,
+ * Link with target/staticlib/libservice.a, which `command/build service` proves and writes. Both calls are total: they take any input,
  * keep nothing between calls, allocate nothing, and write only what is said below. Buffers must not overlap.
  *
  * Refusals, the first that applies: 1 the first two lines are not as they should be; 2 the kind is unknown, or is list; 3 a size misfits;

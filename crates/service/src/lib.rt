@@ -1,4 +1,4 @@
-// Check for callers in C: one call on a file's bytes, one on numbers. All refusals are made inside; include/gijpsando.h describes them.
+// Check for callers in C (`service_c` exports it): one call on a file's bytes, one on numbers. All refusals are made inside; include/gijpsando.h describes them.
 // check_program   what the Check program prints of an input
 #![tactic(auto)]
 
@@ -16,8 +16,7 @@ pub mod check_program;
 
 // Check of a file: what the Check program would print goes to out, and the reply is its length (above 35); or the refusal's number, and out
 // is as it was. Too short an out is refused by 9.
-#[unsafe(no_mangle)]
-pub extern "C" fn gijpsando_check(file: &[u8], out: &mut [u8]) -> usize
+pub fn gijpsando_check(file: &[u8], out: &mut [u8]) -> usize
     ensures { (result ≡ reply_of (check_file file.now) out.old)
         × (out.new ≡ bytes_of (check_file file.now) out.old) }
 {
@@ -43,8 +42,7 @@ fn put_three(words: &mut [u64], x: u64, y: u64, z: u64)
 
 // Check on numbers and slices: 0 and in reply the verdict (0 right, 1 wrong), the output and the adders; or the refusal's number, and reply
 // is as it was. Fewer than 3 words for the reply are refused by 9.
-#[unsafe(no_mangle)]
-pub extern "C" fn gijpsando_check_numbers(
+pub fn gijpsando_check_numbers(
     kind: u64,
     p: u64,
     q: u64,

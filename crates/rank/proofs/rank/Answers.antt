@@ -2,8 +2,8 @@
 use borrow.Author.Rules.{rules}
 use native.Mathlib.Omega.{arith}
 use mathlib.Core.Path.{refl}
-use Rattle.problems.specs.laws.Handed.{replied_as, few_handed}
-use Rattle.problems.specs.prices.laws.Handed.{problem_laid, priced_refused, priced_made, prices_handed, narrow_handed}
+use Rattle.problems.proofs.laws.Handed.{replied_as, few_handed}
+use Rattle.problems.proofs.laws.of_prices.Handed.{problem_laid, priced_refused, priced_made, prices_handed, narrow_handed}
 use Rattle.rank.specs.Rank.{rank}
 use Rattle.rank.specs.fewest.Fewest.{lent_ranking}
 use Rattle.rank.specs.laws.Numbers.{rank_told}

@@ -1,7 +1,7 @@
 -- `space_formulae::formulae` meets its contract. Assumes nothing.
 use mathlib.Core.Path.{refl}
 use borrow.Author.Rules.{rules}
-use Rattle.problems.specs.laws.Handed.{follow_refused, follow_made, replied_as}
+use Rattle.problems.proofs.laws.Handed.{follow_refused, follow_made, replied_as}
 use Rattle.space_formulae.specs.spaces.Spaces.{formulae_of, lent_formulae}
 use Rattle.space_formulae.specs.laws.Replies.{made_some}
 use Rattle.space_formulae.specs.laws.Numbers.{formulae_told}

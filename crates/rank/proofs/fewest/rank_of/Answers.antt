@@ -5,7 +5,7 @@ use mathlib.Core.Path.{sym, ap, ◌∙◌}
 use Rattle.kinds.specs.Refusal.{Answer}
 use Rattle.rank.specs.fewest.Fewest.{Ranking, lent_ranking}
 use Rattle.rank.specs.declared.fewest.Least.TheVariants as answered
-use Rattle.problems.specs.laws.Handed.{replied_as}
+use Rattle.problems.proofs.laws.Handed.{replied_as}
 use Rattle.rank.specs.fewest.laws.Least.{says_beyond, says_above, says_formula, missed_is, found_as, asking, finishing, few_held, numbers_held}
 use Rattle.rank.proofs.fewest.rank_of.Goals as goal
 
