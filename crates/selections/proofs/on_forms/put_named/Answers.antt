@@ -15,13 +15,27 @@ pub loop-i-init : goal.loop-i-init
 loop-i-init c = let a = c.args in naming_start a.numbers.now a.mask a.out.now
 
 pub offset_bounds-out-m : goal.offset_bounds-out-m
-offset_bounds-out-m c = omega (arith, (let l = c.loop-i in naming_inside c.args.numbers.now c.args.mask c.args.out.now l.out l.m l.i l.invariant c.loop-i-test.true (sym c.coordinate.ensures ∙ c.if-coordinate.true) c.requires), c.loop-i.invariant.same)
+offset_bounds-out-m c = omega (
+  arith,
+  (let l = c.loop-i in
+      naming_inside c.args.numbers.now c.args.mask c.args.out.now l.out l.m l.i l.invariant c.loop-i-test.true (sym c.coordinate.ensures ∙
+      c.if-coordinate.true) c.requires),
+  c.loop-i.invariant.same,
+)
 
 pub bounds-out-m : goal.bounds-out-m
-bounds-out-m c = (let l = c.loop-i in naming_inside c.args.numbers.now c.args.mask c.args.out.now l.out l.m l.i l.invariant c.loop-i-test.true (sym c.coordinate.ensures ∙ c.if-coordinate.true) c.requires)
+bounds-out-m c = (let l = c.loop-i in
+    naming_inside c.args.numbers.now c.args.mask c.args.out.now l.out l.m l.i l.invariant c.loop-i-test.true (sym c.coordinate.ensures ∙
+    c.if-coordinate.true) c.requires)
 
 pub overflow_add-m : goal.overflow_add-m
-overflow_add-m c = omega (arith, (let l = c.loop-i in naming_inside c.args.numbers.now c.args.mask c.args.out.now l.out l.m l.i l.invariant c.loop-i-test.true (sym c.coordinate.ensures ∙ c.if-coordinate.true) c.requires), c.loop-i.invariant.same)
+overflow_add-m c = omega (
+  arith,
+  (let l = c.loop-i in
+      naming_inside c.args.numbers.now c.args.mask c.args.out.now l.out l.m l.i l.invariant c.loop-i-test.true (sym c.coordinate.ensures ∙
+      c.if-coordinate.true) c.requires),
+  c.loop-i.invariant.same,
+)
 
 pub loop-i-preserved : goal.loop-i-preserved
 loop-i-preserved c =
@@ -30,11 +44,15 @@ loop-i-preserved c =
     let t = c.loop-i-test.true in
     let q = c.coordinate.ensures in
     let at : List ℕ → ℕ → Type 0 = λ out m. Naming a.numbers.now a.mask a.out.now out m (l.i + 1) in
-    elim c.if-coordinate.branch [ then-coordinate w ↦ subst (λ (m : ℕ). at c.if-coordinate.out m) (sym w.m-is)
-    (subst (λ (o : List ℕ). at o (l.m + 1)) (sym w.out-is)
-    (naming_next a.numbers.now a.mask a.out.now l.out l.m l.i l.invariant t (sym q ∙ w.if-coordinate.true) c.requires)) | else-coordinate w ↦ subst (λ (m : ℕ). at c.if-coordinate.out m) (sym w.m-is)
-    (subst (λ (o : List ℕ). at o l.m) (sym w.out-is)
-    (naming_skip a.numbers.now a.mask a.out.now l.out l.m l.i l.invariant t (sym q ∙ w.if-coordinate.false))) ]
+    elim c.if-coordinate.branch [
+      | then-coordinate w ↦ subst (λ (m : ℕ). at c.if-coordinate.out m) (sym w.m-is)
+          (subst (λ (o : List ℕ). at o (l.m + 1)) (sym w.out-is)
+          (naming_next a.numbers.now a.mask a.out.now l.out l.m l.i l.invariant t (sym q ∙ w.if-coordinate.true) c.requires))
+      | else-coordinate w ↦ subst
+          (λ (m : ℕ). at c.if-coordinate.out m) (sym w.m-is)
+          (subst (λ (o : List ℕ). at o l.m) (sym w.out-is)
+          (naming_skip a.numbers.now a.mask a.out.now l.out l.m l.i l.invariant t (sym q ∙ w.if-coordinate.false)))
+    ]
 
 pub shape_of-out : goal.shape_of-out
 shape_of-out c = c.loop-i.invariant.same
