@@ -20,7 +20,7 @@ use Rattle.bases.specs.Basis.{rows_of, Valid, Holds, rows_length}
 use Rattle.linear.proofs.laws.Word.{at_most, insert_below, insert_place}
 use Rattle.bases.specs.declared.Basis.{Basis}
 use Rattle.bases.specs.insertion.Placing.{Placed}
-use Rattle.bases.specs.insertion.laws.Sifting.{sift_place}
+use Rattle.bases.proofs.laws.of_insertion.Sifting.{sift_place}
 
 pub holds_empty : Holds [] (record { rows = replicate 64 0; len = 0 })
 holds_empty =

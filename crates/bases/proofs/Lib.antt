@@ -1,2 +1,3 @@
 -- What the proofs on bases share.
 mod Growing
+pub mod laws

@@ -1,3 +1,2 @@
 -- A new row placed among the rows of a reduced basis.
 pub mod Placing
-pub mod laws

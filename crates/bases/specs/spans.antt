@@ -1,2 +1,1 @@
 -- Tests on the spans of bases.
-pub mod laws

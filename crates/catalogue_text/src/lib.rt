@@ -5,7 +5,7 @@
 
 ghost use Rattle.std.specs.Prelude.{◌≡◌, ◌≤◌, length, take};
 ghost use Rattle.problems.specs.Problem.{problem};
-ghost use Rattle.problems.specs.Theorems.{Few};
+ghost use Rattle.problems.proofs.Theorems.{Few};
 ghost use Rattle.catalogue_text.specs.CatalogueAnswers.{catalogue_reply};
 ghost use Rattle.printing.specs.refusals.Pages.{reply_page};
 

@@ -3,8 +3,6 @@ pub mod Formula
 pub mod Refusals
 pub mod Replies
 pub mod Buffers
-pub mod Theorems
-pub mod laws
 pub mod sums
 pub mod sides
 pub mod verdicts

@@ -1,5 +1,3 @@
 -- What Check's reply means.
 pub mod Meaning
 pub mod Tensor
-pub mod Theorems
-pub mod laws

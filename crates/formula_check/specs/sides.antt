@@ -1,3 +1,2 @@
 -- The masks of one side.
 pub mod Sides
-pub mod laws

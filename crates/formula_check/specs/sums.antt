@@ -1,6 +1,4 @@
 -- The parts of a formula.
 pub mod Sums
 pub mod Sharing
-pub mod Theorems
 pub mod Examples
-pub mod laws

@@ -6,7 +6,7 @@ use Rattle.std.specs.Prelude.{◌≡◌, ◌↔◌, List, ℕ, length}
 use Rattle.kinds.specs.Kinds.{number_of, kind_numbered}
 use Rattle.kinds.specs.Refusal.{accepted}
 use Rattle.formula_check.specs.Formula.{Admitted, admit, lists_handed}
-use Rattle.formula_check.specs.laws.Admitted.{handed_inv, handed_is}
+use Rattle.formula_check.proofs.laws.Admitted.{handed_inv, handed_is}
 use Rattle.formula_files.specs.FormulaFile.{formula_file}
 use Rattle.formula_files.specs.Lent.{formula_reply, formula_read_numbers}
 use Rattle.formula_files.specs.Sound.{Sound}

@@ -21,7 +21,7 @@ use Rattle.problem_files.specs.inputs.laws.Handed.{shaped_counted, handed_few}
 use Rattle.problem_files.specs.inputs.laws.Input.{input_posed, posed_enough}
 use Rattle.problem_files.specs.declared.judging.Purpose.TheVariants as purpose
 use Rattle.problems.specs.Problem.{problem}
-use Rattle.problems.specs.Theorems.{Few}
+use Rattle.problems.proofs.Theorems.{Few}
 use Rattle.catalogue.specs.Catalogue.{Catalogued, entry_listing, catalogue_of}
 use Rattle.formulae_text.specs.lines.FormulaLines.{formula_text, left_text, formulae_text}
 use Rattle.formulae_text.specs.FormulaAnswers.{formulae_answer, entry_formulae}

@@ -6,7 +6,7 @@ ghost use Rattle.printing.specs.pages.Printed.{page_answer, seen_printed};
 ghost use Rattle.printing.specs.refusals.Pages.{part_page};
 ghost use Rattle.kinds.specs.Limits.{most_generators, most_targets};
 ghost use Rattle.problems.specs.Problem.{problem};
-ghost use Rattle.problems.specs.Theorems.{Few};
+ghost use Rattle.problems.proofs.Theorems.{Few};
 ghost use Rattle.formulae_program.specs.first_part.Listed.{formulae_head};
 ghost use Rattle.formulae_program.specs.first_part.Starts.{Planned, Starts, first_text};
 

@@ -1,4 +1,3 @@
 -- Forms as words.
 pub mod Layout
-pub mod laws
 mod Examples

@@ -2,6 +2,4 @@
 pub mod Problem
 pub mod Replies
 pub mod Taken
-pub mod Theorems
-pub mod laws
 pub mod prices

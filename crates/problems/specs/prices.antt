@@ -1,6 +1,4 @@
 -- Problems with the prices of their generators.
 pub mod Prices
 pub mod Replies
-pub mod Theorems
 pub mod Worked
-pub mod laws

@@ -5,7 +5,7 @@
 
 ghost use Rattle.std.specs.Prelude.{◌≡◌, ◌≤◌, length, take};
 ghost use Rattle.problems.specs.Problem.{problem};
-ghost use Rattle.problems.specs.Theorems.{Few};
+ghost use Rattle.problems.proofs.Theorems.{Few};
 ghost use Rattle.problems.specs.prices.Prices.{prices};
 ghost use Rattle.rank_text.specs.RankAnswers.{rank_reply};
 ghost use Rattle.programs.specs.Programs.{Pricing, reply_on, problem_program, catalogue_program, rank_program};

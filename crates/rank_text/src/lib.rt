@@ -12,7 +12,7 @@ ghost use Rattle.kinds.specs.Limits.{cost_bits};
 ghost use Rattle.words.specs.Masks.{wide};
 ghost use Rattle.printing.specs.refusals.Pages.{reply_page};
 ghost use Rattle.problems.specs.Problem.{problem};
-ghost use Rattle.problems.specs.Theorems.{Few};
+ghost use Rattle.problems.proofs.Theorems.{Few};
 
 use kinds::Shape;
 use rank::fewest::Ranked;

@@ -20,8 +20,8 @@ use Rattle.kinds.specs.laws.Refusal.{accepted_inj, follow_inv, refuse_inv}
 use Rattle.kinds.specs.Numbers.{NotByZero}
 use Rattle.kinds.specs.laws.Numbers.{refuse_numbered, follow_numbered, seen_numbered}
 use Rattle.problems.specs.Problem.{Problem, posed}
-use Rattle.problems.specs.laws.Numbered.{posed_numbered}
-use Rattle.problems.specs.laws.Asked.{posed_target}
+use Rattle.problems.proofs.laws.Numbered.{posed_numbered}
+use Rattle.problems.proofs.laws.Asked.{posed_target}
 use Rattle.words.specs.Buffers.{filled}
 use Rattle.linear.specs.Bit.{bit}
 use Rattle.linear.specs.Span.{Span, SameSpan, Independent}
@@ -35,7 +35,7 @@ use Rattle.linear.proofs.laws.Part.{part_rising, part_selected, part_independent
 use Rattle.linear.proofs.laws.Select.{any_of_no, no_any_of, stood}
 use Rattle.bases.specs.rows.Rows.{row_of}
 use Rattle.bases.specs.rows.Terms.{named, sum_of_forms, terms}
-use Rattle.bases.specs.rows.laws.Terms.{terms_rising, terms_part, terms_sum, terms_only, terms_few, row_terms, row_bit_law}
+use Rattle.bases.proofs.laws.of_rows.Terms.{terms_rising, terms_part, terms_sum, terms_only, terms_few, row_terms, row_bit_law}
 use Rattle.selections.specs.on_forms.Selected.{misfit, without, summed, missed_by, redundant_answer, seen_said, said_numbers}
 use Rattle.selections.specs.on_forms.Shown.{Summing, sum_of, no_sum, shown, sum_answer, seen_summed, summed_numbers}
 use Rattle.selections.specs.on_forms.laws.Numbers.{said_differ, summed_differ}

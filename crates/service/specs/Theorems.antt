@@ -12,7 +12,7 @@ use Rattle.kinds.specs.laws.Sizes.{sizes_bounds}
 use Rattle.kinds.specs.Refusal.{Answer, refused, accepted, follow}
 use Rattle.formula_check.specs.Formula.{Admitted, verdict}
 use Rattle.formula_check.specs.meaning.Meaning.{RightFormula, FormulaDiffers}
-use Rattle.formula_check.specs.meaning.Theorems.{verdict_means}
+use Rattle.formula_check.proofs.laws.of_meaning.Theorems.{verdict_means}
 use Rattle.formula_check.specs.declared.verdicts.Verdict.{Verdict}
 use Rattle.formula_check.specs.declared.verdicts.Verdict.TheVariants as said
 use Rattle.formula_files.specs.FormulaFile.{formula_file}

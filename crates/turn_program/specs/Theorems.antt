@@ -25,7 +25,7 @@ use Rattle.formula_files.specs.AcceptedSound.{formula_accepted_sound}
 use Rattle.formula_files.specs.Theorems.{sound_admitted}
 use Rattle.round_trips.specs.formulae.PrintThenRead.{print_then_read}
 use Rattle.round_trips.specs.formulae.AcceptedOnly.{formula_accepted_short}
-use Rattle.turning.specs.Theorems.{turned_right}
+use Rattle.turning.proofs.Theorems.{turned_right}
 use Rattle.turn_program.specs.TurnFile.{turn_file, turning_of}
 use Rattle.turn_program.specs.TurnProgram.{turn_program}
 use Rattle.turn_program.specs.laws.Numbers.{turning_read, read_first, turned_sound, turn_only}

@@ -1,9 +1,3 @@
 -- The laws of rows and terms, with their proofs.
 pub mod Rows
 pub mod Digits
-pub mod Layouts
-pub mod Rest
-pub mod Echelon
-pub mod Named
-pub mod Terms
-pub mod Shown

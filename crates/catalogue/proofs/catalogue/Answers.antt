@@ -1,6 +1,6 @@
 -- `catalogue::catalogue` meets its contract. Assumes nothing.
 use mathlib.Core.Path.{refl}
-use Rattle.problems.specs.laws.Handed.{follow_refused, follow_made, replied_as, few_handed}
+use Rattle.problems.proofs.laws.Handed.{follow_refused, follow_made, replied_as, few_handed}
 use Rattle.catalogue.specs.Catalogue.{catalogue, lent_catalogue}
 use Rattle.catalogue.specs.laws.Numbers.{catalogue_told}
 use Rattle.catalogue.specs.declared.Catalogued.TheVariants as reply

@@ -11,7 +11,7 @@ use Rattle.kinds.specs.laws.Numbers.{told_lent, numbers_differ, refuse_numbered,
 use Rattle.linear.specs.Basis.{dim}
 use Rattle.linear.specs.Word.{word}
 use Rattle.problems.specs.Problem.{posed}
-use Rattle.problems.specs.laws.Numbered.{posed_numbered}
+use Rattle.problems.proofs.laws.Numbered.{posed_numbered}
 use Rattle.catalogue.specs.Catalogue.{Catalogued, catalogue_of, catalogue, seen_catalogue, catalogue_numbers, catalogue_values}
 use Rattle.catalogue.specs.declared.Catalogued.{Catalogued as Reply}
 use Rattle.catalogue.specs.declared.Catalogued.TheVariants as reply

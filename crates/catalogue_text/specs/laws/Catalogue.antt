@@ -13,7 +13,7 @@ use Rattle.kinds.specs.declared.Shape.{Shape}
 use Rattle.kinds.specs.Refusal.{accepted, refuse}
 use Rattle.kinds.specs.laws.Refusal.{accepted_inj, refuse_inv}
 use Rattle.problems.specs.Problem.{Problem}
-use Rattle.problems.specs.Theorems.{Few}
+use Rattle.problems.proofs.Theorems.{Few}
 use Rattle.linear.specs.Basis.{dim}
 use Rattle.linear.specs.Order.{rising_lists}
 use Rattle.linear.specs.Entry.{entries, space, fits, same_basis}

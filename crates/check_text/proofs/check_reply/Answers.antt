@@ -4,7 +4,7 @@ use mathlib.Core.Option.{none}
 use Prim.Native.Nat.{ℕ}
 use native.Mathlib.Omega.{arith}
 use Rattle.kinds.specs.Sizes.{sizes, seen_sizes}
-use Rattle.formula_check.specs.laws.Buffers.{in_fits}
+use Rattle.formula_check.proofs.laws.Buffers.{in_fits}
 use Rattle.check_text.specs.laws.Replying.{in_text, answer_short, answer_whole}
 use Rattle.check_text.proofs.check_reply.Goals as goal
 

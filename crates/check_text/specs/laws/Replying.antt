@@ -16,7 +16,7 @@ use Rattle.check_text.specs.replies.CheckTextLong.{check_text_long}
 use Rattle.printing.specs.fields.Written.{bytes_in, written_in}
 use Rattle.check_text.specs.CheckAnswers.{verdict_of, admitted_text, reply_of, bytes_of}
 use Rattle.formula_check.specs.Buffers.{formula_in, FormulaBuffers}
-use Rattle.formula_check.specs.laws.Buffers.{in_is, in_products}
+use Rattle.formula_check.proofs.laws.Buffers.{in_is, in_products}
 
 pub verdict_same : (v : Verdict) → verdict_of (seen_verdict v) ≡ v
 verdict_same said.Right = refl

@@ -5,7 +5,7 @@ use Prim.Native.Nat.{◌-◌}
 use lib.ListN.{length, take, get_or}
 use Rattle.linear.proofs.laws.Order.{mem_get_d}
 use Rattle.bases.specs.rows.Rows.{row_of}
-use Rattle.bases.specs.rows.laws.Echelon.{rows_first, masks_first, first_fit, rest_row}
+use Rattle.bases.proofs.laws.of_rows.Echelon.{rows_first, masks_first, first_fit, rest_row}
 use Rattle.choices.specs.laws.Writing.{Writing, writing_start, writing_next, writing_end}
 use Rattle.bases.proofs.rows.echelon_of.Reads as echelon-of-reads
 use Rattle.bases.proofs.rows.rest_of.Reads as rest-of-reads

@@ -4,9 +4,9 @@ use borrow.Author.Rules.{rules}
 use Rattle.kinds.specs.Refusal.{accepted}
 use Rattle.formula_check.specs.Formula.{formula_of}
 use Rattle.formula_check.specs.Replies.{seen_admission}
-use Rattle.formula_check.specs.laws.Admission.{check_as}
-use Rattle.formula_check.specs.laws.Admitted.{handed_inv, handed_fitting}
-use Rattle.formula_check.specs.laws.Numbers.{check_told}
+use Rattle.formula_check.proofs.laws.Admission.{check_as}
+use Rattle.formula_check.proofs.laws.Admitted.{handed_inv, handed_fitting}
+use Rattle.formula_check.proofs.laws.Numbers.{check_told}
 use Rattle.formula_check.specs.declared.Admission.{Admission}
 use Rattle.formula_check.specs.declared.Reply.TheVariants as reply
 use Rattle.formula_check.proofs.check.Goals as goal

@@ -3,7 +3,7 @@ use mathlib.Core.Path.{◌≡◌, refl, sym, ◌∙◌}
 use Prim.Native.Nat.{◌-◌, ◌≤◌}
 use lib.ListN.{length, drop}
 use Rattle.formula_check.specs.Formula.{first_wrong}
-use Rattle.formula_check.specs.laws.Loops.{wrong_here, wrong_later, wrong_end}
+use Rattle.formula_check.proofs.laws.Loops.{wrong_here, wrong_later, wrong_end}
 use native.Mathlib.Omega.{arith}
 use Rattle.formula_check.proofs.sums.row_form.Reads as row-form-reads
 use Rattle.maps.proofs.target.Reads as target-reads

@@ -8,7 +8,7 @@ use Rattle.kinds.specs.Refusal.{accepted}
 use Rattle.kinds.specs.laws.Refusal.{accepted_inj, need_inv, refuse_inv, follow_inv}
 use Rattle.text.specs.heads.Head.{Head, head_lines}
 use Rattle.formula_check.specs.Formula.{Admitted, admit, too_short, held_in}
-use Rattle.formula_check.specs.laws.Admitted.{AdmittedSo, admit_inv}
+use Rattle.formula_check.proofs.laws.Admitted.{AdmittedSo, admit_inv}
 use Rattle.formula_files.specs.lines.Formula.{body}
 use Rattle.formula_files.specs.FormulaFile.{rest, formula_file}
 

@@ -11,7 +11,7 @@ use Rattle.kinds.specs.laws.Refusal.{neither}
 use Rattle.kinds.specs.laws.Sizes.{sizes_bounds}
 use Rattle.words.specs.Masks.{wide, zero_in}
 use Rattle.formula_check.specs.Formula.{Admitted}
-use Rattle.formula_check.specs.laws.Admitted.{HandedSo}
+use Rattle.formula_check.proofs.laws.Admitted.{HandedSo}
 use Rattle.formula_files.specs.Sound.{Sound, BufferRoom}
 
 pub sound_handed : (f : Admitted) → Sound f

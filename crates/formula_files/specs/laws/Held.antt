@@ -11,7 +11,7 @@ use Rattle.kinds.specs.declared.Shape.{Shape}
 use Rattle.words.specs.laws.Buffers.{take_filled, filled_length}
 use Rattle.formula_check.specs.Formula.{Admitted, formula_of}
 use Rattle.formula_check.specs.Buffers.{formula_in, FormulaBuffers}
-use Rattle.formula_check.specs.laws.Buffers.{sizes_in_law}
+use Rattle.formula_check.proofs.laws.Buffers.{sizes_in_law}
 use Rattle.formula_files.specs.Lent.{formula_reply, first_of, second_of, rows_lent, Left}
 use Rattle.formula_files.specs.FormulaFile.{formula_file}
 use Rattle.formula_files.specs.Sound.{Sound, BufferRoom}

@@ -13,7 +13,7 @@ use Rattle.kinds.specs.laws.Numbers.{need_numbered, refuse_numbered, follow_numb
 use Rattle.text.specs.heads.Head.{head_lines}
 use Rattle.formula_check.specs.Formula.{Admitted, Lists, admit, too_short}
 use Rattle.formula_check.specs.Replies.{formula_values, outline}
-use Rattle.formula_check.specs.laws.Numbers.{admit_numbered, outlines_differ}
+use Rattle.formula_check.proofs.laws.Numbers.{admit_numbered, outlines_differ}
 use Rattle.formula_files.specs.lines.Formula.{body}
 use Rattle.formula_files.specs.FormulaFile.{rest, formula_file}
 use Rattle.formula_files.specs.Lent.{formula_reply, formula_read_numbers}

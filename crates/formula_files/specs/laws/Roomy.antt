@@ -12,7 +12,7 @@ use Rattle.kinds.specs.Refusal.{Answer, refused, accepted, need, follow, Refused
 use Rattle.kinds.specs.laws.Refusal.{need_only}
 use Rattle.text.specs.heads.Head.{Head, head_lines}
 use Rattle.formula_check.specs.Formula.{Admitted, admit, held_in}
-use Rattle.formula_check.specs.laws.Numbers.{admit_only}
+use Rattle.formula_check.proofs.laws.Numbers.{admit_only}
 use Rattle.formula_files.specs.lines.Formula.{body}
 use Rattle.formula_files.specs.FormulaFile.{rest, formula_file}
 use Rattle.formula_files.specs.Sound.{BufferRoom}

@@ -10,7 +10,7 @@ use Rattle.kinds.specs.declared.Shape.{Shape}
 use Rattle.kinds.specs.Sizes.{sizes}
 use Rattle.kinds.specs.laws.Sizes.{sizes_bounds}
 use Rattle.formula_check.specs.Buffers.{formula_in, FormulaBuffers}
-use Rattle.formula_check.specs.laws.Buffers.{in_is, in_fits}
+use Rattle.formula_check.proofs.laws.Buffers.{in_is, in_fits}
 use Rattle.printing.specs.fields.Piece.{Piece}
 use Rattle.printing.specs.fields.laws.Pieces.{whole}
 use Rattle.printing.specs.refusals.Pages.{formula_page}

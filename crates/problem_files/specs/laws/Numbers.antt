@@ -16,7 +16,7 @@ use Rattle.kinds.specs.Numbers.{reply_numbers, NotByZero}
 use Rattle.kinds.specs.laws.Numbers.{numbers_differ, need_numbered, refuse_numbered, follow_numbered}
 use Rattle.maps.specs.Generators.{count_of}
 use Rattle.problems.specs.Problem.{shaped}
-use Rattle.problems.specs.laws.Numbered.{shaped_numbered}
+use Rattle.problems.proofs.laws.Numbered.{shaped_numbered}
 use Rattle.text.specs.Limits.{most_bytes}
 use Rattle.text.specs.heads.Head.{head_lines}
 use Rattle.formula_files.specs.lines.Formula.{ended}

@@ -1,7 +1,7 @@
 -- `problems::pose` meets its contract. Assumes nothing.
 use mathlib.Core.Path.{ap, ◌∙◌}
 use Rattle.kinds.specs.Kinds.{seen_kind}
-use Rattle.problems.specs.laws.Laying.{posed_2_laid, posed_kind_laid}
+use Rattle.problems.proofs.laws.Laying.{posed_2_laid, posed_kind_laid}
 use Rattle.problems.proofs.pose.Goals as goal
 
 pub returns-in_default : goal.returns-in_default

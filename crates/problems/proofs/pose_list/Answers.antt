@@ -1,6 +1,6 @@
 -- `problems::pose_list` meets its contract. Assumes nothing.
 use native.Mathlib.Omega.{arith}
-use Rattle.problems.specs.laws.Laying.{listed_by_laid, listed_few, listed_laid}
+use Rattle.problems.proofs.laws.Laying.{listed_by_laid, listed_few, listed_laid}
 use Rattle.problems.proofs.pose_list.Goals as goal
 
 pub returns-then-e-ne0 : goal.returns-then-e-ne0

@@ -5,8 +5,8 @@ use Prim.Native.Nat.{◌≤◌}
 use mathlib.Core.Option.{some}
 use Rattle.kinds.specs.laws.Sizes.{sizes_bounds}
 use Rattle.maps.specs.Generators.{count_of, seen_count}
-use Rattle.problems.specs.laws.Refusals.{counted}
-use Rattle.problems.specs.laws.Laying.{mapped_4_laid, mapped_by_laid, mapped_laid}
+use Rattle.problems.proofs.laws.Refusals.{counted}
+use Rattle.problems.proofs.laws.Laying.{mapped_4_laid, mapped_by_laid, mapped_laid}
 use Rattle.kinds.specs.Limits.{most_generators}
 use Rattle.problems.proofs.pose_map.Goals as goal
 

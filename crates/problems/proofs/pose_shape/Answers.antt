@@ -1,7 +1,7 @@
 -- `problems::pose_shape` meets its contract. Assumes nothing.
 use mathlib.Core.Path.{sym, ap, ◌∙◌}
 use Rattle.kinds.specs.Sizes.{seen_sizes}
-use Rattle.problems.specs.laws.Laying.{shaped_3_laid, shaped_list_laid, shaped_map_laid, list_targets}
+use Rattle.problems.proofs.laws.Laying.{shaped_3_laid, shaped_list_laid, shaped_map_laid, list_targets}
 use Rattle.problems.proofs.pose_shape.Goals as goal
 
 pub returns-in_default : goal.returns-in_default

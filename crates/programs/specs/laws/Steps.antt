@@ -13,7 +13,7 @@ use Rattle.printing.specs.fields.RefusedText.{refused_text}
 use Rattle.problems.specs.Problem.{Problem, problem}
 use Rattle.kinds.specs.Kinds.{handed}
 use Rattle.problems.specs.prices.Prices.{unpriced}
-use Rattle.problems.specs.prices.laws.Taken.{prices_each, prices_narrow}
+use Rattle.problems.proofs.laws.of_prices.Taken.{prices_each, prices_narrow}
 use Rattle.problem_files.specs.handed_forms.ProblemLines.{CostsFit}
 use Rattle.problem_files.specs.posing.Posing.{ProblemFile}
 use Rattle.problem_files.specs.posing.Views.{seen_posing, PosingFits, PosesIn}

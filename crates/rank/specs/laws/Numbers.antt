@@ -12,7 +12,7 @@ use Rattle.linear.specs.Formulae as formulae
 use Rattle.linear.specs.Formulae.{Fewest, fewest}
 use Rattle.linear.specs.Word.{word}
 use Rattle.problems.specs.prices.Prices.{priced}
-use Rattle.problems.specs.prices.laws.Numbered.{priced_numbered}
+use Rattle.problems.proofs.laws.of_prices.Numbered.{priced_numbered}
 use Rattle.rank.specs.Rank.{rank_for, rank}
 use Rattle.rank.specs.fewest.Fewest.{Ranking, written, ranking, seen_ranked, rank_numbers, rank_values}
 use Rattle.rank.specs.declared.fewest.Ranked.{Ranked}

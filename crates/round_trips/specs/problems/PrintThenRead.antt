@@ -18,7 +18,7 @@ use Rattle.linear.proofs.laws.Dimension.{dim_length}
 use Rattle.kinds.specs.Refusal.{Answer, accepted, follow}
 use Rattle.words.specs.Masks.{wide}
 use Rattle.problems.specs.Problem.{Problem, shaped}
-use Rattle.problems.specs.Theorems.{shaped_few}
+use Rattle.problems.proofs.Theorems.{shaped_few}
 use Rattle.round_trips.specs.formulae.laws.HeadBack.{head_back}
 use Rattle.kinds.specs.Kinds.{handed}
 use Rattle.problem_files.specs.handed_forms.ProblemLines.{CostsFit}

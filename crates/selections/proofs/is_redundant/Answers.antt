@@ -1,7 +1,7 @@
 -- `selections::is_redundant` meets its contract. Assumes nothing.
 use borrow.Author.Rules.{rules}
 use mathlib.Core.Path.{◌∙◌}
-use Rattle.problems.specs.laws.Handed.{follow_refused, follow_made, few_handed}
+use Rattle.problems.proofs.laws.Handed.{follow_refused, follow_made, few_handed}
 use Rattle.selections.specs.declared.on_forms.Said.TheVariants as said
 use Rattle.selections.specs.on_forms.laws.Numbers.{said_told}
 use Rattle.selections.specs.Selections.{is_redundant}

@@ -1,7 +1,7 @@
 -- `selections::is_sum` meets its contract. Assumes nothing.
 use borrow.Author.Rules.{rules}
 use mathlib.Core.Path.{refl}
-use Rattle.problems.specs.laws.Handed.{follow_refused, follow_made, few_handed, replied_as}
+use Rattle.problems.proofs.laws.Handed.{follow_refused, follow_made, few_handed, replied_as}
 use Rattle.selections.specs.declared.on_forms.Summed.TheVariants as summed
 use Rattle.selections.specs.on_forms.Shown.{lent_summed}
 use Rattle.selections.specs.on_forms.laws.Numbers.{summed_told}

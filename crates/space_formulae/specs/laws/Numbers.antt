@@ -11,7 +11,7 @@ use Rattle.kinds.specs.laws.Numbers.{told_lent, numbers_differ, refuse_numbered,
 use Rattle.linear.specs.Basis.{dim}
 use Rattle.linear.specs.Word.{word}
 use Rattle.problems.specs.Problem.{posed}
-use Rattle.problems.specs.laws.Numbered.{posed_numbered}
+use Rattle.problems.proofs.laws.Numbered.{posed_numbered}
 use Rattle.space_formulae.specs.spaces.Spaces.{Formulae, is_entry, formulae_for, formulae_of, seen_formulae, formulae_numbers, formulae_values}
 use Rattle.space_formulae.specs.declared.spaces.Listed.{Listed as Reply}
 use Rattle.space_formulae.specs.declared.spaces.Listed.TheVariants as reply

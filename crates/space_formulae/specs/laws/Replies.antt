@@ -12,7 +12,7 @@ use Rattle.problems.specs.Problem.{Problem, problem}
 use Rattle.problems.specs.declared.Posed.{Posed}
 use Rattle.problems.specs.declared.Posed.TheVariants as answer
 use Rattle.problems.specs.Replies.{Laid}
-use Rattle.problems.specs.laws.Handed.{handed_room, targets_handed}
+use Rattle.problems.proofs.laws.Handed.{handed_room, targets_handed}
 use Rattle.linear.specs.Basis.{dim}
 use Rattle.linear.specs.Word.{word}
 use Rattle.space_formulae.specs.spaces.Spaces.{Formulae, is_entry, formulae_listing, formulae_for, seen_formulae, lent_formulae, SpaceAccepted, FormulaeTold, Rows}

@@ -7,7 +7,7 @@
 use Rattle.std.specs.Prelude.{◌≡◌, refl, ◌↔◌, true, ℕ, ◌<◌, ◌≤◌, length, get_or}
 use mathlib.Core.List.{List, [], ◌++◌, map, Memᴰ}
 use Rattle.kinds.specs.Refusal.{accepted}
-use Rattle.problems.specs.prices.Theorems.{priced_posed}
+use Rattle.problems.proofs.laws.of_prices.Theorems.{priced_posed}
 use Rattle.problems.specs.Problem.{Problem, posed}
 use Rattle.words.specs.Buffers.{filled}
 use Rattle.linear.specs.Bit.{bit}

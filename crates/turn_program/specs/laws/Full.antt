@@ -15,7 +15,7 @@ use Rattle.kinds.specs.laws.Sizes.{Bounds, poly_some, sizes_bounds}
 use Rattle.formula_check.specs.Formula.{Admitted, formula_of}
 use Rattle.formula_check.specs.Buffers.{formula_in}
 use Rattle.formula_check.specs.Replies.{Fitting}
-use Rattle.formula_check.specs.laws.Buffers.{in_is, in_products, in_fits}
+use Rattle.formula_check.proofs.laws.Buffers.{in_is, in_products, in_fits}
 use Rattle.formula_files.specs.Lent.{formula_reply, Left}
 use Rattle.formula_files.specs.declared.Read.{Read}
 use Rattle.formula_files.specs.declared.Read.TheVariants as read

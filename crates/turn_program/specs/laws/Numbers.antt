@@ -25,8 +25,8 @@ use Rattle.formula_files.specs.laws.Accepted.{file_inv}
 use Rattle.formula_files.specs.laws.Handed.{handed_sound, sound_room}
 use Rattle.formula_files.specs.laws.Roomy.{room_held, file_only}
 use Rattle.turning.specs.Turning.{reversed, column, columns, turned, turned_into, turning}
-use Rattle.turning.specs.laws.Numbers.{turnable_only}
-use Rattle.turning.specs.laws.Accepted.{turning_inv, turned_handed}
+use Rattle.turning.proofs.laws.Numbers.{turnable_only}
+use Rattle.turning.proofs.laws.Accepted.{turning_inv, turned_handed}
 use Rattle.turn_program.specs.TurnFile.{turn_file, turning_of}
 use Rattle.turn_program.specs.laws.Steps.{turnable_head, shape_read}
 

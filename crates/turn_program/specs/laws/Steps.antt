@@ -32,7 +32,7 @@ use Rattle.formula_files.specs.Sound.{Sound}
 use Rattle.formula_files.specs.declared.Read.{Read}
 use Rattle.formula_files.specs.declared.Read.TheVariants as read
 use Rattle.turning.specs.Turning.{turnable, turned_into}
-use Rattle.turning.specs.laws.Accepted.{turnable_inv, full_is}
+use Rattle.turning.proofs.laws.Accepted.{turnable_inv, full_is}
 use Rattle.turn_program.specs.TurnFile.{turn_file, FullHeld}
 
 abbrev pub turnable_head : Head → Answer (Unit {0})

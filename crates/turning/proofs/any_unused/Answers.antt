@@ -7,7 +7,7 @@ use borrow.Author.Tests.{eq-eqb, ne_eqb}
 use Rattle.words.specs.Masks.{zero_in}
 use Rattle.maps.specs.Generators.{list_of}
 use Rattle.turning.specs.Turning.{column}
-use Rattle.turning.specs.laws.Loops.{zero_here, zero_none}
+use Rattle.turning.proofs.laws.Loops.{zero_here, zero_none}
 use Rattle.turning.proofs.any_unused.Goals as goal
 
 pub loop-l-init : goal.loop-l-init

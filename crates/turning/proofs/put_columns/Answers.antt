@@ -1,7 +1,7 @@
 -- `turning::put_columns` meets its contract. Assumes nothing.
 use native.Mathlib.Omega.{arith}
 use Rattle.turning.specs.Turning.{column}
-use Rattle.turning.specs.laws.Loops.{put_start, put_next, put_end}
+use Rattle.turning.proofs.laws.Loops.{put_start, put_next, put_end}
 use Rattle.turning.proofs.put_columns.Goals as goal
 
 pub loop-l-init : goal.loop-l-init

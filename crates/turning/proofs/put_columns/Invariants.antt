@@ -1,7 +1,7 @@
 -- `turning::put_columns` meets its contract. Assumes nothing.
 use Prim.Native.Nat.{◌-◌}
 use Rattle.turning.specs.Turning.{column}
-use Rattle.turning.specs.laws.Loops.{Put}
+use Rattle.turning.proofs.laws.Loops.{Put}
 use Rattle.turning.proofs.put_columns.Given as goal
 
 abbrev pub invariant-loop-l : goal.invariant-loop-l

@@ -6,7 +6,7 @@ use native.Mathlib.Omega.{arith}
 use lib.ListN.{length}
 use Rattle.words.specs.Buffers.{filled}
 use Rattle.turning.specs.Turning.{reversed}
-use Rattle.turning.specs.laws.Loops.{map_list, put_start, put_next, put_end}
+use Rattle.turning.proofs.laws.Loops.{map_list, put_start, put_next, put_end}
 use Rattle.turning.proofs.put_reversed.Goals as goal
 use Rattle.turning.proofs.put_reversed.Invariants.{each}
 

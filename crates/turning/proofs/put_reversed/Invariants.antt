@@ -3,7 +3,7 @@ use mathlib.Core.List.{List}
 use Prim.Native.Nat.{ℕ, ◌-◌}
 use lib.ListN.{length, get_or}
 use Rattle.turning.specs.Turning.{reversed}
-use Rattle.turning.specs.laws.Loops.{Put}
+use Rattle.turning.proofs.laws.Loops.{Put}
 use Rattle.turning.proofs.put_reversed.Given as goal
 
 abbrev pub each : ℕ → List ℕ → ℕ → ℕ

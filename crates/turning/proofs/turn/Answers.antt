@@ -13,11 +13,11 @@ use Rattle.kinds.specs.declared.Kind.{Kind}
 use Rattle.kinds.specs.declared.Shape.{Shape}
 use Rattle.formula_check.specs.Formula.{Admitted, formula_of, admit, lists_handed}
 use Rattle.formula_check.specs.Replies.{Fitting}
-use Rattle.formula_check.specs.laws.Admitted.{HandedSo, handed_inv, handed_fitting}
+use Rattle.formula_check.proofs.laws.Admitted.{HandedSo, handed_inv, handed_fitting}
 use Rattle.turning.specs.Turning.{reversed, turned, turnable, turned_into, turning}
 use Rattle.turning.specs.Lent.{turned_reply}
-use Rattle.turning.specs.laws.Refusals.{lent_refused}
-use Rattle.turning.specs.laws.Replies.{fitting_words, turning_unfit, turning_else, turned_told}
+use Rattle.turning.proofs.laws.Refusals.{lent_refused}
+use Rattle.turning.proofs.laws.Replies.{fitting_words, turning_unfit, turning_else, turned_told}
 use Rattle.turning.specs.declared.Turned.TheVariants as reply
 use Rattle.turning.proofs.turn.Goals as goal
 

@@ -4,7 +4,7 @@ use Prim.Native.Nat.{◌≤◌}
 use lib.ListN.{length}
 use Rattle.turning.specs.Turning.{turned}
 use Rattle.turning.specs.Lent.{full_of}
-use Rattle.turning.specs.laws.Refusals.{turned_as, short_room, lent_refused, lent_filled}
+use Rattle.turning.proofs.laws.Refusals.{turned_as, short_room, lent_refused, lent_filled}
 use Rattle.turning.proofs.turn_admitted.Goals as goal
 
 pub returns-then-any_unused : goal.returns-then-any_unused

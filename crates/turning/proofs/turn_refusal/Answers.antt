@@ -7,7 +7,7 @@ use Rattle.kinds.specs.Sizes.{sizes, seen_sizes}
 use Rattle.kinds.specs.laws.Sizes.{poly_some}
 use Rattle.kinds.specs.declared.Known.{Known}
 use Rattle.turning.specs.Turning.{is_poly}
-use Rattle.turning.specs.laws.Refusals.{turnable_as}
+use Rattle.turning.proofs.laws.Refusals.{turnable_as}
 use Rattle.turning.proofs.turn_refusal.Goals as goal
 
 pub returns-in_default : goal.returns-in_default

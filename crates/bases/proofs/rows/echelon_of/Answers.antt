@@ -5,7 +5,7 @@ use Prim.Native.Nat.{ℕ}
 use native.Mathlib.Omega.{arith}
 use lib.ListN.{length}
 use Rattle.bases.specs.rows.Echelon.{Tracking}
-use Rattle.bases.specs.rows.laws.Echelon.{rows_first, masks_first, first_fit, tracking_start, tracking_next}
+use Rattle.bases.proofs.laws.of_rows.Echelon.{rows_first, masks_first, first_fit, tracking_start, tracking_next}
 use Rattle.bases.proofs.rows.echelon_of.Goals as goal
 
 pub loop-i-init : goal.loop-i-init

@@ -3,7 +3,7 @@ use mathlib.Core.Path.{◌≡◌, sym, subst₂}
 use mathlib.Core.List.{List}
 use Prim.Native.Nat.{ℕ, ◌+◌}
 use native.Mathlib.Omega.{arith}
-use Rattle.bases.specs.rows.laws.Rest.{Resting, resting_start, resting_added, resting_kept, resting_end}
+use Rattle.bases.proofs.laws.of_rows.Rest.{Resting, resting_start, resting_added, resting_kept, resting_end}
 use Rattle.bases.proofs.rows.rest_of.Goals as goal
 use Rattle.bases.proofs.rows.rest_of.Goals.{else-w-x, then-w-x}
 

@@ -1,7 +1,7 @@
 -- `bases::rows::rest_of` meets its contract: the rows from i on, of what is left, leave and take what all do of v. Assumes nothing.
 use Prim.Native.Nat.{◌-◌}
 use lib.ListN.{length}
-use Rattle.bases.specs.rows.laws.Rest.{Resting}
+use Rattle.bases.proofs.laws.of_rows.Rest.{Resting}
 use Rattle.bases.proofs.rows.rest_of.Given as goal
 
 abbrev pub invariant-loop-i : goal.invariant-loop-i

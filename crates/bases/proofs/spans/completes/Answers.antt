@@ -1,7 +1,7 @@
 -- `bases::spans::completes` meets its contract. Assumes nothing.
 use mathlib.Core.Path.{refl}
 use Rattle.bases.specs.Basis.{rows_of}
-use Rattle.bases.specs.spans.laws.Completing.{completing_full, completing_in, completing_out, completing_end}
+use Rattle.bases.proofs.laws.of_spans.Completing.{completing_full, completing_in, completing_out, completing_end}
 use Rattle.bases.proofs.spans.completes.Goals as goal
 
 pub loop-i-init : goal.loop-i-init

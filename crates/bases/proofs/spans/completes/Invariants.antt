@@ -2,7 +2,7 @@
 use Prim.Native.Nat.{◌-◌}
 use lib.ListN.{length}
 use Rattle.bases.specs.Basis.{rows_of}
-use Rattle.bases.specs.spans.laws.Completing.{Completing}
+use Rattle.bases.proofs.laws.of_spans.Completing.{Completing}
 use Rattle.bases.proofs.spans.completes.Given as goal
 
 abbrev pub invariant-loop-i : goal.invariant-loop-i

@@ -3,7 +3,7 @@ use native.Mathlib.Omega.{arith}
 use mathlib.Core.Path.{sym, ◌∙◌}
 use lib.Seq.{get_or-take}
 use Rattle.bases.specs.Basis.{rows_of, rows_length}
-use Rattle.bases.specs.spans.laws.Same.{alike_other, alike_start, alike_no, alike_next, alike_end}
+use Rattle.bases.proofs.laws.of_spans.Same.{alike_other, alike_start, alike_no, alike_next, alike_end}
 use Rattle.bases.proofs.spans.has_rows.Goals as goal
 
 pub returns-then-n-rows : goal.returns-then-n-rows

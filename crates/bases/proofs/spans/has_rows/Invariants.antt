@@ -1,7 +1,7 @@
 -- `bases::spans::has_rows` meets its contract. Assumes nothing.
 use Prim.Native.Nat.{◌-◌}
 use lib.ListN.{length, take}
-use Rattle.bases.specs.spans.laws.Same.{Alike}
+use Rattle.bases.proofs.laws.of_spans.Same.{Alike}
 use Rattle.bases.proofs.spans.has_rows.Given as goal
 
 abbrev pub invariant-loop-i : goal.invariant-loop-i

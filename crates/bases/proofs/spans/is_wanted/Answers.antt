@@ -1,6 +1,6 @@
 -- `bases::spans::is_wanted` meets its contract. Assumes nothing.
 use Rattle.bases.specs.Basis.{rows_of}
-use Rattle.bases.specs.spans.laws.Missing.{left_out, left_in}
+use Rattle.bases.proofs.laws.of_spans.Missing.{left_out, left_in}
 use Rattle.bases.proofs.spans.is_wanted.Goals as goal
 
 pub returns-then-reduce_rows-ne0 : goal.returns-then-reduce_rows-ne0

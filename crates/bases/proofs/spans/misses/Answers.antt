@@ -3,7 +3,7 @@ use native.Mathlib.Omega.{arith}
 use mathlib.Core.Path.{sym, ap, ◌∙◌}
 use mathlib.Core.Bool.{not}
 use Rattle.bases.specs.Basis.{rows_of}
-use Rattle.bases.specs.spans.laws.Missing.{missing_start, missing_found, missing_past, missing_end}
+use Rattle.bases.proofs.laws.of_spans.Missing.{missing_start, missing_found, missing_past, missing_end}
 use Rattle.bases.proofs.spans.misses.Goals as goal
 
 pub loop-i-init : goal.loop-i-init

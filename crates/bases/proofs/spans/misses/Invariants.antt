@@ -2,7 +2,7 @@
 use Prim.Native.Nat.{◌-◌}
 use lib.ListN.{length}
 use Rattle.bases.specs.Basis.{rows_of}
-use Rattle.bases.specs.spans.laws.Missing.{Missing}
+use Rattle.bases.proofs.laws.of_spans.Missing.{Missing}
 use Rattle.bases.proofs.spans.misses.Given as goal
 
 abbrev pub invariant-loop-i : goal.invariant-loop-i

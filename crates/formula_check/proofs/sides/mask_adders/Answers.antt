@@ -6,7 +6,7 @@ use native.Mathlib.Omega.{arith}
 use borrow.Author.Rules.{rules}
 use lib.ListN.{get_or, set}
 use Rattle.formula_check.specs.sides.Sides.{mask_slots, mask_slot, MaskAdded}
-use Rattle.formula_check.specs.sides.laws.Sides.{numbered, mask_sought, added_light, added_known, added_again, added_lone, added_new}
+use Rattle.formula_check.proofs.laws.of_sides.Sides.{numbered, mask_sought, added_light, added_known, added_again, added_lone, added_new}
 use Rattle.formula_check.proofs.sides.mask_adders.Goals as goal
 
 -- ---- behind the search

@@ -3,7 +3,7 @@ use mathlib.Core.Path.{refl}
 use native.Mathlib.Omega.{arith}
 use borrow.Author.Rules.{rules}
 use Rattle.formula_check.specs.sides.Sides.{Counting}
-use Rattle.formula_check.specs.sides.laws.Sides.{counting_start, counting_entering, counting_next, counting_end}
+use Rattle.formula_check.proofs.laws.of_sides.Sides.{counting_start, counting_entering, counting_next, counting_end}
 use Rattle.formula_check.proofs.sides.side_adders.Given as goal
 
 abbrev pub invariant-loop-i : goal.invariant-loop-i

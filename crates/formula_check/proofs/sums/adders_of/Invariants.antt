@@ -7,7 +7,7 @@ use lib.ListN.{length, get_or, drop}
 use Rattle.forms.specs.Weight.{weight}
 use Rattle.formula_check.specs.sums.Sums.{adders_of}
 use Rattle.forms.specs.laws.Weight.{weight_most}
-use Rattle.formula_check.specs.sums.laws.Loops.{adders_next, adders_end}
+use Rattle.formula_check.proofs.laws.of_sums.Loops.{adders_next, adders_end}
 use native.Mathlib.Omega.{arith}
 use Rattle.forms.proofs.ones.Reads as ones-reads
 use Rattle.formula_check.proofs.sums.adders_of.Given as goal

@@ -5,7 +5,7 @@ use mathlib.Core.List.{◌++◌}
 use Prim.Native.Nat.{ℕ, ◌+◌, ◌-◌, ◌≤◌}
 use lib.ListN.{length, take, drop, set, length-set}
 use Rattle.formula_check.specs.sums.Sums.{product_forms}
-use Rattle.formula_check.specs.sums.laws.Loops.{forms_next, forms_end}
+use Rattle.formula_check.proofs.laws.of_sums.Loops.{forms_next, forms_end}
 use native.Mathlib.Omega.{arith}
 use Rattle.forms.proofs.products.product.Reads as product-reads
 use Rattle.formula_check.proofs.sums.product_forms.Given as goal

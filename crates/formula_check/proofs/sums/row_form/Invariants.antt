@@ -5,7 +5,7 @@ use Prim.Native.Nat.{ℕ, ◌+◌, ◌-◌, ◌<◌, ◌≤◌}
 use lib.ListN.{length, get_or, drop}
 use lib.Bits.{bit_xor, xor_zero_l}
 use Rattle.forms.specs.Row.{row_form}
-use Rattle.formula_check.specs.sums.laws.Loops.{row_set, row_unset, row_end}
+use Rattle.formula_check.proofs.laws.of_sums.Loops.{row_set, row_unset, row_end}
 use native.Mathlib.Omega.{arith}
 use Rattle.formula_check.proofs.sums.row_form.Given as goal
 

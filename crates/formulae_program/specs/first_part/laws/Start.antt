@@ -17,7 +17,7 @@ use Rattle.kinds.specs.laws.Refusal.{accepted_inj, refuse_inv, follow_inv, neith
 use Rattle.words.specs.Buffers.{zeros}
 use Rattle.words.specs.laws.Buffers.{pasted}
 use Rattle.problems.specs.Problem.{Problem, problem}
-use Rattle.problems.specs.Theorems.{Few, shaped_few}
+use Rattle.problems.proofs.Theorems.{Few, shaped_few}
 use Rattle.problem_files.specs.posing.Posing.{ProblemFile}
 use Rattle.problem_files.specs.posing.Views.{seen_posing, PosesIn}
 use Rattle.problem_files.specs.laws.Accepted.{file_poses}

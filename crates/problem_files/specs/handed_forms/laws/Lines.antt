@@ -13,7 +13,7 @@ use Rattle.kinds.specs.Refusal.{Answer, refused, accepted, need, refuse, refused
 use Rattle.kinds.specs.laws.Refusal.{accepted_inj, need_inv, refuse_inv}
 use Rattle.words.specs.Masks.{wide}
 use Rattle.maps.specs.Generators.{count_of}
-use Rattle.problems.specs.laws.Laying.{list_targets}
+use Rattle.problems.proofs.laws.Laying.{list_targets}
 use Rattle.formula_files.specs.lines.Formula.{ended}
 use Rattle.formula_files.specs.lines.laws.Body.{ended_not, ended_yes}
 use Rattle.problem_files.specs.list_lines.Roles.{list_body}

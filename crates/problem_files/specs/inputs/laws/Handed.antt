@@ -9,7 +9,7 @@ use Rattle.kinds.specs.declared.Shape.{Shape}
 use Rattle.kinds.specs.Limits.{most_generators, most_targets}
 use Rattle.kinds.specs.Refusal.{accepted}
 use Rattle.problems.specs.Problem.{Problem, shaped}
-use Rattle.problems.specs.Theorems.{shaped_few, shaped_map, shaped_list}
+use Rattle.problems.proofs.Theorems.{shaped_few, shaped_map, shaped_list}
 use Rattle.kinds.specs.Kinds.{handed}
 use Rattle.problem_files.specs.posing.Posing.{ProblemFile, posed_file}
 use Rattle.problem_files.specs.laws.Accepted.{file_poses}

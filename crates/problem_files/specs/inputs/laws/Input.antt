@@ -14,7 +14,7 @@ use Rattle.kinds.specs.Refusal.{Answer, refused, accepted, refuse, follow}
 use Rattle.kinds.specs.laws.Refusal.{refuse_inv}
 use Rattle.kinds.specs.declared.Shape.{Shape}
 use Rattle.problems.specs.Problem.{problem, shaped}
-use Rattle.problems.specs.Theorems.{Few, shaped_few}
+use Rattle.problems.proofs.Theorems.{Few, shaped_few}
 use Rattle.words.specs.Buffers.{zeros}
 use Rattle.kinds.specs.Kinds.{handed}
 use Rattle.problem_files.specs.handed_forms.ProblemLines.{handed_in, CostsFit}

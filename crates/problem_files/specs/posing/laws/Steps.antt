@@ -15,7 +15,7 @@ use Rattle.kinds.specs.Sizes.{shape_of, sizes}
 use Rattle.kinds.specs.Refusal.{Answer, refused, accepted, follow, refused_by}
 use Rattle.problems.specs.Problem.{Problem, problem, shaped}
 use Rattle.problems.specs.Replies.{seen_posed, Laid}
-use Rattle.problems.specs.laws.Handed.{handed_room}
+use Rattle.problems.proofs.laws.Handed.{handed_room}
 use Rattle.problems.specs.declared.Posed.{Posed}
 use Rattle.problems.specs.declared.Posed.TheVariants as answer
 use Rattle.text.specs.heads.Head.{Head, head_lines}

@@ -2,7 +2,7 @@
 use native.Mathlib.Omega.{arith}
 use mathlib.Core.Path.{sym, ap, ◌∙◌}
 use Rattle.kinds.specs.Sizes.{seen_sizes}
-use Rattle.problems.specs.prices.laws.Filling.{list_count, list_filled, map_made, map_filled, none_filled}
+use Rattle.problems.proofs.laws.of_prices.Filling.{list_count, list_filled, map_made, map_filled, none_filled}
 use Rattle.problems.proofs.prices.fill_prices.Goals as goal
 
 pub copy_forms-requires : goal.copy_forms-requires

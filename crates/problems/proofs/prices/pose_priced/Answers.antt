@@ -1,7 +1,7 @@
 -- `problems::prices::pose_priced` meets its contract. Assumes nothing.
 use mathlib.Core.Path.{ap, ◌∙◌}
 use Rattle.kinds.specs.Kinds.{seen_kind}
-use Rattle.problems.specs.prices.laws.Laying.{priced_2_laid, priced_kind_laid}
+use Rattle.problems.proofs.laws.of_prices.Laying.{priced_2_laid, priced_kind_laid}
 use Rattle.problems.proofs.prices.pose_priced.Goals as goal
 
 pub returns-in_default : goal.returns-in_default

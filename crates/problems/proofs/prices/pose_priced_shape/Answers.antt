@@ -1,7 +1,7 @@
 -- `problems::prices::pose_priced_shape` meets its contract. Assumes nothing.
 use native.Mathlib.Omega.{arith}
 use mathlib.Core.Path.{sym, ◌∙◌}
-use Rattle.problems.specs.prices.laws.Laying.{also_laid, refused_laid, laid_asked, made_laid}
+use Rattle.problems.proofs.laws.of_prices.Laying.{also_laid, refused_laid, laid_asked, made_laid}
 use Rattle.problems.proofs.prices.pose_priced_shape.Goals as goal
 
 pub pose_shape-x-requires : goal.pose_shape-x-requires

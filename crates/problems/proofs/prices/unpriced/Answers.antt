@@ -1,6 +1,6 @@
 -- `problems::prices::unpriced` meets its contract. Assumes nothing.
 use mathlib.Core.Path.{sym, ◌∙◌}
-use Rattle.problems.specs.prices.laws.Taken.{unpriced_many, unpriced_rest}
+use Rattle.problems.proofs.laws.of_prices.Taken.{unpriced_many, unpriced_rest}
 use Rattle.problems.proofs.prices.unpriced.Goals as goal
 
 pub returns-then-costs-handed : goal.returns-then-costs-handed

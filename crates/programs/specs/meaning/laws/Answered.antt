@@ -16,7 +16,7 @@ use Rattle.linear.proofs.Theorems.{rank_formula}
 use Rattle.linear.proofs.laws.Dimension.{dim_length}
 use Rattle.choices.specs.Choice.{formula_record}
 use Rattle.problems.specs.Problem.{Problem, shaped}
-use Rattle.problems.specs.Theorems.{Few, shaped_few}
+use Rattle.problems.proofs.Theorems.{Few, shaped_few}
 use Rattle.problem_files.specs.handed_forms.ProblemLines.{CostsFit}
 use Rattle.problem_files.specs.posing.Posing.{ProblemFile}
 use Rattle.problem_files.specs.judging.Judged.{beyond}

@@ -14,10 +14,10 @@ use Rattle.words.specs.Masks.{wide}
 use Rattle.words.specs.laws.Masks.{wide_words}
 use Rattle.maps.specs.Generators.{generator_count, count_of}
 use Rattle.problems.specs.Problem.{Problem, shaped}
-use Rattle.problems.specs.Theorems.{IsMap, shaped_map, shaped_list}
+use Rattle.problems.proofs.Theorems.{IsMap, shaped_map, shaped_list}
 use Rattle.problems.specs.Taken.{ListTaken}
-use Rattle.problems.specs.laws.Taken.{shaped_inv}
-use Rattle.problems.specs.laws.Laying.{list_targets}
+use Rattle.problems.proofs.laws.Taken.{shaped_inv}
+use Rattle.problems.proofs.laws.Laying.{list_targets}
 use Rattle.problem_files.specs.handed_forms.ProblemLines.{list_lines, map_lines, body_of, CostsFit}
 use Rattle.problem_files.specs.handed_forms.laws.Lines.{list_taken, map_none}
 use Rattle.round_trips.specs.problems.ProblemText.{list_text, lines_text}

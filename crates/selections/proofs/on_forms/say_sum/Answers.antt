@@ -3,7 +3,7 @@ use borrow.Author.Rules.{rules}
 use mathlib.Core.Path.{sym, ap, ◌∙◌}
 use lib.ListN.{length}
 use Rattle.kinds.specs.Refusal.{Answer}
-use Rattle.problems.specs.laws.Handed.{replied_as}
+use Rattle.problems.proofs.laws.Handed.{replied_as}
 use Rattle.selections.specs.on_forms.Shown.{Summing, lent_summed}
 use Rattle.selections.specs.on_forms.laws.Replies.{sum_misfit, sum_shown, part_shows}
 use Rattle.selections.proofs.on_forms.misfits.Reads as misfits-reads

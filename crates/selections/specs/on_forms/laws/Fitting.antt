@@ -29,7 +29,7 @@ use Rattle.linear.proofs.laws.Share.{only_length}
 use Rattle.words.specs.lists.Lists.{repeats}
 use Rattle.words.specs.lists.laws.Standing.{repeats_perm}
 use Rattle.bases.specs.rows.Terms.{terms}
-use Rattle.bases.specs.rows.laws.Terms.{terms_members}
+use Rattle.bases.proofs.laws.of_rows.Terms.{terms_members}
 use Rattle.selections.specs.on_forms.Selected.{misfit, without, summed, NumbersBelow}
 use Rattle.selections.specs.on_forms.laws.Marking.{misfit_below}
 

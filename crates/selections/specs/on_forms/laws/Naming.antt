@@ -14,7 +14,7 @@ use Rattle.words.specs.Buffers.{filled}
 use Rattle.words.specs.laws.Buffers.{pasted}
 use Rattle.words.specs.laws.Scan.{next}
 use Rattle.bases.specs.rows.Terms.{named}
-use Rattle.bases.specs.rows.laws.Named.{named_length}
+use Rattle.bases.proofs.laws.of_rows.Named.{named_length}
 
 -- what begins at a place of a list
 pub record Begins (l : List ℕ) (m e : ℕ) (r : List ℕ) : Type 0 where

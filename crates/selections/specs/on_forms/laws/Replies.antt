@@ -24,8 +24,8 @@ use Rattle.bases.specs.declared.rows.Rest.{Rest}
 use Rattle.bases.specs.rows.Echelon.{taken, Tracks}
 use Rattle.bases.specs.rows.Rows.{row_of}
 use Rattle.bases.specs.rows.Terms.{named, terms}
-use Rattle.bases.specs.rows.laws.Echelon.{rest_inside, rest_row, rest_test}
-use Rattle.bases.specs.spans.laws.Missing.{left_none, left_some}
+use Rattle.bases.proofs.laws.of_rows.Echelon.{rest_inside, rest_row, rest_test}
+use Rattle.bases.proofs.laws.of_spans.Missing.{left_none, left_some}
 use Rattle.choices.specs.declared.Choice.{Choice}
 use Rattle.choices.specs.Choice.{numbers_of, forms_of, Chose}
 use Rattle.choices.specs.laws.Writing.{forms_length}

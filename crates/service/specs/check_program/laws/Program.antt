@@ -18,7 +18,7 @@ use Rattle.formula_files.specs.lines.Formula.{body}
 use Rattle.text.specs.Line.{LF}
 use Rattle.formula_files.specs.FormulaFile.{rest, formula_file}
 use Rattle.formula_check.specs.Formula.{Lists, Admitted, admit, verdict, too_short}
-use Rattle.formula_check.specs.laws.Numbers.{admit_only}
+use Rattle.formula_check.proofs.laws.Numbers.{admit_only}
 use Rattle.formula_check.specs.declared.verdicts.Verdict.{Verdict}
 use Rattle.formula_check.specs.declared.verdicts.Verdict.TheVariants as said
 use Rattle.check_text.specs.replies.CheckText.{check_names, verdict_text, check_text}

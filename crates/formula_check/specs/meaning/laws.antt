@@ -1,3 +1,0 @@
--- The laws behind the meaning of Check.
-pub mod Meaning
-pub mod Tensor

@@ -1,0 +1,13 @@
+-- `rank::fewest::least_formula` meets its contract: no number of dimensions below k has an entry. Assumes nothing.
+use native.Mathlib.Omega.{arith}
+use mathlib.Core.Path.{◌≡◌, refl, ◌∙◌}
+use Prim.Native.Nat.{◌+◌, ◌-◌, ◌<◌}
+use lib.ListN.{length}
+use Rattle.rank.specs.fewest.laws.Least.{Looking, looking_start, looking_next, looking_found, looking_none}
+use Rattle.rank.proofs.fewest.least_formula.Given as goal
+
+abbrev pub invariant-loop-k : goal.invariant-loop-k
+invariant-loop-k l = (length l.held ≡ length l.initial.held) × Looking l.gens l.b l.order l.prices l.k
+
+abbrev pub decreases-loop-k : goal.decreases-loop-k
+decreases-loop-k l = l.end - l.k

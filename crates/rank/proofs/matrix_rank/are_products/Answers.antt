@@ -1,0 +1,21 @@
+-- `rank::matrix_rank::are_products` meets its contract. Assumes nothing.
+use native.Mathlib.Omega.{arith}
+use mathlib.Core.Bool.{false≢true}
+use Prim.Native.Nat.{◌-◌}
+use borrow.Author.Tests.{not-false}
+use lib.ListN.{length}
+use Rattle.rank.specs.matrix_rank.laws.Loops.{Passed, passed_start, passed_next, passed_end}
+use Rattle.rank.proofs.matrix_rank.are_products.Goals as goal
+
+pub loop-i-init : goal.loop-i-init
+loop-i-init c = passed_start c.args.width c.args.gens.now
+
+pub is_product-requires : goal.is_product-requires
+is_product-requires c = c.requires
+
+pub loop-i-preserved : goal.loop-i-preserved
+loop-i-preserved c =
+    let a = c.args in
+    let l = c.loop-i in
+    let p = c.is_product.ensures (not-false _ c.if-not-is_product.false-raw) in
+    passed_next a.width a.gens.now l.i l.invariant c.loop-i-test.true p

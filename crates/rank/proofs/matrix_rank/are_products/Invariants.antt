@@ -1,0 +1,14 @@
+-- `rank::matrix_rank::are_products` meets its contract. Assumes nothing.
+use native.Mathlib.Omega.{arith}
+use mathlib.Core.Bool.{false≢true}
+use Prim.Native.Nat.{◌-◌}
+use borrow.Author.Tests.{not-false}
+use lib.ListN.{length}
+use Rattle.rank.specs.matrix_rank.laws.Loops.{Passed, passed_start, passed_next, passed_end}
+use Rattle.rank.proofs.matrix_rank.are_products.Given as goal
+
+abbrev pub invariant-loop-i : goal.invariant-loop-i
+invariant-loop-i l = Passed l.width l.gens l.i
+
+abbrev pub decreases-loop-i : goal.decreases-loop-i
+decreases-loop-i l = length l.gens - l.i

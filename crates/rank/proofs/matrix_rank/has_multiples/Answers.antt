@@ -1,0 +1,29 @@
+-- `rank::matrix_rank::has_multiples` meets its contract. Assumes nothing.
+use mathlib.Core.Path.{subst}
+use mathlib.Core.Bool.{false≢true}
+use mathlib.Core.List.{[], ◌∷◌}
+use native.Mathlib.Omega.{arith}
+use borrow.Author.Tests.{not-false}
+use Rattle.linear.specs.Span.{Span}
+use Rattle.linear.specs.Word.{word}
+use Rattle.rank.specs.matrix_rank.laws.Loops.{shorter, Checking, checking_start, checking_next, checking_end}
+use Rattle.rank.proofs.matrix_rank.has_multiples.Goals as goal
+
+pub loop-rest-init : goal.loop-rest-init
+loop-rest-init c = checking_start c.args.width c.args.u c.args.form
+
+pub lowest-requires : goal.lowest-requires
+lowest-requires c = c.requires.within
+
+pub overflow_shr-rest : goal.overflow_shr-rest
+overflow_shr-rest c = c.requires.within
+
+pub loop-rest-smaller : goal.loop-rest-smaller
+loop-rest-smaller c =
+    shorter c.args.width c.loop-rest.rest c.requires c.loop-rest-test.true
+
+pub loop-rest-preserved : goal.loop-rest-preserved
+loop-rest-preserved c =
+    let a = c.args in
+    checking_next a.width a.u a.form c.loop-rest.rest c.loop-rest.invariant
+    (subst (Span word (a.u ∷ [])) c.lowest.ensures (c.is_multiple.ensures (not-false _ c.if-not-is_multiple.false-raw)))

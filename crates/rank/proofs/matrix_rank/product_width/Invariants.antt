@@ -1,0 +1,11 @@
+-- `rank::matrix_rank::product_width` meets its contract. Assumes nothing.
+use native.Mathlib.Omega.{arith}
+use Prim.Native.Nat.{◌-◌, ◌≤◌}
+use Rattle.rank.specs.matrix_rank.laws.Loops.{single}
+use Rattle.rank.proofs.matrix_rank.product_width.Given as goal
+
+abbrev pub invariant-loop-w : goal.invariant-loop-w
+invariant-loop-w l = 2 ≤ l.w
+
+abbrev pub decreases-loop-w : goal.decreases-loop-w
+decreases-loop-w l = 64 - l.w

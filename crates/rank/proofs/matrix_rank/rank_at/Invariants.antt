@@ -1,0 +1,14 @@
+-- `rank::matrix_rank::rank_at` meets its contract. Assumes nothing.
+use mathlib.Core.Path.{subst}
+use Prim.Native.Nat.{ℕ}
+use Rattle.linear.specs.Basis.{insert}
+use Rattle.linear.specs.Word.{word}
+use Rattle.bases.specs.Basis.{rows_of, Holds}
+use Rattle.rank.specs.matrix_rank.laws.Loops.{shorter, Cutting, cutting_start, cutting_next, cutting_end}
+use Rattle.rank.proofs.matrix_rank.rank_at.Given as goal
+
+abbrev pub invariant-loop-rest : goal.invariant-loop-rest
+invariant-loop-rest l = Cutting l.width l.form l.b l.rest
+
+abbrev pub decreases-loop-rest : goal.decreases-loop-rest
+decreases-loop-rest l = l.rest
