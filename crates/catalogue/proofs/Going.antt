@@ -22,18 +22,18 @@ use Rattle.residues.specs.Mapped.{Mapped}
 use Rattle.residues.specs.children.Barren.{Barren}
 use Rattle.sieve.specs.marked_numbers.Marks.{NextMarked}
 use Rattle.sieve.specs.Sieve.{Judged, Sieved}
-use Rattle.residues.specs.children.laws.Known.{known_ne}
-use Rattle.residues.specs.children.laws.Child.{residue_at, residues_length, child_residues}
+use Rattle.residues.proofs.laws.of_children.Known.{known_ne}
+use Rattle.residues.proofs.laws.of_children.Child.{residue_at, residues_length, child_residues}
 use Rattle.records.specs.declared.Chain.{Chain}
 use Rattle.records.specs.declared.Tally.{Tally}
 use Rattle.records.specs.Records.{State, runs}
 use Rattle.records.specs.Keep.{chain_of, state_of, Tidy, Pushed}
 use Rattle.catalogue.specs.declared.noting.Aim.{Aim}
 use Rattle.catalogue.specs.noting.Noting.{is_full, met, Menu, Steady}
-use Rattle.catalogue.specs.noting.laws.Noting.{met_full, steady_after}
+use Rattle.catalogue.proofs.laws.of_noting.Noting.{met_full, steady_after}
 use Rattle.catalogue.specs.walk.Walk.{search, Node}
 use Rattle.records.specs.laws.Ahead.{Ahead, ahead_as, ahead_past, ahead_full, ahead_none}
-use Rattle.catalogue.specs.walk.laws.Search.{turn_end, turn_skip, turn_down, turn_drop}
+use Rattle.catalogue.proofs.laws.of_walk.Search.{turn_end, turn_skip, turn_down, turn_drop}
 use Rattle.residues.specs.Room.{search_room}
 
 -- a state on the way: steady, with a buffer of that size

@@ -2,3 +2,5 @@
 mod Numbers
 mod Going
 mod Root
+pub mod Theorems
+pub mod laws

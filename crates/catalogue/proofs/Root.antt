@@ -18,12 +18,12 @@ use Rattle.records.specs.declared.Tally.{Tally}
 use Rattle.records.specs.Records.{run}
 use Rattle.catalogue.specs.declared.noting.Aim.{Aim}
 use Rattle.catalogue.specs.declared.noting.Aim.TheVariants as aim
-use Rattle.catalogue.specs.noting.laws.Noting.{records_met}
+use Rattle.catalogue.proofs.laws.of_noting.Noting.{records_met}
 use Rattle.catalogue.specs.walk.Walk.{Node}
 use Rattle.catalogue.specs.meeting.Meeting.{start, Rooted, Met}
-use Rattle.catalogue.specs.meeting.laws.Meeting.{met_entries}
+use Rattle.catalogue.proofs.laws.of_meeting.Meeting.{met_entries}
 use Rattle.catalogue.specs.listing.Listing.{SearchAsked, ListedFrom}
-use Rattle.catalogue.specs.listing.laws.Listing.{listed_below, listed_run}
+use Rattle.catalogue.proofs.laws.of_listing.Listing.{listed_below, listed_run}
 
 pub rooted : {gens : List ℕ} {b : Basis} {k : ℕ} (limit : ℕ) (order prices buffer : List ℕ) → SearchAsked gens b k → b.len ≤ k
     → Rooted gens b k (aim.Records limit) order prices buffer

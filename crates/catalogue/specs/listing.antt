@@ -1,3 +1,2 @@
 -- The entries for k, counted and written as records.
 pub mod Listing
-pub mod laws

@@ -1,3 +1,2 @@
 -- What becomes of an entry that the walk meets.
 pub mod Noting
-pub mod laws

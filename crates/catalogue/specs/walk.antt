@@ -1,3 +1,2 @@
 -- The walk that finds every entry.
 pub mod Walk
-pub mod laws

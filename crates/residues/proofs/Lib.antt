@@ -1,2 +1,3 @@
 -- What the proofs on residues share.
 mod Loops
+pub mod laws

@@ -2,5 +2,4 @@
 pub mod Room
 pub mod Mapped
 pub mod Taking
-pub mod laws
 pub mod children

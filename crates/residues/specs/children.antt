@@ -4,4 +4,3 @@ pub mod Barren
 pub mod Found
 pub mod Weighed
 pub mod Relation
-pub mod laws

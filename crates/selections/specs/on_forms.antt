@@ -1,4 +1,3 @@
 -- Questions on a selection of a problem's generators.
 pub mod Selected
 pub mod Shown
-pub mod laws

@@ -2,7 +2,7 @@
 use mathlib.Core.Path.{refl}
 use Rattle.problems.proofs.laws.Handed.{follow_refused, follow_made, replied_as, few_handed}
 use Rattle.catalogue.specs.Catalogue.{catalogue, lent_catalogue}
-use Rattle.catalogue.specs.laws.Numbers.{catalogue_told}
+use Rattle.catalogue.proofs.laws.Numbers.{catalogue_told}
 use Rattle.catalogue.specs.declared.Catalogued.TheVariants as reply
 use Rattle.catalogue.proofs.catalogue.Goals as goal
 

@@ -1,7 +1,7 @@
 -- `catalogue::catalogue_of` meets its contract. Assumes nothing.
 use native.Mathlib.Omega.{arith}
 use Rattle.bases.specs.Basis.{based_dim}
-use Rattle.catalogue.specs.laws.Replies.{given_far, given_near}
+use Rattle.catalogue.proofs.laws.Replies.{given_far, given_near}
 use Rattle.catalogue.proofs.catalogue_of.Goals as goal
 
 pub returns-then-k-ell : goal.returns-then-k-ell

@@ -6,7 +6,7 @@
 --   Listed                 == the promise: the dimension of the targets, the number of entries up to the limit, how many are shown, and the buffer's content
 --   ListedFrom             == the same, of all targets that have that basis
 -- The entries are those of the catalogue: linear's `Theorems` shows that none is missing and none comes twice. With the limit 2 ^ 64 - 1 all are counted: `found_All`
--- (laws/Listing). Assumes nothing.
+-- (proofs/laws/of_listing/Listing). Assumes nothing.
 use Rattle.std.specs.Prelude.{◌≡◌, List, [], ◌∷◌, ◌++◌, map, ℕ, zero, suc, ◌+◌, ◌*◌, ◌/◌, ◌≤◌, min, length, take, drop}
 use Rattle.linear.specs.Basis.{basis_of, dim}
 use Rattle.linear.specs.Entry.{entries, space}

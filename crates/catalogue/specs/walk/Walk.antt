@@ -2,7 +2,7 @@
 --   search gens k C p n i m == what the walk meets: from the space C, reached with the numbers p, for m more numbers out of i, .., i + n - 1. It is the
 --                              numbers, and the rows of the basis
 --   Node                    == what `walk` asks
--- At the start of the walk these are the entries: `search_is` (laws/Search). Assumes nothing.
+-- At the start of the walk these are the entries: `search_is` (proofs/laws/of_walk/Search). Assumes nothing.
 use Rattle.std.specs.Prelude.{◌≡◌, List, ℕ, ◌≤◌, length}
 use Rattle.linear.specs.Word.{word}
 use Rattle.linear.specs.Walk.{spans, walk}

@@ -22,7 +22,7 @@ use Rattle.linear.proofs.laws.Dimension.{dim_length}
 use Rattle.linear.proofs.laws.Rank.{entries_below}
 use Rattle.linear.proofs.laws.Select.{first_length}
 use Rattle.catalogue.specs.listing.Listing.{fitting}
-use Rattle.catalogue.specs.listing.laws.Run.{fitting_in, fitting_le}
+use Rattle.catalogue.proofs.laws.of_listing.Run.{fitting_in, fitting_le}
 use Rattle.catalogue.specs.Catalogue.{Catalogued, entry_listing, catalogue_of, seen_catalogue}
 use Rattle.catalogue.specs.declared.Catalogued.{Catalogued as Reply}
 use Rattle.catalogue.specs.declared.Catalogued.TheVariants as reply

@@ -10,8 +10,8 @@ use Rattle.linear.specs.Entry.{chosen}
 use Rattle.linear.specs.Word.{word}
 use Rattle.linear.proofs.laws.Order.{mem_get_d, mem_map_inv}
 use Rattle.bases.specs.rows.Rows.{row_of}
-use Rattle.catalogue.specs.listing.laws.Run.{fitting_le}
-use Rattle.catalogue.specs.listing.laws.Placed.{placed}
+use Rattle.catalogue.proofs.laws.of_listing.Run.{fitting_le}
+use Rattle.catalogue.proofs.laws.of_listing.Placed.{placed}
 use Rattle.printing.specs.record_lines.RecordLines.{record_lines}
 use Rattle.space_formulae.specs.spaces.Spaces.{Formulae, record_size}
 use Rattle.space_formulae.specs.spaces.Theorems.{FormulaeMeans}

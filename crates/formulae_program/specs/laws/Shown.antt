@@ -10,7 +10,7 @@ use Rattle.linear.specs.Basis.{dim}
 use Rattle.linear.specs.Entry.{Solution, space}
 use Rattle.linear.specs.Word.{word}
 use Rattle.linear.proofs.laws.Order.{mem_get_d, mem_map}
-use Rattle.catalogue.specs.listing.laws.Run.{fitting_le}
+use Rattle.catalogue.proofs.laws.of_listing.Run.{fitting_le}
 use Rattle.problems.specs.Problem.{Problem}
 use Rattle.catalogue.specs.Catalogue.{Catalogued, catalogue_of}
 use Rattle.theorems.specs.catalogue_and_rank.Theorems.{CatalogueMeans, catalogue_of_means, look_up_means}

@@ -13,7 +13,7 @@ use Rattle.linear.specs.Formulae.{formulae}
 use Rattle.linear.specs.Word.{word}
 use Rattle.linear.proofs.laws.Dimension.{dim_length}
 use Rattle.catalogue.specs.listing.Listing.{fitting}
-use Rattle.catalogue.specs.listing.laws.Run.{fitting_in}
+use Rattle.catalogue.proofs.laws.of_listing.Run.{fitting_in}
 use Rattle.problems.specs.Problem.{Problem}
 use Rattle.space_formulae.specs.Replies.{Some}
 use Rattle.space_formulae.specs.spaces.Spaces.{Formulae, is_entry, record_size, formulae_listing, formulae_for, seen_formulae}

@@ -13,7 +13,7 @@ use Rattle.linear.specs.Entry.{space}
 use Rattle.linear.specs.Word.{word}
 use Rattle.linear.proofs.laws.Order.{mem_get_d, mem_map}
 use Rattle.records.specs.Length.{record_length}
-use Rattle.catalogue.specs.listing.laws.Run.{fitting_le}
+use Rattle.catalogue.proofs.laws.of_listing.Run.{fitting_le}
 use Rattle.printing.specs.record_lines.RecordLines.{entry_text, record_lines}
 use Rattle.problems.specs.Problem.{Problem, shaped}
 use Rattle.problems.specs.prices.Prices.{prices}

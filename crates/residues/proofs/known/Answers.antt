@@ -2,7 +2,7 @@
 use mathlib.Core.Path.{refl}
 use Prim.Native.Nat.{◌<◌}
 use borrow.Author.Count.{below_more}
-use Rattle.residues.specs.children.laws.Known.{known_zero, known_found, known_none}
+use Rattle.residues.proofs.laws.of_children.Known.{known_zero, known_found, known_none}
 use native.Mathlib.Omega.{arith}
 use Rattle.residues.proofs.known.Goals as goal
 

@@ -4,7 +4,7 @@ use Prim.Native.Nat.{ℕ}
 use lib.Dec.{eqb}
 use Rattle.bases.specs.Basis.{based_dim}
 use Rattle.residues.specs.children.Residues.{with_residue}
-use Rattle.residues.specs.laws.Held.{from_empty}
+use Rattle.residues.proofs.laws.Held.{from_empty}
 use Rattle.residues.proofs.spanned.Goals as goal
 
 pub with_residue-requires : goal.with_residue-requires

@@ -12,7 +12,7 @@
 --   Finished h d start marks marks'   == the first number from start on that is new at h and not at d is marked, unless it is known; marks stay and stay fair
 --   LeftOver .. dead gone marks       == of the spaces without a dead generator those with one that is gone are met
 -- A search starts with dead and gone alike (`left_start`), goes over a number and adds it to those that are gone (`left_more`), in any order, and
--- ends where all that are picked are gone (`left_met`): laws/Found. Assumes nothing.
+-- ends where all that are picked are gone (`left_met`): proofs/laws/of_children/Found. Assumes nothing.
 use Rattle.std.specs.Prelude.{◌≡◌, ◌≢◌, ◌⊎◌, false, List, ℕ, ◌<◌, ◌≤◌, length, get_or}
 use Rattle.linear.specs.Span.{Span, Within}
 use Rattle.linear.specs.Basis.{insert, Reduced, dim}

@@ -6,7 +6,7 @@
 --   Related gens d W start w gone lines         == three or four such numbers (h is the number of generators where there are three) whose values sum to 0 and
 --                                                  whose generators' sum is not in the span of the generators of value 0
 --   AllRelated gens d start k m gone w lines    == every space for k over d with m more dimensions, without a generator that is gone, has such numbers
--- The law: `leads_related` (laws/Relation). Assumes nothing.
+-- The law: `leads_related` (proofs/laws/of_children/Relation). Assumes nothing.
 use Rattle.std.specs.Prelude.{◌≡◌, ◌≢◌, ◌⊎◌, Bool, true, false, List, ℕ, ◌+◌, ◌-◌, ◌*◌, ◌^◌, ◌<◌, ◌≤◌, length, get_or}
 use Rattle.std.specs.Int.Bits.{bit_xor}
 use Rattle.linear.specs.Span.{Span}

@@ -2,7 +2,7 @@
 --   residues gens C       == what is left of each generator when the leads of the basis C are cleared in it
 --   known h i             == by the residues h, the number i brings in nothing, or what an earlier one would
 --   with_residue x gens h  == the generators whose residue is x, in their order
--- Laws: laws/Known, laws/Child. Assumes nothing.
+-- Laws: proofs/laws/of_children/Known, Child. Assumes nothing.
 use Rattle.std.specs.Prelude.{Bool, cond, ◌||◌, List, [], ◌∷◌, map, ℕ, get_or, take, eqb}
 use Rattle.linear.specs.Basis.{reduce}
 use Rattle.linear.specs.Select.{any_of}

@@ -13,7 +13,7 @@
 --   Joined d start x left gone w bound p  == the numbers from start on that p does not pick are so
 --   PickedBy .. gone n p                  == `Picked`, over d and the generator with the number n
 -- Heavy values are enough (`weighed_picked`), and where two dimensions are missing a value x leaves only those that with x and their sum have what is
--- needed (`joined_picked`): laws/Weighed, laws/Join. Assumes nothing.
+-- needed (`joined_picked`): proofs/laws/of_children/Weighed, Join. Assumes nothing.
 use Rattle.std.specs.Prelude.{◌≡◌, ◌≢◌, ◌⊎◌, List, ℕ, ◌+◌, ◌-◌, ◌*◌, ◌^◌, ◌<◌, ◌≤◌, length, get_or, drop}
 use Rattle.std.specs.Int.Bits.{bit_xor}
 use Rattle.linear.specs.Span.{Span}

@@ -1,13 +1,9 @@
 -- `selections::is_redundant` meets its contract. Assumes nothing.
-use borrow.Author.Rules.{rules}
 use mathlib.Core.Path.{◌∙◌}
 use Rattle.problems.proofs.laws.Handed.{follow_refused, follow_made, few_handed}
 use Rattle.selections.specs.declared.on_forms.Said.TheVariants as said
-use Rattle.selections.specs.on_forms.laws.Numbers.{said_told}
+use Rattle.selections.proofs.laws.of_on_forms.Numbers.{said_told}
 use Rattle.selections.specs.Selections.{is_redundant}
-use Rattle.problems.proofs.pose.Reads as pose-reads
-use Rattle.words.proofs.first_words.Reads as first-words-reads
-use Rattle.selections.proofs.on_forms.say_redundant.Reads as say-redundant-reads
 use Rattle.selections.proofs.is_redundant.Goals as goal
 
 pub say_redundant-requires : goal.say_redundant-requires

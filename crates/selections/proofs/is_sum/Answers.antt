@@ -1,14 +1,10 @@
 -- `selections::is_sum` meets its contract. Assumes nothing.
-use borrow.Author.Rules.{rules}
 use mathlib.Core.Path.{refl}
 use Rattle.problems.proofs.laws.Handed.{follow_refused, follow_made, few_handed, replied_as}
 use Rattle.selections.specs.declared.on_forms.Summed.TheVariants as summed
 use Rattle.selections.specs.on_forms.Shown.{lent_summed}
-use Rattle.selections.specs.on_forms.laws.Numbers.{summed_told}
+use Rattle.selections.proofs.laws.of_on_forms.Numbers.{summed_told}
 use Rattle.selections.specs.Selections.{is_sum}
-use Rattle.problems.proofs.pose.Reads as pose-reads
-use Rattle.words.proofs.first_words.Reads as first-words-reads
-use Rattle.selections.proofs.on_forms.say_sum.Reads as say-sum-reads
 use Rattle.selections.proofs.is_sum.Goals as goal
 
 pub say_sum-requires : goal.say_sum-requires

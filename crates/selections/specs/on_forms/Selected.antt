@@ -5,6 +5,7 @@
 --   missed_by gens targets sel == some target is no sum of the selected generators
 --   redundant_answer x sel j   == is each target still a sum of the selected generators of the problem x without j (document 01: is j spare); refusal 11
 --   NumbersBelow n sel        == each selected number is below n
+--   SelectionFits n sel       == each selected number is below n, and none stands twice
 --   Marked sel before after   == marks with 1 put at each number of sel
 --   seen_said a                == what the code's answer stands for
 --   said_numbers a             == its numbers: the refusal's, and 1 for yes; `said_values b`, the same of what is accepted
@@ -38,6 +39,10 @@ missed_by gens targets sel = any_of (λ t. not (summed gens sel t)) targets
 
 abbrev pub NumbersBelow : ℕ → List ℕ → Type 0
 NumbersBelow n sel = (e : ℕ) → Memᴰ e sel → e < n
+
+pub record SelectionFits (n : ℕ) (sel : List ℕ) : Type 0 where
+  pub numbers : NumbersBelow n sel
+  pub once : repeats sel ≡ false
 
 pub record Marked (sel before after : List ℕ) : Type 0 where
   pub same : length after ≡ length before

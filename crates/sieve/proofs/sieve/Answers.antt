@@ -2,8 +2,8 @@
 use mathlib.Core.Path.{refl, ◌∙◌}
 use native.Mathlib.Omega.{arith}
 use Rattle.residues.specs.children.Residues.{with_residue}
-use Rattle.residues.specs.laws.Held.{from_empty}
-use Rattle.residues.specs.children.laws.Numbers.{as_few, as_many}
+use Rattle.residues.proofs.laws.Held.{from_empty}
+use Rattle.residues.proofs.laws.of_children.Numbers.{as_few, as_many}
 use Rattle.words.specs.laws.Blank.{zero_length}
 use Rattle.sieve.specs.laws.Marks.{sieved_of}
 use Rattle.residues.specs.Room.{search_room}

@@ -6,7 +6,7 @@ use Rattle.std.specs.Prelude.{◌≡◌, ◌≢◌, List, ℕ, length, replicate
 use Rattle.std.proofs.Common.{inr}
 use Rattle.residues.specs.children.Found.{Fair, Found}
 use Rattle.words.specs.laws.Blank.{zero_at}
-use Rattle.residues.specs.children.laws.Found.{met_barren}
+use Rattle.residues.proofs.laws.of_children.Found.{met_barren}
 use Rattle.sieve.specs.dead_numbers.Dead.{FlaggedBefore}
 use Rattle.sieve.specs.Sieve.{Sieved}
 use Rattle.residues.specs.Room.{search_room}

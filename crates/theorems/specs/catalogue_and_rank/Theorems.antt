@@ -34,8 +34,8 @@ use Rattle.linear.proofs.laws.Entry.{space_reduced}
 use Rattle.linear.proofs.laws.Rank.{solution_within, entries_below}
 use Rattle.bases.specs.rows.Rows.{row_of}
 use Rattle.bases.specs.rows.laws.Rows.{row_sum_law, row_only}
-use Rattle.catalogue.specs.listing.laws.Run.{fitting_le, fitting_none}
-use Rattle.catalogue.specs.listing.laws.Placed.{entry_placed}
+use Rattle.catalogue.proofs.laws.of_listing.Run.{fitting_le, fitting_none}
+use Rattle.catalogue.proofs.laws.of_listing.Placed.{entry_placed}
 use Rattle.catalogue.specs.listing.Listing.{records, flat, fitting}
 use Rattle.choices.specs.Choice.{formula_record}
 use Rattle.rank.specs.fewest.Fewest.{Ranking, is, above, beyond, written, ranking}

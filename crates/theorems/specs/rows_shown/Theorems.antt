@@ -20,7 +20,7 @@ use Rattle.space_formulae.specs.spaces.Theorems.{formulae_means}
 use Rattle.rank.specs.Rank.{rank}
 use Rattle.rank.specs.fewest.Fewest.{is}
 use Rattle.selections.specs.Selections.{is_sum}
-use Rattle.selections.specs.Theorems.{row_shown}
+use Rattle.selections.proofs.Theorems.{row_shown}
 use Rattle.selections.specs.on_forms.Shown.{sum_of}
 use Rattle.theorems.specs.catalogue_and_rank.Theorems.{rank_means}
 

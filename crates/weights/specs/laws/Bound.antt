@@ -17,7 +17,7 @@ use Rattle.linear.specs.laws.Span.{span_bind, span_mem}
 use Rattle.linear.proofs.laws.Word.{at_most, inserts_below, basis_of_below}
 use Rattle.residues.specs.children.Residues.{with_residue}
 use Rattle.residues.specs.children.Weighed.{rank_of, Shared, Owner, Weighed}
-use Rattle.residues.specs.children.laws.Handed.{residue_mem}
+use Rattle.residues.proofs.laws.of_children.Handed.{residue_mem}
 use Rattle.weights.specs.Table.{slot_of, weight_of}
 use Rattle.weights.specs.Enter.{value_rows, TableSound, From, ValuePlace}
 use Rattle.words.specs.tables.laws.Seek.{either}

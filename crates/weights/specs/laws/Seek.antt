@@ -13,7 +13,7 @@ use Rattle.std.proofs.Math.Path.{ap}
 use Rattle.std.proofs.Math.Bool.{cond}
 use Rattle.linear.specs.Word.{is_zero}
 use Rattle.weights.specs.slots.Bucket.{bucket_of, slot_count}
-use Rattle.residues.specs.children.laws.Known.{is_zero_of}
+use Rattle.residues.proofs.laws.of_children.Known.{is_zero_of}
 use Rattle.words.specs.tables.Table.{slot_from, tries}
 use Rattle.words.specs.tables.laws.Seek as table
 use Rattle.weights.specs.Table.{slot_of, weight_at, weight_of}

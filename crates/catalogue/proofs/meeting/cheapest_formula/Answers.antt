@@ -6,8 +6,8 @@ use borrow.Author.Tests.{eq-eqb, ne_eqb}
 use native.Mathlib.Omega.{arith}
 use lib.Dec.{eqb}
 use Rattle.records.specs.Keep.{state_of}
-use Rattle.catalogue.specs.meeting.laws.Meeting.{met_entries}
-use Rattle.catalogue.specs.meeting.laws.Cheapest.{cheapest_met, formula_length}
+use Rattle.catalogue.proofs.laws.of_meeting.Meeting.{met_entries}
+use Rattle.catalogue.proofs.laws.of_meeting.Cheapest.{cheapest_met, formula_length}
 use Rattle.catalogue.specs.declared.noting.Aim.TheVariants as aim
 use Rattle.catalogue.proofs.meeting.cheapest_formula.Goals as goal
 

@@ -1,6 +1,6 @@
 -- `catalogue::noting::is_full` meets its contract. Assumes nothing.
 use mathlib.Core.Path.{refl}
-use Rattle.catalogue.specs.noting.laws.Noting.{is_full_as}
+use Rattle.catalogue.proofs.laws.of_noting.Noting.{is_full_as}
 use Rattle.catalogue.specs.declared.noting.Aim.TheVariants as aim
 use Rattle.catalogue.proofs.noting.is_full.Goals as goal
 

@@ -2,10 +2,10 @@
 use mathlib.Core.Path.{ap, ◌∙◌, subst}
 use lib.ListN.{length}
 use Rattle.bases.specs.Basis.{rows_of}
-use Rattle.residues.specs.children.laws.Child.{residues_length}
+use Rattle.residues.proofs.laws.of_children.Child.{residues_length}
 use Rattle.records.specs.Keep.{state_of}
 use Rattle.catalogue.specs.noting.Noting.{Menu, Steady}
-use Rattle.catalogue.specs.noting.laws.Noting.{noted_record, noted_offer}
+use Rattle.catalogue.proofs.laws.of_noting.Noting.{noted_record, noted_offer}
 use Rattle.catalogue.specs.declared.noting.Aim.{Aim}
 use Rattle.catalogue.proofs.noting.note.Goals as goal
 

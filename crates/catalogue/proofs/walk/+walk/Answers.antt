@@ -4,13 +4,13 @@ use mathlib.Core.Path.{◌≡◌, refl, sym, ap, ◌∙◌}
 use Prim.Native.Nat.{◌+◌, ◌-◌}
 use lib.ListN.{length, replicate}
 use Rattle.bases.specs.Basis.{rows_of}
-use Rattle.residues.specs.children.laws.Numbers.{as_few, as_many, inside, ends, falls_one}
-use Rattle.residues.specs.children.laws.Child.{residues_length}
+use Rattle.residues.proofs.laws.of_children.Numbers.{as_few, as_many, inside, ends, falls_one}
+use Rattle.residues.proofs.laws.of_children.Child.{residues_length}
 use Rattle.records.specs.Records.{runs}
 use Rattle.records.specs.Keep.{chain_of, state_of}
 use Rattle.catalogue.specs.noting.Noting.{met}
 use Rattle.catalogue.specs.walk.Walk.{search}
-use Rattle.catalogue.specs.walk.laws.Search.{leaf_yes, leaf_no}
+use Rattle.catalogue.proofs.laws.of_walk.Search.{leaf_yes, leaf_no}
 use Rattle.catalogue.proofs.Numbers.{le_refl, few_missing, later, after, mine_all}
 use Rattle.catalogue.proofs.Going.{Going, going_next, going_full, going_end, node_down, going_down}
 use Rattle.residues.specs.Room.{search_room}

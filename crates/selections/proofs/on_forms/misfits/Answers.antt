@@ -1,8 +1,5 @@
 -- `selections::on_forms::misfits` meets its contract. Assumes nothing.
-use borrow.Author.Rules.{rules}
-use Rattle.selections.specs.on_forms.laws.Marking.{misfit_outside, misfit_twice}
-use Rattle.words.proofs.lists.repeats.Reads as repeats-reads
-use Rattle.words.proofs.lists.any_outside.Reads as any-outside-reads
+use Rattle.selections.proofs.laws.of_on_forms.Marking.{misfit_outside, misfit_twice}
 use Rattle.selections.proofs.on_forms.misfits.Goals as goal
 
 pub returns-then-any_outside : goal.returns-then-any_outside

@@ -1,10 +1,6 @@
 -- `selections::on_forms::misses_without` meets its contract. Assumes nothing.
-use borrow.Author.Rules.{rules}
 use Rattle.choices.specs.laws.Writing.{forms_length}
-use Rattle.selections.specs.on_forms.laws.Replies.{missed_is}
-use Rattle.bases.proofs.basis_of.Reads as basis-of-reads
-use Rattle.bases.proofs.spans.misses.Reads as misses-reads
-use Rattle.selections.proofs.on_forms.part_without.Reads as part-without-reads
+use Rattle.selections.proofs.laws.of_on_forms.Replies.{missed_is}
 use Rattle.selections.proofs.on_forms.misses_without.Goals as goal
 
 pub slice_bounds-basis_of-end : goal.slice_bounds-basis_of-end

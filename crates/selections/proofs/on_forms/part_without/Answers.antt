@@ -1,5 +1,4 @@
 -- `selections::on_forms::part_without` meets its contract. Assumes nothing.
-use borrow.Author.Rules.{rules}
 use native.Mathlib.Omega.{arith}
 use mathlib.Core.Path.{refl, subst}
 use mathlib.Core.List.{List}
@@ -7,9 +6,7 @@ use lib.ListN.{length}
 use Prim.Native.Nat.{ℕ}
 use Rattle.choices.specs.Choice.{Chose}
 use Rattle.selections.specs.on_forms.Selected.{without}
-use Rattle.selections.specs.on_forms.laws.Marking.{misfit_below, marked_part}
-use Rattle.choices.proofs.choose.Reads as choose-reads
-use Rattle.selections.proofs.on_forms.mark.Reads as mark-reads
+use Rattle.selections.proofs.laws.of_on_forms.Marking.{misfit_below, marked_part}
 use Rattle.selections.proofs.on_forms.part_without.Goals as goal
 
 pub mark-requires : goal.mark-requires

@@ -1,13 +1,9 @@
 -- `selections::on_forms::put_named` meets its contract: of the numbers looked at those named are written. Assumes nothing.
 use native.Mathlib.Omega.{arith}
-use mathlib.Core.Logic.{⊎_elim}
 use mathlib.Core.Path.{sym, subst, ◌∙◌}
 use mathlib.Core.List.{List}
-use Prim.Native.Nat.{ℕ, ◌+◌, ◌-◌, ◌<◌}
-use lib.ListN.{length}
-use borrow.Author.Rules.{rules}
-use Rattle.selections.specs.on_forms.laws.Naming.{Naming, naming_start, naming_skip, naming_inside, naming_next, naming_end}
-use Rattle.forms.proofs.coordinate.Reads as coordinate-reads
+use Prim.Native.Nat.{ℕ, ◌+◌}
+use Rattle.selections.proofs.laws.of_on_forms.Naming.{Naming, naming_start, naming_skip, naming_inside, naming_next, naming_end}
 use Rattle.selections.proofs.on_forms.put_named.Goals as goal
 use Rattle.selections.proofs.on_forms.put_named.Goals.{else-coordinate, then-coordinate}
 
@@ -48,8 +44,7 @@ loop-i-preserved c =
       | then-coordinate w ↦ subst (λ (m : ℕ). at c.if-coordinate.out m) (sym w.m-is)
           (subst (λ (o : List ℕ). at o (l.m + 1)) (sym w.out-is)
           (naming_next a.numbers.now a.mask a.out.now l.out l.m l.i l.invariant t (sym q ∙ w.if-coordinate.true) c.requires))
-      | else-coordinate w ↦ subst
-          (λ (m : ℕ). at c.if-coordinate.out m) (sym w.m-is)
+      | else-coordinate w ↦ subst (λ (m : ℕ). at c.if-coordinate.out m) (sym w.m-is)
           (subst (λ (o : List ℕ). at o l.m) (sym w.out-is)
           (naming_skip a.numbers.now a.mask a.out.now l.out l.m l.i l.invariant t (sym q ∙ w.if-coordinate.false)))
     ]

@@ -1,9 +1,6 @@
 -- `selections::on_forms::rest_over` meets its contract. Assumes nothing.
-use borrow.Author.Rules.{rules}
 use native.Mathlib.Omega.{arith}
-use Rattle.selections.specs.on_forms.laws.Replies.{forms_fit, rows_here, masks_here, rest_over}
-use Rattle.bases.proofs.rows.echelon_of.Reads as echelon-of-reads
-use Rattle.bases.proofs.rows.rest_of.Reads as rest-of-reads
+use Rattle.selections.proofs.laws.of_on_forms.Replies.{forms_fit, rows_here, masks_here, rest_over}
 use Rattle.selections.proofs.on_forms.rest_over.Goals as goal
 
 pub slice_bounds-echelon_of-end : goal.slice_bounds-echelon_of-end

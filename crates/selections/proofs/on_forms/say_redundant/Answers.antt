@@ -1,15 +1,7 @@
 -- `selections::on_forms::say_redundant` meets its contract. Assumes nothing.
-use borrow.Author.Rules.{rules}
-use mathlib.Core.Path.{◌≡◌, sym, ap, ◌∙◌}
-use mathlib.Core.Bool.{Bool, true, false, not}
-use lib.ListN.{length}
-use Rattle.kinds.specs.Refusal.{accepted}
-use Rattle.problems.specs.Problem.{problem}
-use Rattle.selections.specs.on_forms.Selected.{misfit, missed_by, redundant_answer}
-use Rattle.selections.specs.on_forms.laws.Replies.{redundant_misfit, redundant_short, redundant_lacking, redundant_said, missed_all}
-use Rattle.words.proofs.lists.stands_from.Reads as stands-from-reads
-use Rattle.selections.proofs.on_forms.misfits.Reads as misfits-reads
-use Rattle.selections.proofs.on_forms.misses_without.Reads as misses-without-reads
+use mathlib.Core.Path.{sym, ap, ◌∙◌}
+use mathlib.Core.Bool.{true, false, not}
+use Rattle.selections.proofs.laws.of_on_forms.Replies.{redundant_misfit, redundant_short, redundant_lacking, redundant_said, missed_all}
 use Rattle.selections.proofs.on_forms.say_redundant.Goals as goal
 
 pub returns-then-misfits : goal.returns-then-misfits

@@ -1,14 +1,10 @@
 -- `selections::on_forms::say_sum` meets its contract. Assumes nothing.
-use borrow.Author.Rules.{rules}
 use mathlib.Core.Path.{sym, ap, ◌∙◌}
 use lib.ListN.{length}
 use Rattle.kinds.specs.Refusal.{Answer}
 use Rattle.problems.proofs.laws.Handed.{replied_as}
 use Rattle.selections.specs.on_forms.Shown.{Summing, lent_summed}
-use Rattle.selections.specs.on_forms.laws.Replies.{sum_misfit, sum_shown, part_shows}
-use Rattle.selections.proofs.on_forms.misfits.Reads as misfits-reads
-use Rattle.selections.proofs.on_forms.part_without.Reads as part-without-reads
-use Rattle.selections.proofs.on_forms.show_sum.Reads as show-sum-reads
+use Rattle.selections.proofs.laws.of_on_forms.Replies.{sum_misfit, sum_shown, part_shows}
 use Rattle.selections.proofs.on_forms.say_sum.Goals as goal
 
 pub returns-then-misfits : goal.returns-then-misfits

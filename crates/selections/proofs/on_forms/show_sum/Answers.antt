@@ -1,19 +1,13 @@
 -- `selections::on_forms::show_sum` meets its contract. Assumes nothing.
-use borrow.Author.Rules.{rules}
 use native.Mathlib.Omega.{arith}
-use mathlib.Core.Path.{◌≡◌, sym, ap}
-use Prim.Native.Nat.{◌≤◌}
-use lib.ListN.{length, take}
+use mathlib.Core.Path.{sym, ap}
 use lib.Seq.{length-take-le}
 use Rattle.kinds.specs.Refusal.{Answer}
 use Rattle.bases.specs.rows.Terms.{named}
 use Rattle.choices.specs.Choice.{numbers_of}
 use Rattle.choices.specs.laws.Writing.{numbers_length}
 use Rattle.selections.specs.on_forms.Shown.{Summing, lent_summed}
-use Rattle.selections.specs.on_forms.laws.Replies.{shown_none, shown_short, shown_sum, filled_room}
-use Rattle.selections.proofs.on_forms.rest_over.Reads as rest-over-reads
-use Rattle.selections.proofs.on_forms.put_named.Reads as put-named-reads
-use Rattle.words.proofs.copy.Reads as copy-reads
+use Rattle.selections.proofs.laws.of_on_forms.Replies.{shown_none, shown_short, shown_sum, filled_room}
 use Rattle.selections.proofs.on_forms.show_sum.Goals as goal
 
 pub returns-then-rest-ne0 : goal.returns-then-rest-ne0

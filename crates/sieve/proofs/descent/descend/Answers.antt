@@ -2,7 +2,7 @@
 use mathlib.Core.Path.{refl, sym}
 use lib.ListN.{length}
 use lib.Seq.{length-take-le}
-use Rattle.residues.specs.children.laws.Numbers.{as_few, within_numbers}
+use Rattle.residues.proofs.laws.of_children.Numbers.{as_few, within_numbers}
 use Rattle.sieve.specs.heavy_search.laws.Descend.{descend_one, descend_two, descend_three, descended}
 use Rattle.sieve.proofs.descent.descend.Goals as goal
 

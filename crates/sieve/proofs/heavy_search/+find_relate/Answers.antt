@@ -13,7 +13,7 @@ use lib.ListN.{length, take, replicate, length-replicate}
 use borrow.Author.Tests.{lt-ltb, le-ltb, not-true, not-false}
 use Rattle.residues.specs.Room.{search_room}
 use Rattle.residues.specs.children.Found.{Found, FoundBy}
-use Rattle.residues.specs.children.laws.Numbers.{ends, inside, within_numbers, next_le, one_fits, eight_fits}
+use Rattle.residues.proofs.laws.of_children.Numbers.{ends, inside, within_numbers, next_le, one_fits, eight_fits}
 use Rattle.weights.specs.rank_rows.Stretch.{row_room}
 use Rattle.sieve.specs.heavy_search.laws.Near.{ready_of}
 use Rattle.sieve.specs.heavy_search.laws.Sweep.{sweep_start, sweep_lower, sweep_light, sweep_picked, sweep_end}

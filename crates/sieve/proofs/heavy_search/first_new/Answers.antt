@@ -3,7 +3,7 @@ use mathlib.Core.Path.{sym, ◌∙◌}
 use mathlib.Core.List.{map}
 use Rattle.linear.specs.Basis.{clear}
 use Rattle.linear.specs.Word.{word}
-use Rattle.residues.specs.children.laws.Child.{clear_at}
+use Rattle.residues.proofs.laws.of_children.Child.{clear_at}
 use Rattle.sieve.specs.heavy_search.laws.Find.{looking_start, looking_more, looking_found, looking_end}
 use Rattle.sieve.proofs.heavy_search.first_new.Goals as goal
 

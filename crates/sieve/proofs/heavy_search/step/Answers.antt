@@ -1,7 +1,7 @@
 -- `sieve::heavy_search::step` meets its contract: a dead value, no space for k, or the number to go on with marked. Assumes nothing.
 use mathlib.Core.Path.{sym, ◌∙◌}
 use native.Mathlib.Omega.{arith}
-use Rattle.residues.specs.children.laws.Found.{by_shared, by_finished}
+use Rattle.residues.proofs.laws.of_children.Found.{by_shared, by_finished}
 use Rattle.sieve.specs.heavy_search.laws.Step.{step_none}
 use Rattle.sieve.proofs.heavy_search.step.Goals as goal
 

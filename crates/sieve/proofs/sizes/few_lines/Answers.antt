@@ -1,7 +1,7 @@
 -- `sieve::sizes::few_lines` meets its contract: it goes from place to place as long as some may be left. Assumes nothing.
 use mathlib.Core.Path.{refl, sym}
 use native.Mathlib.Omega.{arith}
-use Rattle.residues.specs.children.laws.Numbers.{as_few, as_many}
+use Rattle.residues.proofs.laws.of_children.Numbers.{as_few, as_many}
 use Rattle.sieve.specs.heavy_search.laws.Size.{join_sized}
 use Rattle.sieve.proofs.sizes.few_lines.Goals as goal
 

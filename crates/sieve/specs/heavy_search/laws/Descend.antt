@@ -18,8 +18,8 @@ use Rattle.bases.specs.Basis.{rows_of, Holds}
 use Rattle.bases.specs.declared.Basis.{Basis}
 use Rattle.residues.specs.children.Residues.{with_residue}
 use Rattle.residues.specs.children.Weighed.{Shared}
-use Rattle.residues.specs.children.laws.Child.{zero_clear, clear_at}
-use Rattle.residues.specs.children.laws.Handed.{residue_mem, mem_residue}
+use Rattle.residues.proofs.laws.of_children.Child.{zero_clear, clear_at}
+use Rattle.residues.proofs.laws.of_children.Handed.{residue_mem, mem_residue}
 use Rattle.residues.specs.Mapped.{Mapped}
 use Rattle.residues.specs.Taking.{Took}
 use Rattle.residues.specs.declared.Taken.{Taken}

@@ -14,10 +14,10 @@ use Rattle.bases.specs.declared.Basis.{Basis}
 use Rattle.residues.specs.Mapped.{Mapped}
 use Rattle.residues.specs.Taking.{Took}
 use Rattle.residues.specs.declared.Taken.{Taken}
-use Rattle.residues.specs.laws.Held.{holds_length}
+use Rattle.residues.proofs.laws.Held.{holds_length}
 use Rattle.residues.specs.children.Residues.{with_residue}
 use Rattle.residues.specs.children.Found.{FoundBy, Finished}
-use Rattle.residues.specs.children.laws.Found.{by_shared, by_none, by_finished}
+use Rattle.residues.proofs.laws.of_children.Found.{by_shared, by_none, by_finished}
 use Rattle.sieve.specs.heavy_search.Find.{ChildBasis, Neared}
 use Rattle.sieve.specs.heavy_search.laws.Step.{held_child}
 

@@ -13,12 +13,12 @@ use Rattle.linear.specs.Word.{word}
 use Rattle.bases.specs.Basis.{Holds}
 use Rattle.bases.specs.declared.Basis.{Basis}
 use Rattle.residues.specs.Mapped.{Mapped}
-use Rattle.residues.specs.laws.Held.{holds_length}
+use Rattle.residues.proofs.laws.Held.{holds_length}
 use Rattle.residues.specs.children.Residues.{with_residue}
 use Rattle.residues.specs.children.Found.{FoundBy}
 use Rattle.residues.specs.children.Weighed.{Joined, PickedBy}
-use Rattle.residues.specs.children.laws.Found.{closed_met}
-use Rattle.residues.specs.children.laws.Join.{joined_picked}
+use Rattle.residues.proofs.laws.of_children.Found.{closed_met}
+use Rattle.residues.proofs.laws.of_children.Join.{joined_picked}
 use Rattle.weights.specs.Table.{weight_of}
 use Rattle.sieve.specs.heavy_search.Find.{At, Closed, Pairing}
 

@@ -20,10 +20,10 @@ use Rattle.residues.specs.children.Residues.{residues, with_residue}
 use Rattle.residues.specs.children.Found.{Leads, Spared, Fair, Grown, Found}
 use Rattle.residues.specs.children.Weighed.{Shared}
 use Rattle.residues.specs.children.Relation.{Standing, Related, AllRelated}
-use Rattle.residues.specs.children.laws.Child.{clear_zero, clear_at}
-use Rattle.residues.specs.children.laws.Handed.{xor_back, clear_two}
-use Rattle.residues.specs.children.laws.Found.{value_at, child}
-use Rattle.residues.specs.children.laws.Leads.{leads_one}
+use Rattle.residues.proofs.laws.of_children.Child.{clear_zero, clear_at}
+use Rattle.residues.proofs.laws.of_children.Handed.{xor_back, clear_two}
+use Rattle.residues.proofs.laws.of_children.Found.{value_at, child}
+use Rattle.residues.proofs.laws.of_children.Leads.{leads_one}
 use Rattle.relations.specs.pairs.Pairs.{Values}
 use Rattle.relations.specs.Relations.{Relation, Passed, Here, FirstPlace, NextPlace}
 use Rattle.relations.specs.declared.Place.{Place}

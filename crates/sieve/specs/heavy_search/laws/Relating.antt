@@ -17,8 +17,8 @@ use Rattle.bases.specs.declared.Basis.{Basis}
 use Rattle.residues.specs.children.Residues.{with_residue}
 use Rattle.residues.specs.children.Found.{Found, Spared}
 use Rattle.residues.specs.children.Relation.{Short, AllRelated}
-use Rattle.residues.specs.children.laws.Weighed.{weighed_more}
-use Rattle.residues.specs.children.laws.Relation.{leads_related}
+use Rattle.residues.proofs.laws.of_children.Weighed.{weighed_more}
+use Rattle.residues.proofs.laws.of_children.Relation.{leads_related}
 use Rattle.residues.specs.declared.Taken.{Taken}
 use Rattle.weights.specs.Table.{weight_of, TableFilled}
 use Rattle.relations.specs.Relations.{Placed}

@@ -10,11 +10,11 @@ use Rattle.linear.specs.Basis.{clear, inserts, basis_of, dim}
 use Rattle.linear.specs.Word.{word}
 use Rattle.bases.specs.Basis.{rows_of, Holds}
 use Rattle.bases.specs.declared.Basis.{Basis}
-use Rattle.residues.specs.laws.Held.{holds_length}
+use Rattle.residues.proofs.laws.Held.{holds_length}
 use Rattle.residues.specs.children.Residues.{with_residue}
 use Rattle.residues.specs.children.Found.{MetBy, Fair, Grown, FoundBy}
-use Rattle.residues.specs.children.laws.Found.{by_grown, by_none}
-use Rattle.residues.specs.children.laws.Handed.{child_basis}
+use Rattle.residues.proofs.laws.of_children.Found.{by_grown, by_none}
+use Rattle.residues.proofs.laws.of_children.Handed.{child_basis}
 use Rattle.sieve.specs.heavy_search.Find.{Closed}
 
 pub held_child : (gens d : List ℕ) (x : ℕ) (s b : Basis) → x ≢ 0 → Holds (basis_of word (with_residue 0 gens d)) s

@@ -13,8 +13,8 @@ use Rattle.std.proofs.lemmas.List.{length-map}
 use Rattle.residues.specs.children.Found.{Fair, Grown, Found, FoundBy, LeftOver}
 use Rattle.residues.specs.children.Residues.{with_residue}
 use Rattle.residues.specs.children.Weighed.{Light, Picked}
-use Rattle.residues.specs.children.laws.Weighed.{weighed_more, weighed_picked}
-use Rattle.residues.specs.children.laws.Found.{left_start, left_more, left_met, by_child}
+use Rattle.residues.proofs.laws.of_children.Weighed.{weighed_more, weighed_picked}
+use Rattle.residues.proofs.laws.of_children.Found.{left_start, left_more, left_met, by_child}
 use Rattle.linear.specs.Basis.{clear, basis_of}
 use Rattle.linear.specs.Word.{word}
 use Rattle.bases.specs.Basis.{Holds, based_dim}

@@ -30,7 +30,7 @@ use Rattle.records.specs.declared.Tally.{Tally}
 use Rattle.records.specs.Records.{State, run}
 use Rattle.records.specs.Keep.{state_of}
 use Rattle.catalogue.specs.listing.Listing.{flat, fitting}
-use Rattle.catalogue.specs.listing.laws.Run.{after_all, run_limit}
+use Rattle.catalogue.proofs.laws.of_listing.Run.{after_all, run_limit}
 use Rattle.space_formulae.specs.enumeration.Spread.{formulae_from, Branch}
 use Rattle.space_formulae.specs.enumeration.laws.Spread.{formulae_from_law}
 use Rattle.problems.specs.Problem.{problem}

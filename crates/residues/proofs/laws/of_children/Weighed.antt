@@ -13,8 +13,8 @@ use Rattle.linear.proofs.laws.Residue.{residue_span}
 use Rattle.residues.specs.children.Residues.{residues, with_residue}
 use Rattle.residues.specs.children.Found.{Leads, Spared}
 use Rattle.residues.specs.children.Weighed.{points, rank_of, Owner, Weighed, Light, Pick, Picked}
-use Rattle.residues.specs.children.laws.Child.{residue_at}
-use Rattle.residues.specs.children.laws.Leads.{Chosen, leads_heavy}
+use Rattle.residues.proofs.laws.of_children.Child.{residue_at}
+use Rattle.residues.proofs.laws.of_children.Leads.{Chosen, leads_heavy}
 
 pub weighed_more : (gens d : List ℕ) (start : ℕ) (dead gone w : List ℕ) (bound : ℕ → ℕ) → ((i : ℕ) → get_or dead i 0 ≢ 0 → get_or gone i 0 ≢ 0)
     → Weighed gens d start dead w bound → Weighed gens d start gone w bound

@@ -22,7 +22,7 @@ use Rattle.records.specs.Keep.{state_of}
 use Rattle.catalogue.specs.declared.listing.Listing.{Listing}
 use Rattle.catalogue.specs.meeting.Meeting.{start}
 use Rattle.catalogue.specs.listing.Listing.{records, flat, fitting, Listed}
-use Rattle.catalogue.specs.listing.laws.Run.{fitting_le, fitting_none, after_all, run_limit}
+use Rattle.catalogue.proofs.laws.of_listing.Run.{fitting_le, fitting_none, after_all, run_limit}
 use Rattle.records.specs.Length.{record_length}
 use Rattle.kinds.specs.Limits.{most_generators}
 

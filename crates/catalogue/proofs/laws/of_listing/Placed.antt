@@ -16,7 +16,7 @@ use Rattle.linear.specs.Entry.{entries, space}
 use Rattle.linear.specs.Word.{word}
 use Rattle.records.specs.Length.{record_length}
 use Rattle.catalogue.specs.listing.Listing.{records, flat}
-use Rattle.catalogue.specs.listing.laws.Listing.{record_length_law, records_length}
+use Rattle.catalogue.proofs.laws.of_listing.Listing.{record_length_law, records_length}
 
 module _ (n : ℕ) (tail d : List ℕ) where
   pub placed : (rs : List (List ℕ)) (s i : ℕ) → ((r : List ℕ) → Memᴰ r rs → length r ≡ n) → i < s → s ≤ length rs

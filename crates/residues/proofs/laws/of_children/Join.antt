@@ -19,11 +19,11 @@ use Rattle.linear.proofs.laws.Share.{over_some}
 use Rattle.residues.specs.children.Residues.{residues, with_residue}
 use Rattle.residues.specs.children.Found.{Leads, Spared}
 use Rattle.residues.specs.children.Weighed.{points, rank_of, Shared, Owner, Weighed, Pick, Apart, Joined, PickedBy}
-use Rattle.residues.specs.children.laws.Child.{clear_zero, clear_self, zero_clear, clear_at}
-use Rattle.residues.specs.children.laws.Leads.{Chosen, leads_heavy}
-use Rattle.residues.specs.children.laws.Found.{value_at, child}
-use Rattle.residues.specs.children.laws.Weighed.{spared_alive}
-use Rattle.residues.specs.children.laws.Handed.{residue_mem, xor_back, rank_split}
+use Rattle.residues.proofs.laws.of_children.Child.{clear_zero, clear_self, zero_clear, clear_at}
+use Rattle.residues.proofs.laws.of_children.Leads.{Chosen, leads_heavy}
+use Rattle.residues.proofs.laws.of_children.Found.{value_at, child}
+use Rattle.residues.proofs.laws.of_children.Weighed.{spared_alive}
+use Rattle.residues.proofs.laws.of_children.Handed.{residue_mem, xor_back, rank_split}
 
 points_one : points 1 ≡ 1
 unfolding points

@@ -31,7 +31,7 @@ use Rattle.choices.specs.Choice.{numbers_of, forms_of, Chose}
 use Rattle.choices.specs.laws.Writing.{forms_length}
 use Rattle.selections.specs.on_forms.Selected.{misfit, without, summed, missed_by, redundant_answer}
 use Rattle.selections.specs.on_forms.Shown.{sum_of, no_sum, shown, sum_answer, shown_over, Shows, RestOver}
-use Rattle.selections.specs.on_forms.laws.Marking.{without_none, without_below, misfit_below}
+use Rattle.selections.proofs.laws.of_on_forms.Marking.{without_none, without_below, misfit_below}
 
 -- ---- what is left by chosen generators
 module _ (c : Choice) (S : Shows c) where

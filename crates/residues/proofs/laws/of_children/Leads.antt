@@ -28,8 +28,8 @@ use Rattle.linear.proofs.laws.Heavy.{in_w, fills_one, fills_none, heavy}
 use Rattle.residues.specs.children.Residues.{residues, known, with_residue}
 use Rattle.residues.specs.children.Found.{Leads}
 use Rattle.residues.specs.children.Weighed.{points, rank_of}
-use Rattle.residues.specs.children.laws.Child.{residue_at, with_zero, mem_with}
-use Rattle.residues.specs.children.laws.Known.{known_none}
+use Rattle.residues.proofs.laws.of_children.Child.{residue_at, with_zero, mem_with}
+use Rattle.residues.proofs.laws.of_children.Known.{known_none}
 
 pub two_word : Two word
 two_word true = inr refl

@@ -14,7 +14,7 @@ use Rattle.linear.specs.Entry.{entries}
 use Rattle.linear.specs.Word.{word}
 use Rattle.catalogue.specs.declared.listing.Listing.{Listing}
 use Rattle.catalogue.specs.listing.Listing.{records, flat, fitting, Listed}
-use Rattle.catalogue.specs.listing.laws.Listing.{found_all}
+use Rattle.catalogue.proofs.laws.of_listing.Listing.{found_all}
 use Rattle.catalogue.specs.declared.Catalogued.{Catalogued as Reply}
 use Rattle.catalogue.specs.declared.Catalogued.TheVariants as reply
 use Rattle.catalogue.specs.Catalogue.{Catalogued, entry_listing, catalogue_of, seen_catalogue, lent_catalogue}

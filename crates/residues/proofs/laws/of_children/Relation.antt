@@ -37,11 +37,11 @@ use Rattle.residues.specs.children.Residues.{residues, with_residue}
 use Rattle.residues.specs.children.Found.{Leads, Spared}
 use Rattle.residues.specs.children.Weighed.{rank_of, Owner, Weighed}
 use Rattle.residues.specs.children.Relation.{Short, Standing, Related, AllRelated}
-use Rattle.residues.specs.children.laws.Child.{with_zero}
-use Rattle.residues.specs.children.laws.Leads.{two_word}
-use Rattle.residues.specs.children.laws.Found.{value_at}
-use Rattle.residues.specs.children.laws.Weighed.{spared_alive}
-use Rattle.residues.specs.children.laws.Handed.{mem_residue, xor_back}
+use Rattle.residues.proofs.laws.of_children.Child.{with_zero}
+use Rattle.residues.proofs.laws.of_children.Leads.{two_word}
+use Rattle.residues.proofs.laws.of_children.Found.{value_at}
+use Rattle.residues.proofs.laws.of_children.Weighed.{spared_alive}
+use Rattle.residues.proofs.laws.of_children.Handed.{mem_residue, xor_back}
 
 xor_zero : (u v : ℕ) → bit_xor u v ≡ 0 → u ≡ v
 xor_zero u v e = sym (ap (bit_xor u) e ∙ xor_zero_r u) ∙ xor_back u v

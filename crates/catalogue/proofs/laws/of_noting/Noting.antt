@@ -16,7 +16,7 @@ use Rattle.linear.specs.Entry.{inside, generator}
 use Rattle.linear.specs.Prices.{cheapest_in}
 use Rattle.linear.specs.Word.{word, is_zero}
 use Rattle.residues.specs.children.Residues.{residues}
-use Rattle.residues.specs.children.laws.Child.{residue_at}
+use Rattle.residues.proofs.laws.of_children.Child.{residue_at}
 use Rattle.words.specs.laws.Masks.{AllBelow}
 use Rattle.cheapest.specs.Offers.{taken_along, offered}
 use Rattle.cheapest.specs.laws.Taking.{taken_cheapest}

@@ -13,7 +13,7 @@ use Rattle.records.specs.Records.{runs}
 use Rattle.records.specs.Keep.{state_of}
 use Rattle.catalogue.specs.noting.Noting.{met}
 use Rattle.catalogue.specs.walk.Walk.{search}
-use Rattle.catalogue.specs.walk.laws.Search.{search_is}
+use Rattle.catalogue.proofs.laws.of_walk.Search.{search_is}
 use Rattle.catalogue.specs.meeting.Meeting.{start, Met}
 use Rattle.catalogue.specs.declared.noting.Aim.{Aim}
 

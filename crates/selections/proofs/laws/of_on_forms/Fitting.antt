@@ -1,6 +1,5 @@
 -- Selections that fit, in another order, with a number left out, and rising ones.
---   SelectionFits n sel           == each selected number is one of a generator, and none stands twice
---   selection_fits, fits_misfit   it is what `misfit` tests
+--   selection_fits, fits_misfit   `SelectionFits` is what `misfit` tests
 --   misfit_perm, summed_perm, terms_perm   the order of the selected numbers plays no part
 --   without_fits, rising_fits     a selection that fits still does without a number; a rising list fits
 --   summed_span                   the test `summed` is of a sum of selected generators
@@ -30,12 +29,8 @@ use Rattle.words.specs.lists.Lists.{repeats}
 use Rattle.words.specs.lists.laws.Standing.{repeats_perm}
 use Rattle.bases.specs.rows.Terms.{terms}
 use Rattle.bases.proofs.laws.of_rows.Terms.{terms_members}
-use Rattle.selections.specs.on_forms.Selected.{misfit, without, summed, NumbersBelow}
-use Rattle.selections.specs.on_forms.laws.Marking.{misfit_below}
-
-pub record SelectionFits (n : ℕ) (sel : List ℕ) : Type 0 where
-  pub numbers : NumbersBelow n sel
-  pub once : repeats sel ≡ false
+use Rattle.selections.specs.on_forms.Selected.{misfit, without, summed, SelectionFits}
+use Rattle.selections.proofs.laws.of_on_forms.Marking.{misfit_below}
 
 module _ (n : ℕ) (sel : List ℕ) where
   pub selection_fits : misfit n sel ≡ false → SelectionFits n sel

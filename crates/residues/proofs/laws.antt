@@ -1,2 +1,3 @@
 -- The laws of the definitions beside this folder.
+pub mod of_children
 pub mod Held

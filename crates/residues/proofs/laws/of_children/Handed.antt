@@ -22,8 +22,8 @@ use Rattle.linear.proofs.laws.Dimension.{basis_of_is}
 use Rattle.linear.proofs.laws.Share.{less_new, inserts_grow, over_append, over_sub, add_back}
 use Rattle.residues.specs.children.Residues.{with_residue}
 use Rattle.residues.specs.children.Weighed.{rank_of}
-use Rattle.residues.specs.children.laws.Child.{clear_zero, clear_self, zero_clear, clear_at}
-use Rattle.residues.specs.children.laws.Leads.{two_word}
+use Rattle.residues.proofs.laws.of_children.Child.{clear_zero, clear_self, zero_clear, clear_at}
+use Rattle.residues.proofs.laws.of_children.Leads.{two_word}
 
 pub residue_mem : (v : ℕ) (gens d : List ℕ) (x : ℕ) → Memᴰ x (with_residue v gens d)
     → (n : ℕ) × (n < length gens) × (n < length d) × (get_or d n 0 ≡ v) × (x ≡ get_or gens n 0)

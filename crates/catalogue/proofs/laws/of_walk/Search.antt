@@ -21,8 +21,8 @@ use Rattle.linear.specs.Word.{word}
 use Rattle.linear.proofs.laws.Insert.{insert_reduced}
 use Rattle.linear.proofs.laws.Walk.{walk_is, Free, walk_none, free_steps}
 use Rattle.residues.specs.children.Residues.{residues, known, with_residue}
-use Rattle.residues.specs.children.laws.Known.{known_yes, known_no}
-use Rattle.residues.specs.children.laws.Child.{with_zero}
+use Rattle.residues.proofs.laws.of_children.Known.{known_yes, known_no}
+use Rattle.residues.proofs.laws.of_children.Child.{with_zero}
 use Rattle.residues.specs.children.Barren.{Barren}
 use Rattle.records.specs.Records.{State, runs}
 use Rattle.catalogue.specs.walk.Walk.{search}

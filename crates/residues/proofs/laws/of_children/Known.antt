@@ -20,7 +20,7 @@ use Rattle.linear.proofs.laws.Insert.{insert_reduced}
 use Rattle.linear.proofs.laws.Select.{no_any_of, any_of_here, any_of_yes}
 use Rattle.linear.proofs.laws.Order.{mem_index, mem_get_d}
 use Rattle.residues.specs.children.Residues.{residues, known}
-use Rattle.residues.specs.children.laws.Child.{residue_at, reduce_child, clear_zero, zero_yes}
+use Rattle.residues.proofs.laws.of_children.Child.{residue_at, reduce_child, clear_zero, zero_yes}
 
 pub is_zero_of : (x : ℕ) → x ≢ 0 → is_zero x ≡ false
 is_zero_of zero n = absurd (n refl)

@@ -4,7 +4,7 @@
 use Rattle.std.specs.Prelude.{◌≡◌, List, ℕ}
 use Rattle.kinds.specs.laws.Numbers.{seen_numbered}
 use Rattle.catalogue.specs.Catalogue.{catalogue, seen_catalogue, catalogue_numbers}
-use Rattle.catalogue.specs.laws.Numbers.{catalogue_differ, catalogue_numbered}
+use Rattle.catalogue.proofs.laws.Numbers.{catalogue_differ, catalogue_numbered}
 use Rattle.catalogue.specs.declared.Catalogued.{Catalogued as Reply}
 
 pub catalogue_numbers_told : (number p q r k number' p' q' r' k' : ℕ) (gs ts old after gs' ts' old' after' : List ℕ) (x y : Reply)

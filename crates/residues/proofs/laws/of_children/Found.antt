@@ -30,8 +30,8 @@ use Rattle.residues.specs.children.Residues.{residues, known, with_residue}
 use Rattle.residues.specs.children.Barren.{Barren}
 use Rattle.residues.specs.children.Found.{Leads, Spared, Met, MetBy, Grown, Found, FoundBy, Finished, LeftOver}
 use Rattle.residues.specs.children.Weighed.{Shared, Pick, Picked, PickedBy}
-use Rattle.residues.specs.children.laws.Child.{residue_at, child_residues, with_zero}
-use Rattle.residues.specs.children.laws.Leads.{leads_one, leads_none, leads_unknown}
+use Rattle.residues.proofs.laws.of_children.Child.{residue_at, child_residues, with_zero}
+use Rattle.residues.proofs.laws.of_children.Leads.{leads_one, leads_none, leads_unknown}
 
 -- the value of a number at D
 pub value_at : (gens d D : List ℕ) → d ≡ residues gens D → (n : ℕ) → get_or d n 0 ≡ reduce word D (generator word gens n)

@@ -1,3 +1,0 @@
--- The laws behind Catalogue.
-pub mod Replies
-pub mod Numbers

@@ -1,0 +1,2 @@
+-- The laws behind the questions on selections.
+pub mod of_on_forms
