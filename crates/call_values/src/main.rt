@@ -25,14 +25,7 @@ struct Call {
 }
 
 // One call, on the forms of a list, the costs of its generators, the rows of a space or a selection, and a lent buffer.
-fn call_on(
-    rt: &impl Print,
-    call: Call,
-    gs: &[u64],
-    ts: &[u64],
-    others: &[u64],
-    out: &mut [u64],
-) {
+fn call_on(rt: &impl Print, call: Call, gs: &[u64], ts: &[u64], others: &[u64], out: &mut [u64]) {
     let which = call.which;
     let number = call.number;
     let p = call.p;
@@ -58,7 +51,10 @@ fn call_on(
             let said = selections::is_sum(number, p, q, r, gs, ts, others, asked, out);
             spaces::print_summed(rt, said, out);
         }
-        _ => spaces::print_said(rt, selections::is_redundant(number, p, q, r, gs, ts, others, asked)),
+        _ => spaces::print_said(
+            rt,
+            selections::is_redundant(number, p, q, r, gs, ts, others, asked),
+        ),
     }
 }
 
@@ -73,14 +69,7 @@ fn lent_words() -> [u64; LENT_WORDS]
 }
 
 // One call and the end of its line, in a buffer of w words, of LENT_WORDS at most; a turning in buffers of its own.
-fn call_one(
-    rt: &impl Print,
-    call: Call,
-    w: u64,
-    gs: &[u64],
-    ts: &[u64],
-    others: &[u64],
-) {
+fn call_one(rt: &impl Print, call: Call, w: u64, gs: &[u64], ts: &[u64], others: &[u64]) {
     if call.which == 6 {
         let formula = turns::Formula {
             number: call.number,

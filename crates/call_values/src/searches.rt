@@ -1,5 +1,5 @@
 // What is said of a search (Catalogue, Rank), with the buffer that it was lent.
-use super::numbers::{print_next, print_number, print_words, print_text};
+use super::numbers::{print_next, print_number, print_text, print_words};
 use catalogue::Catalogued;
 use rank::fewest::Ranked;
 use std::io::Print;

@@ -1,5 +1,5 @@
 // What is said of a space's formulae and of a sum of selected generators, with the buffer that was lent for them, and of a selection.
-use super::numbers::{print_next, print_number, print_words, print_text};
+use super::numbers::{print_next, print_number, print_text, print_words};
 use selections::on_forms::{Said, Summed};
 use space_formulae::spaces::Listed;
 use std::io::Print;

@@ -10,7 +10,7 @@ use Rattle.std.proofs.Math.Path.{refl, ap}
 use Rattle.std.proofs.Common.{sym, ◌∙◌, subst, arith, mul-le-mul, le_refl, ltb-false}
 use Rattle.std.proofs.Math.Decide.{dec_le}
 use Rattle.kinds.specs.declared.Shape.{Shape}
-use Rattle.kinds.specs.Refusal.{accepted, refuse}
+use Rattle.kinds.specs.Refusal.{accepted}
 use Rattle.kinds.specs.laws.Refusal.{accepted_inj, refuse_inv}
 use Rattle.problems.specs.Problem.{Problem}
 use Rattle.problems.proofs.Theorems.{Few}

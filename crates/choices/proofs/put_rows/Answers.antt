@@ -23,13 +23,17 @@ pub slice_bounds-rows-end : goal.slice_bounds-rows-end
 slice_bounds-rows-end c = let e = c.echelon_of-e.ensures in omega (arith, e.whole, e.room)
 
 pub slice_bounds-rest_of-end : goal.slice_bounds-rest_of-end
-slice_bounds-rest_of-end c = sym ((let it : (let e = c.echelon_of-e.result in let n = length c.args.products.now in (length (take n e.rows) ≡ n) × (length (take n e.masks) ≡ n)) = let e = c.echelon_of-e in let xs = c.args.products.now in (rows_first xs e.result.rows e.result.masks (length xs) e.ensures, masks_first xs e.result.rows e.result.masks (length xs) e.ensures) in it)).0
+slice_bounds-rest_of-end c = sym ((let it : (let e = c.echelon_of-e.result in let n = length c.args.products.now in
+    (length (take n e.rows) ≡ n) × (length (take n e.masks) ≡ n)) = let e = c.echelon_of-e in let xs = c.args.products.now in
+    (rows_first xs e.result.rows e.result.masks (length xs) e.ensures, masks_first xs e.result.rows e.result.masks (length xs) e.ensures) in it)).0
 
 pub slice_bounds-masks-end : goal.slice_bounds-masks-end
 slice_bounds-masks-end c = let e = c.echelon_of-e.ensures in omega (arith, e.masked, e.room)
 
 pub slice_bounds-rest_of-end-in-loop-i : goal.slice_bounds-rest_of-end-in-loop-i
-slice_bounds-rest_of-end-in-loop-i c = sym ((let it : (let e = c.echelon_of-e.result in let n = length c.args.products.now in (length (take n e.rows) ≡ n) × (length (take n e.masks) ≡ n)) = let e = c.echelon_of-e in let xs = c.args.products.now in (rows_first xs e.result.rows e.result.masks (length xs) e.ensures, masks_first xs e.result.rows e.result.masks (length xs) e.ensures) in it)).1
+slice_bounds-rest_of-end-in-loop-i c = sym ((let it : (let e = c.echelon_of-e.result in let n = length c.args.products.now in
+    (length (take n e.rows) ≡ n) × (length (take n e.masks) ≡ n)) = let e = c.echelon_of-e in let xs = c.args.products.now in
+    (rows_first xs e.result.rows e.result.masks (length xs) e.ensures, masks_first xs e.result.rows e.result.masks (length xs) e.ensures) in it)).1
 
 pub rest_of-requires : goal.rest_of-requires
 rest_of-requires c =

@@ -28,8 +28,11 @@ loop-i-preserved c =
     let b : ℕ = get_or rs l.i 0 in
     let go = turn rs l.i l.x (reduce word rs a.v) (omega arith) l.invariant.1 c.if-w-x.x in (
       omega arith,
-      elim c.if-w-x.branch [ then-w-x w ↦ go (w.x-is ∙ sym (clear_less b l.x w.if-w-x.true)) | else-w-x w ↦ go (w.x-is ∙ sym (clear_not b l.x
-          w.if-w-x.false)) ],
+      elim c.if-w-x.branch [
+        | then-w-x w ↦ go (w.x-is ∙ sym (clear_less b l.x w.if-w-x.true))
+        | else-w-x w ↦ go (w.x-is ∙ sym (clear_not b l.x
+            w.if-w-x.false))
+      ],
     )
 
 pub returns : goal.returns

@@ -35,19 +35,41 @@ returns-in_default-sizes_of c =
     (c.sizes_of.ensures ∙ ap seen_sizes c.in_default-sizes_of.is)
 
 pub returns-then-a-k : goal.returns-then-a-k
-returns-then-a-k c = (let a = c.args in let z = (let it : (let a = c.args in let kd = c.in-Is.kind in (known_map (kind_numbered a.number) ≡ some kd) × (sizes (shape_of kd a.p a.q a.r) ≡ some (c.in-Are.n, c.in-Are.m, c.in-Are.u))) = let numbered = c.kind_numbered in let Known-map = c.known_map in (ap known_map numbered.ensures ∙ Known-map.ensures ∙ ap seen_kind c.in-Is.is, c.sizes_of.ensures ∙ ap seen_sizes c.in-Are.is) in it) in admit_5 a.number a.p a.q a.r a.k a.a.now a.b.now a.rows.now c.in-Is.kind z.0 c.in-Are.n c.in-Are.m c.in-Are.u z.1 (unlike_a _ _ _ _ _ c.if-a-k.true))
+returns-then-a-k c = (let a = c.args in let z = (let it : (let a = c.args in let kd = c.in-Is.kind in
+    (known_map (kind_numbered a.number) ≡ some kd) × (sizes (shape_of kd a.p a.q a.r) ≡ some (c.in-Are.n, c.in-Are.m, c.in-Are.u))) = let numbered =
+    c.kind_numbered in let Known-map = c.known_map in
+    (ap known_map numbered.ensures ∙ Known-map.ensures ∙ ap seen_kind c.in-Is.is, c.sizes_of.ensures ∙ ap seen_sizes c.in-Are.is) in it) in
+    admit_5 a.number a.p a.q a.r a.k a.a.now a.b.now a.rows.now c.in-Is.kind z.0 c.in-Are.n c.in-Are.m c.in-Are.u z.1 (unlike_a _ _ _ _ _
+    c.if-a-k.true))
 
 pub returns-then-b-k : goal.returns-then-b-k
-returns-then-b-k c = (let a = c.args in let z = (let it : (let a = c.args in let kd = c.in-Is.kind in (known_map (kind_numbered a.number) ≡ some kd) × (sizes (shape_of kd a.p a.q a.r) ≡ some (c.in-Are.n, c.in-Are.m, c.in-Are.u))) = let numbered = c.kind_numbered in let Known-map = c.known_map in (ap known_map numbered.ensures ∙ Known-map.ensures ∙ ap seen_kind c.in-Is.is, c.sizes_of.ensures ∙ ap seen_sizes c.in-Are.is) in it) in admit_5 a.number a.p a.q a.r a.k a.a.now a.b.now a.rows.now c.in-Is.kind z.0 c.in-Are.n c.in-Are.m c.in-Are.u z.1 (unlike_b _ _ _ _ _ c.if-b-k.true))
+returns-then-b-k c = (let a = c.args in let z = (let it : (let a = c.args in let kd = c.in-Is.kind in
+    (known_map (kind_numbered a.number) ≡ some kd) × (sizes (shape_of kd a.p a.q a.r) ≡ some (c.in-Are.n, c.in-Are.m, c.in-Are.u))) = let numbered =
+    c.kind_numbered in let Known-map = c.known_map in
+    (ap known_map numbered.ensures ∙ Known-map.ensures ∙ ap seen_kind c.in-Is.is, c.sizes_of.ensures ∙ ap seen_sizes c.in-Are.is) in it) in
+    admit_5 a.number a.p a.q a.r a.k a.a.now a.b.now a.rows.now c.in-Is.kind z.0 c.in-Are.n c.in-Are.m c.in-Are.u z.1 (unlike_b _ _ _ _ _
+    c.if-b-k.true))
 
 pub returns-then-rows-u : goal.returns-then-rows-u
-returns-then-rows-u c = (let a = c.args in let z = (let it : (let a = c.args in let kd = c.in-Is.kind in (known_map (kind_numbered a.number) ≡ some kd) × (sizes (shape_of kd a.p a.q a.r) ≡ some (c.in-Are.n, c.in-Are.m, c.in-Are.u))) = let numbered = c.kind_numbered in let Known-map = c.known_map in (ap known_map numbered.ensures ∙ Known-map.ensures ∙ ap seen_kind c.in-Is.is, c.sizes_of.ensures ∙ ap seen_sizes c.in-Are.is) in it) in admit_5 a.number a.p a.q a.r a.k a.a.now a.b.now a.rows.now c.in-Is.kind z.0 c.in-Are.n c.in-Are.m c.in-Are.u z.1 (unlike_rows _ _ _ _ _ c.if-rows-u.true))
+returns-then-rows-u c = (let a = c.args in let z = (let it : (let a = c.args in let kd = c.in-Is.kind in
+    (known_map (kind_numbered a.number) ≡ some kd) × (sizes (shape_of kd a.p a.q a.r) ≡ some (c.in-Are.n, c.in-Are.m, c.in-Are.u))) = let numbered =
+    c.kind_numbered in let Known-map = c.known_map in
+    (ap known_map numbered.ensures ∙ Known-map.ensures ∙ ap seen_kind c.in-Is.is, c.sizes_of.ensures ∙ ap seen_sizes c.in-Are.is) in it) in
+    admit_5 a.number a.p a.q a.r a.k a.a.now a.b.now a.rows.now c.in-Is.kind z.0 c.in-Are.n c.in-Are.m c.in-Are.u z.1 (unlike_rows _ _ _ _ _
+    c.if-rows-u.true))
 
 pub returns-then-e-ne0 : goal.returns-then-e-ne0
 returns-then-e-ne0 c =
     let a = c.args in
     let kd = c.in-Is.kind in
-    (let a = c.args in let kd = c.in-Is.kind in let z = (let it : (let a = c.args in let kd = c.in-Is.kind in (known_map (kind_numbered a.number) ≡ some kd) × (sizes (shape_of kd a.p a.q a.r) ≡ some (c.in-Are.n, c.in-Are.m, c.in-Are.u))) = let numbered = c.kind_numbered in let Known-map = c.known_map in (ap known_map numbered.ensures ∙ Known-map.ensures ∙ ap seen_kind c.in-Is.is, c.sizes_of.ensures ∙ ap seen_sizes c.in-Are.is) in it) in let x : length a.a.now ≡ a.k = omega (arith, c.if-a-k.false) in let y : length a.b.now ≡ a.k = omega (arith, c.if-b-k.false) in let w : length a.rows.now ≡ c.in-Are.u = omega (arith, c.if-rows-u.false) in admit_passed a.number a.p a.q a.r a.k a.a.now a.b.now a.rows.now kd z.0 c.in-Are.n c.in-Are.m c.in-Are.u z.1 (alike a.k c.in-Are.u a.a.now a.b.now a.rows.now x y w) ∙ ap (λ (k : ℕ). passed (shape_of kd a.p a.q a.r) c.in-Are.n c.in-Are.m k a.a.now a.b.now a.rows.now) (sym x))
+    (let a = c.args in let kd = c.in-Is.kind in let z = (let it : (let a = c.args in let kd = c.in-Is.kind in
+    (known_map (kind_numbered a.number) ≡ some kd) × (sizes (shape_of kd a.p a.q a.r) ≡ some (c.in-Are.n, c.in-Are.m, c.in-Are.u))) = let
+    numbered = c.kind_numbered in let Known-map = c.known_map in
+    (ap known_map numbered.ensures ∙ Known-map.ensures ∙ ap seen_kind c.in-Is.is, c.sizes_of.ensures ∙ ap seen_sizes c.in-Are.is) in it) in
+    let x : length a.a.now ≡ a.k = omega (arith, c.if-a-k.false) in let y : length a.b.now ≡ a.k = omega (arith, c.if-b-k.false) in
+    let w : length a.rows.now ≡ c.in-Are.u = omega (arith, c.if-rows-u.false) in
+    admit_passed a.number a.p a.q a.r a.k a.a.now a.b.now a.rows.now kd z.0 c.in-Are.n c.in-Are.m c.in-Are.u z.1 (alike a.k c.in-Are.u a.a.now
+    a.b.now a.rows.now x y w) ∙ ap (λ (k : ℕ). passed (shape_of kd a.p a.q a.r) c.in-Are.n c.in-Are.m k a.a.now a.b.now a.rows.now) (sym x))
     ∙ passed_not (shape_of kd a.p a.q a.r) c.in-Are.n c.in-Are.m (length a.a.now) a.a.now a.b.now a.rows.now _ _
     c.refusal-e.result c.too_wide.ensures c.zero_factor.ensures
     c.refusal-e.ensures c.if-e-ne0.true
@@ -56,7 +78,14 @@ pub returns : goal.returns
 returns c =
     let a = c.args in
     let kd = c.in-Is.kind in
-    (let a = c.args in let kd = c.in-Is.kind in let z = (let it : (let a = c.args in let kd = c.in-Is.kind in (known_map (kind_numbered a.number) ≡ some kd) × (sizes (shape_of kd a.p a.q a.r) ≡ some (c.in-Are.n, c.in-Are.m, c.in-Are.u))) = let numbered = c.kind_numbered in let Known-map = c.known_map in (ap known_map numbered.ensures ∙ Known-map.ensures ∙ ap seen_kind c.in-Is.is, c.sizes_of.ensures ∙ ap seen_sizes c.in-Are.is) in it) in let x : length a.a.now ≡ a.k = omega (arith, c.if-a-k.false) in let y : length a.b.now ≡ a.k = omega (arith, c.if-b-k.false) in let w : length a.rows.now ≡ c.in-Are.u = omega (arith, c.if-rows-u.false) in admit_passed a.number a.p a.q a.r a.k a.a.now a.b.now a.rows.now kd z.0 c.in-Are.n c.in-Are.m c.in-Are.u z.1 (alike a.k c.in-Are.u a.a.now a.b.now a.rows.now x y w) ∙ ap (λ (k : ℕ). passed (shape_of kd a.p a.q a.r) c.in-Are.n c.in-Are.m k a.a.now a.b.now a.rows.now) (sym x))
+    (let a = c.args in let kd = c.in-Is.kind in let z = (let it : (let a = c.args in let kd = c.in-Is.kind in
+    (known_map (kind_numbered a.number) ≡ some kd) × (sizes (shape_of kd a.p a.q a.r) ≡ some (c.in-Are.n, c.in-Are.m, c.in-Are.u))) = let
+    numbered = c.kind_numbered in let Known-map = c.known_map in
+    (ap known_map numbered.ensures ∙ Known-map.ensures ∙ ap seen_kind c.in-Is.is, c.sizes_of.ensures ∙ ap seen_sizes c.in-Are.is) in it) in
+    let x : length a.a.now ≡ a.k = omega (arith, c.if-a-k.false) in let y : length a.b.now ≡ a.k = omega (arith, c.if-b-k.false) in
+    let w : length a.rows.now ≡ c.in-Are.u = omega (arith, c.if-rows-u.false) in
+    admit_passed a.number a.p a.q a.r a.k a.a.now a.b.now a.rows.now kd z.0 c.in-Are.n c.in-Are.m c.in-Are.u z.1 (alike a.k c.in-Are.u a.a.now
+    a.b.now a.rows.now x y w) ∙ ap (λ (k : ℕ). passed (shape_of kd a.p a.q a.r) c.in-Are.n c.in-Are.m k a.a.now a.b.now a.rows.now) (sym x))
     ∙ (passed_is (shape_of kd a.p a.q a.r) c.in-Are.n c.in-Are.m (length a.a.now) a.a.now a.b.now a.rows.now _ _
     c.refusal-e.result c.too_wide.ensures c.zero_factor.ensures
     c.refusal-e.ensures (omega (arith, c.if-e-ne0.false))).0

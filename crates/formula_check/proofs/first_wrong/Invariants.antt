@@ -10,7 +10,8 @@ use Rattle.maps.proofs.target.Reads as target-reads
 use Rattle.formula_check.proofs.first_wrong.Given as goal
 
 abbrev pub invariant-loop-t : goal.invariant-loop-t
-invariant-loop-t l = (l.t ≤ length l.rows) × (first_wrong l.shape l.n l.m l.forms (drop l.t l.rows) l.t ≡ first_wrong l.shape l.n l.m l.forms l.rows 0)
+invariant-loop-t l = (l.t ≤ length l.rows) × (first_wrong l.shape l.n l.m l.forms (drop l.t l.rows) l.t ≡ first_wrong l.shape l.n l.m l.forms l.rows
+    0)
 
 abbrev pub decreases-loop-t : goal.decreases-loop-t
 decreases-loop-t l = length l.rows - l.t

@@ -50,7 +50,12 @@ loop-s-preserved c =
     record {
       least = omega arith;
       made =
-          elim c.if-is_pair.branch [ then-is_pair w ↦ w.form-is ∙ form_set (tests a.shape a.m a.t) l.s l.form l.invariant.made (sym q ∙ w.if-is_pair.true) (omega arith) | else-is_pair w ↦ w.form-is ∙ form_unset (tests a.shape a.m a.t) l.s l.form l.invariant.made (sym q ∙ w.if-is_pair.false) ];
+          elim c.if-is_pair.branch [
+            | then-is_pair w ↦ w.form-is ∙ form_set (tests a.shape a.m a.t) l.s l.form l.invariant.made (sym q ∙
+                w.if-is_pair.true) (omega arith)
+            | else-is_pair w ↦ w.form-is ∙ form_unset (tests a.shape a.m a.t) l.s l.form l.invariant.made (sym q ∙
+                w.if-is_pair.false)
+          ];
     }
 
 pub returns : goal.returns

@@ -15,7 +15,7 @@ use Rattle.linear.specs.Formulae as formulae
 use Rattle.linear.specs.Formulae.{Fewest, fewest}
 use Rattle.linear.specs.Word.{word}
 use Rattle.problems.specs.Problem.{Problem}
-use Rattle.rank.specs.fewest.Fewest.{is, above, beyond, written, ranking, seen_ranked}
+use Rattle.rank.specs.fewest.Fewest.{is, written, ranking, seen_ranked}
 use Rattle.rank.specs.declared.fewest.Ranked.{Ranked}
 use Rattle.rank.specs.declared.fewest.Ranked.TheVariants as ranked
 use Rattle.rank.specs.Rank.{rank_for}

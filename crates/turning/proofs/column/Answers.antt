@@ -19,7 +19,12 @@ loop-t-preserved c =
     let l = c.loop-t in
     let q = c.coordinate.ensures in (
       omega arith,
-      elim c.if-coordinate.branch [ then-coordinate w ↦ w.form-is ∙ form_set (bits a.masks.now a.l) l.t l.form l.invariant.1 (sym q ∙ w.if-coordinate.true) (omega arith) | else-coordinate w ↦ w.form-is ∙ form_unset (bits a.masks.now a.l) l.t l.form l.invariant.1 (sym q ∙ w.if-coordinate.false) ],
+      elim c.if-coordinate.branch [
+        | then-coordinate w ↦ w.form-is ∙ form_set (bits a.masks.now a.l) l.t l.form l.invariant.1 (sym q ∙
+            w.if-coordinate.true) (omega arith)
+        | else-coordinate w ↦ w.form-is ∙ form_unset (bits a.masks.now a.l) l.t l.form l.invariant.1 (sym q ∙
+            w.if-coordinate.false)
+      ],
     )
 
 pub returns : goal.returns

@@ -18,7 +18,11 @@ loop-i-preserved c =
     let l = c.loop-i in
     let q = c.coordinate.ensures in (
       omega arith,
-      elim c.if-coordinate.branch [ then-coordinate w ↦ w.form-is ∙ form_set (bits a.n a.x) l.i l.form l.invariant.1 (sym q ∙ w.if-coordinate.true) (omega arith) | else-coordinate w ↦ w.form-is ∙ form_unset (bits a.n a.x) l.i l.form l.invariant.1 (sym q ∙ w.if-coordinate.false) ],
+      elim c.if-coordinate.branch [
+        | then-coordinate w ↦ w.form-is ∙ form_set (bits a.n a.x) l.i l.form l.invariant.1 (sym q ∙ w.if-coordinate.true)
+            (omega arith)
+        | else-coordinate w ↦ w.form-is ∙ form_unset (bits a.n a.x) l.i l.form l.invariant.1 (sym q ∙ w.if-coordinate.false)
+      ],
     )
 
 pub returns : goal.returns

@@ -42,12 +42,14 @@ returns-then-unfit-ne0 c =
     turned_told (reply.Refused e)
     (turning_unfit a.number a.p a.q a.r a.k a.a.now a.b.now a.rows.now (length a.u.now) (length a.v.now)
     (length a.w.now) e
-    (ap (λ (o : Option Kind). turnable o a.p a.q a.r) c.kind_numbered.ensures ∙ c.turn_refusal-unfit.ensures) c.if-unfit-ne0.true) refl (lent_refused e a.u.now a.v.now a.w.now refl)
+    (ap (λ (o : Option Kind). turnable o a.p a.q a.r) c.kind_numbered.ensures ∙ c.turn_refusal-unfit.ensures) c.if-unfit-ne0.true) refl (lent_refused
+    e a.u.now a.v.now a.w.now refl)
 
 pub turn_admitted-e-requires : goal.turn_admitted-e-requires
 turn_admitted-e-requires c =
     let a = c.args in
-    fitting_words (fits a.number a.p a.q a.r a.k a.a.now a.b.now a.rows.now (formula_of c.in-Admitted.field-0 c.in-Admitted.n c.in-Admitted.field-2 a.a.now a.b.now a.rows.now) c.in-Admitted.ensures)
+    fitting_words (fits a.number a.p a.q a.r a.k a.a.now a.b.now a.rows.now (formula_of c.in-Admitted.field-0 c.in-Admitted.n c.in-Admitted.field-2
+    a.a.now a.b.now a.rows.now) c.in-Admitted.ensures)
 
 pub returns-then-e-ne0 : goal.returns-then-e-ne0
 returns-then-e-ne0 c =
@@ -55,14 +57,17 @@ returns-then-e-ne0 c =
     let done = c.turn_admitted-e in
     turned_told (reply.Refused done.result)
     (goes_on a.number a.p a.q a.r a.k a.a.now a.b.now a.rows.now (length a.u.now) (length a.v.now) (length a.w.now) c.turn_refusal-unfit.result
-    (ap (λ (o : Option Kind). turnable o a.p a.q a.r) c.kind_numbered.ensures ∙ c.turn_refusal-unfit.ensures) (omega (arith, c.if-unfit-ne0.false)) c.in-Admitted.ensures)
-    (sym (ap turned_reply (done.ensures.0 ∙ by_some done.result (turned (formula_of c.in-Admitted.field-0 c.in-Admitted.n c.in-Admitted.field-2 a.a.now a.b.now a.rows.now)) c.if-e-ne0.true))) done.ensures.1
+    (ap (λ (o : Option Kind). turnable o a.p a.q a.r) c.kind_numbered.ensures ∙ c.turn_refusal-unfit.ensures) (omega (arith, c.if-unfit-ne0.false))
+    c.in-Admitted.ensures)
+    (sym (ap turned_reply (done.ensures.0 ∙ by_some done.result (turned (formula_of c.in-Admitted.field-0 c.in-Admitted.n c.in-Admitted.field-2
+    a.a.now a.b.now a.rows.now)) c.if-e-ne0.true))) done.ensures.1
 
 pub middle-requires : goal.middle-requires
 middle-requires c =
     let a = c.args in
     let f : Admitted = formula_of c.in-Admitted.field-0 c.in-Admitted.n c.in-Admitted.field-2 a.a.now a.b.now a.rows.now in
-    let F = (sizes_bounds f.shape (f.n, f.m, length f.rows) (fits a.number a.p a.q a.r a.k a.a.now a.b.now a.rows.now f c.in-Admitted.ensures).sized).fits in
+    let F = (sizes_bounds f.shape (f.n, f.m, length f.rows) (fits a.number a.p a.q a.r a.k a.a.now a.b.now a.rows.now f
+    c.in-Admitted.ensures).sized).fits in
     (F.first, F.first_most)
 
 pub returns-in-Refused : goal.returns-in-Refused
@@ -71,7 +76,8 @@ returns-in-Refused c =
     let e = c.in-Refused.e in
     turned_told (reply.Refused e)
     (goes_on a.number a.p a.q a.r a.k a.a.now a.b.now a.rows.now (length a.u.now) (length a.v.now) (length a.w.now) c.turn_refusal-unfit.result
-    (ap (λ (o : Option Kind). turnable o a.p a.q a.r) c.kind_numbered.ensures ∙ c.turn_refusal-unfit.ensures) (omega (arith, c.if-unfit-ne0.false)) c.in-Refused.ensures)
+    (ap (λ (o : Option Kind). turnable o a.p a.q a.r) c.kind_numbered.ensures ∙ c.turn_refusal-unfit.ensures) (omega (arith, c.if-unfit-ne0.false))
+    c.in-Refused.ensures)
     refl (lent_refused e a.u.now a.v.now a.w.now refl)
 
 pub returns-else-e-ne0 : goal.returns-else-e-ne0
@@ -81,7 +87,8 @@ returns-else-e-ne0 c =
     let f : Admitted = formula_of c.in-Admitted.field-0 c.in-Admitted.n c.in-Admitted.field-2 a.a.now a.b.now a.rows.now in
     turned_told (reply.Formula c.middle.result a.k)
     (goes_on a.number a.p a.q a.r a.k a.a.now a.b.now a.rows.now (length a.u.now) (length a.v.now) (length a.w.now) c.turn_refusal-unfit.result
-    (ap (λ (o : Option Kind). turnable o a.p a.q a.r) c.kind_numbered.ensures ∙ c.turn_refusal-unfit.ensures) (omega (arith, c.if-unfit-ne0.false)) c.in-Admitted.ensures)
+    (ap (λ (o : Option Kind). turnable o a.p a.q a.r) c.kind_numbered.ensures ∙ c.turn_refusal-unfit.ensures) (omega (arith, c.if-unfit-ne0.false))
+    c.in-Admitted.ensures)
     (ap₂ (λ (s : Shape) (k : ℕ). reply.Formula s k) c.middle.ensures
     (sym (length-map a.a.now (reversed f.n) ∙ (handed a.number a.p a.q a.r a.k a.a.now a.b.now a.rows.now f c.in-Admitted.ensures).products))
     ∙ sym (ap turned_reply (done.ensures.0 ∙ by_none done.result (turned f) (omega (arith, c.if-e-ne0.false)))))

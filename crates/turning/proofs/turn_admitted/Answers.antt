@@ -25,13 +25,28 @@ returns-then-too_short c =
     (e, lent_refused 9 a.u.now a.v.now a.w.now e)
 
 pub put_reversed-requires : goal.put_reversed-requires
-put_reversed-requires c = (((c.requires)).bits, ((let it : (let a = c.args in (length a.a.now ≤ length a.u.now) × (length a.a.now ≤ length a.v.now) × (a.n ≤ length a.w.now)) = short_room _ _ _ _ _ (sym c.too_short.ensures ∙ c.if-too_short.false) in it)).0)
+put_reversed-requires c = (
+  ((c.requires)).bits,
+  ((let it : (let a = c.args in
+      (length a.a.now ≤ length a.u.now) × (length a.a.now ≤ length a.v.now) × (a.n ≤ length a.w.now)) = short_room _ _ _ _ _ (sym c.too_short.ensures ∙
+      c.if-too_short.false) in it)).0,
+)
 
 pub put_columns-requires : goal.put_columns-requires
-put_columns-requires c = (((c.requires)).outputs, ((let it : (let a = c.args in (length a.a.now ≤ length a.u.now) × (length a.a.now ≤ length a.v.now) × (a.n ≤ length a.w.now)) = short_room _ _ _ _ _ (sym c.too_short.ensures ∙ c.if-too_short.false) in it)).1)
+put_columns-requires c = (
+  ((c.requires)).outputs,
+  ((let it : (let a = c.args in
+      (length a.a.now ≤ length a.u.now) × (length a.a.now ≤ length a.v.now) × (a.n ≤ length a.w.now)) = short_room _ _ _ _ _ (sym c.too_short.ensures ∙
+      c.if-too_short.false) in it)).1,
+)
 
 pub put_columns-requires-2 : goal.put_columns-requires-2
-put_columns-requires-2 c = (((c.requires)).pairs, ((let it : (let a = c.args in (length a.a.now ≤ length a.u.now) × (length a.a.now ≤ length a.v.now) × (a.n ≤ length a.w.now)) = short_room _ _ _ _ _ (sym c.too_short.ensures ∙ c.if-too_short.false) in it)).2)
+put_columns-requires-2 c = (
+  ((c.requires)).pairs,
+  ((let it : (let a = c.args in
+      (length a.a.now ≤ length a.u.now) × (length a.a.now ≤ length a.v.now) × (a.n ≤ length a.w.now)) = short_room _ _ _ _ _ (sym c.too_short.ensures ∙
+      c.if-too_short.false) in it)).2,
+)
 
 pub returns : goal.returns
 returns c =

@@ -24,13 +24,15 @@ returns-then-number_of-ne0 c =
 pub returns-in_default-sizes_of : goal.returns-in_default-sizes_of
 returns-in_default-sizes_of c =
     let a = c.args in
-    turnable_as (seen_kind a.known) a.p a.q a.r (ap (λ (k : Known). is_poly (seen_kind k)) c.in-Is.is ∙ eq-eqb (number_of c.in-Is.kind) 0 (let e = c.number_of.ensures in omega (arith, c.if-number_of-ne0.false)))
+    turnable_as (seen_kind a.known) a.p a.q a.r (ap (λ (k : Known). is_poly (seen_kind k)) c.in-Is.is ∙ eq-eqb (number_of c.in-Is.kind) 0 (let e =
+    c.number_of.ensures in omega (arith, c.if-number_of-ne0.false)))
     (c.sizes_of.ensures ∙ ap seen_sizes c.in_default-sizes_of.is) refl refl
 
 pub returns-then-p-q : goal.returns-then-p-q
 returns-then-p-q c =
     let a = c.args in
-    turnable_as (seen_kind a.known) a.p a.q a.r (ap (λ (k : Known). is_poly (seen_kind k)) c.in-Is.is ∙ eq-eqb (number_of c.in-Is.kind) 0 (let e = c.number_of.ensures in omega (arith, c.if-number_of-ne0.false))) (c.sizes_of.ensures ∙ ap seen_sizes c.in-Are.is)
+    turnable_as (seen_kind a.known) a.p a.q a.r (ap (λ (k : Known). is_poly (seen_kind k)) c.in-Is.is ∙ eq-eqb (number_of c.in-Is.kind) 0 (let e =
+    c.number_of.ensures in omega (arith, c.if-number_of-ne0.false))) (c.sizes_of.ensures ∙ ap seen_sizes c.in-Are.is)
     (ne_eqb a.p a.q c.if-p-q.true) refl
 
 pub middle-requires : goal.middle-requires
@@ -42,13 +44,15 @@ middle-requires c =
 pub returns-in_default-sizes_of-2 : goal.returns-in_default-sizes_of-2
 returns-in_default-sizes_of-2 c =
     let a = c.args in
-    turnable_as (seen_kind a.known) a.p a.q a.r (ap (λ (k : Known). is_poly (seen_kind k)) c.in-Is.is ∙ eq-eqb (number_of c.in-Is.kind) 0 (let e = c.number_of.ensures in omega (arith, c.if-number_of-ne0.false))) (c.sizes_of.ensures ∙ ap seen_sizes c.in-Are.is)
+    turnable_as (seen_kind a.known) a.p a.q a.r (ap (λ (k : Known). is_poly (seen_kind k)) c.in-Is.is ∙ eq-eqb (number_of c.in-Is.kind) 0 (let e =
+    c.number_of.ensures in omega (arith, c.if-number_of-ne0.false))) (c.sizes_of.ensures ∙ ap seen_sizes c.in-Are.is)
     (eq-eqb a.p a.q (omega (arith, c.if-p-q.false)))
     (ap sizes (sym c.middle.ensures) ∙ c.sizes_of-2.ensures ∙ ap seen_sizes c.in_default-sizes_of-2.is)
 
 pub returns : goal.returns
 returns c =
     let a = c.args in
-    turnable_as (seen_kind a.known) a.p a.q a.r (ap (λ (k : Known). is_poly (seen_kind k)) c.in-Is.is ∙ eq-eqb (number_of c.in-Is.kind) 0 (let e = c.number_of.ensures in omega (arith, c.if-number_of-ne0.false))) (c.sizes_of.ensures ∙ ap seen_sizes c.in-Are.is)
+    turnable_as (seen_kind a.known) a.p a.q a.r (ap (λ (k : Known). is_poly (seen_kind k)) c.in-Is.is ∙ eq-eqb (number_of c.in-Is.kind) 0 (let e =
+    c.number_of.ensures in omega (arith, c.if-number_of-ne0.false))) (c.sizes_of.ensures ∙ ap seen_sizes c.in-Are.is)
     (eq-eqb a.p a.q (omega (arith, c.if-p-q.false)))
     (ap sizes (sym c.middle.ensures) ∙ c.sizes_of-2.ensures ∙ ap seen_sizes c.in-Are-sizes_of.is)

@@ -23,7 +23,10 @@ loop-i-preserved c =
     let v = a.v in
     let pre = c.requires in
     let test = c.loop-i-test.true in
-    elim c.if-w-x.branch [ then-w-x w ↦ at B M v (l.i + 1) w.x-is w.m-is (resting_added B M v l.x l.m l.i l.invariant test pre w.if-w-x.true) | else-w-x w ↦ at B M v (l.i + 1) w.x-is w.m-is (resting_kept B M v l.x l.m l.i l.invariant test pre w.if-w-x.false) ]
+    elim c.if-w-x.branch [
+      | then-w-x w ↦ at B M v (l.i + 1) w.x-is w.m-is (resting_added B M v l.x l.m l.i l.invariant test pre w.if-w-x.true)
+      | else-w-x w ↦ at B M v (l.i + 1) w.x-is w.m-is (resting_kept B M v l.x l.m l.i l.invariant test pre w.if-w-x.false)
+    ]
 
 pub returns : goal.returns
 returns c =

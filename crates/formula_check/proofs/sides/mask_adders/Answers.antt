@@ -27,20 +27,27 @@ pub returns-then-stands_from : goal.returns-then-stands_from
 returns-then-stands_from c =
     let a = c.args in
     let again = sym c.stands_from.ensures ∙ c.if-stands_from.true in
-    added_again a.masks.now a.i a.slots.now c.requires (sym ((let a = c.args in let f = c.first_slot in let whole = c.requires.after.whole in mask_sought a.slots.now a.masks.now (get_or a.masks.now a.i 0) f.result c.seek-q.result whole f.ensures.0 c.seek-q.ensures.0)) ∙ c.if-q-eq-SLOTS.true) again
+    added_again a.masks.now a.i a.slots.now c.requires (sym ((let a = c.args in let f = c.first_slot in let whole = c.requires.after.whole in
+    mask_sought a.slots.now a.masks.now (get_or a.masks.now a.i 0) f.result c.seek-q.result whole f.ensures.0 c.seek-q.ensures.0)) ∙
+    c.if-q-eq-SLOTS.true) again
 
 pub returns-then-q-eq-SLOTS : goal.returns-then-q-eq-SLOTS
 returns-then-q-eq-SLOTS c =
     let a = c.args in
     let w = c.ones-w in
     let lone = sym c.stands_from.ensures ∙ c.if-stands_from.false in
-    added_lone a.masks.now a.i a.slots.now c.requires (sym ((let a = c.args in let f = c.first_slot in let whole = c.requires.after.whole in mask_sought a.slots.now a.masks.now (get_or a.masks.now a.i 0) f.result c.seek-q.result whole f.ensures.0 c.seek-q.ensures.0)) ∙ c.if-q-eq-SLOTS.true) lone (w.result - 1)
+    added_lone a.masks.now a.i a.slots.now c.requires (sym ((let a = c.args in let f = c.first_slot in let whole = c.requires.after.whole in
+    mask_sought a.slots.now a.masks.now (get_or a.masks.now a.i 0) f.result c.seek-q.result whole f.ensures.0 c.seek-q.ensures.0)) ∙
+    c.if-q-eq-SLOTS.true) lone (w.result - 1)
     (ap (λ (n : ℕ). n - 1) w.ensures)
 
 pub returns-then-slots-q-ne0 : goal.returns-then-slots-q-ne0
 returns-then-slots-q-ne0 c =
     let a = c.args in
-    added_known a.masks.now a.i a.slots.now c.requires (subst (λ (q : ℕ). get_or a.slots.now q 0 ≢ 0) ((let a = c.args in let f = c.first_slot in let whole = c.requires.after.whole in mask_sought a.slots.now a.masks.now (get_or a.masks.now a.i 0) f.result c.seek-q.result whole f.ensures.0 c.seek-q.ensures.0)) c.if-slots-q-ne0.true)
+    added_known a.masks.now a.i a.slots.now c.requires (subst (λ (q : ℕ). get_or a.slots.now q 0 ≢ 0) ((let a = c.args in let f = c.first_slot in
+    let whole = c.requires.after.whole in
+    mask_sought a.slots.now a.masks.now (get_or a.masks.now a.i 0) f.result c.seek-q.result whole f.ensures.0 c.seek-q.ensures.0))
+    c.if-slots-q-ne0.true)
 
 pub returns : goal.returns
 returns c =
@@ -51,6 +58,12 @@ returns c =
     let whole = c.requires.after.whole in
     let inside = c.if-q-eq-SLOTS.false in
     let e = w.ensures in
-    subst (λ (q : ℕ). MaskAdded a.masks.now a.i (set a.slots.now q (a.i + 1)) (w.result - 1)) (sym ((let a = c.args in let f = c.first_slot in let whole = c.requires.after.whole in mask_sought a.slots.now a.masks.now (get_or a.masks.now a.i 0) f.result c.seek-q.result whole f.ensures.0 c.seek-q.ensures.0)))
-    (added_new a.masks.now a.i a.slots.now c.requires (omega arith) (subst (λ (q : ℕ). q < mask_slots) ((let a = c.args in let f = c.first_slot in let whole = c.requires.after.whole in mask_sought a.slots.now a.masks.now (get_or a.masks.now a.i 0) f.result c.seek-q.result whole f.ensures.0 c.seek-q.ensures.0)) (omega arith))
-    (subst (λ (q : ℕ). get_or a.slots.now q 0 ≡ 0) ((let a = c.args in let f = c.first_slot in let whole = c.requires.after.whole in mask_sought a.slots.now a.masks.now (get_or a.masks.now a.i 0) f.result c.seek-q.result whole f.ensures.0 c.seek-q.ensures.0)) c.if-slots-q-ne0.false) (w.result - 1) (ap (λ (n : ℕ). n - 1) e))
+    subst (λ (q : ℕ). MaskAdded a.masks.now a.i (set a.slots.now q (a.i + 1)) (w.result - 1)) (sym ((let a = c.args in let f = c.first_slot in
+    let whole = c.requires.after.whole in
+    mask_sought a.slots.now a.masks.now (get_or a.masks.now a.i 0) f.result c.seek-q.result whole f.ensures.0 c.seek-q.ensures.0)))
+    (added_new a.masks.now a.i a.slots.now c.requires (omega arith) (subst (λ (q : ℕ). q < mask_slots) ((let a = c.args in let f = c.first_slot in
+    let whole = c.requires.after.whole in
+    mask_sought a.slots.now a.masks.now (get_or a.masks.now a.i 0) f.result c.seek-q.result whole f.ensures.0 c.seek-q.ensures.0)) (omega arith))
+    (subst (λ (q : ℕ). get_or a.slots.now q 0 ≡ 0) ((let a = c.args in let f = c.first_slot in let whole = c.requires.after.whole in
+    mask_sought a.slots.now a.masks.now (get_or a.masks.now a.i 0) f.result c.seek-q.result whole f.ensures.0 c.seek-q.ensures.0))
+    c.if-slots-q-ne0.false) (w.result - 1) (ap (λ (n : ℕ). n - 1) e))

@@ -30,7 +30,11 @@ loop-i-preserved c =
     let l = c.loop-i in
     let e = c.ones-w.ensures in
     let m = weight_most 64 (get_or xs l.i 0) in
-    let s : c.if-w-ne0.sum ≡ l.sum + (weight 64 (get_or xs l.i 0) - 1) = elim c.if-w-ne0.branch [ then-w-ne0 w ↦ let a = w.sum-is in omega arith | else-w-ne0 w ↦ let a = w.sum-is in let b = w.if-w-ne0.false in omega arith ] in
+    let s : c.if-w-ne0.sum ≡ l.sum + (weight 64 (get_or xs l.i 0) - 1) = elim c.if-w-ne0.branch [
+      | then-w-ne0 w ↦ let a = w.sum-is in
+          omega arith
+      | else-w-ne0 w ↦ let a = w.sum-is in let b = w.if-w-ne0.false in omega arith
+    ] in
     (omega arith, adders_next xs l.i l.sum c.if-w-ne0.sum (adders_of xs) (omega arith) l.invariant.1 s, omega arith)
 
 pub returns : goal.returns

@@ -11,7 +11,8 @@ use Rattle.forms.proofs.products.product.Reads as product-reads
 use Rattle.formula_check.proofs.sums.product_forms.Given as goal
 
 abbrev pub invariant-loop-i : goal.invariant-loop-i
-invariant-loop-i l = (l.i ≤ length l.a) × (length l.out ≡ 64) × (take l.i l.out ++ product_forms l.n l.m (drop l.i l.a) (drop l.i l.b) ≡ product_forms l.n l.m l.a l.b)
+invariant-loop-i l = (l.i ≤ length l.a) × (length l.out ≡ 64) × (take l.i l.out ++ product_forms l.n l.m (drop l.i l.a) (drop l.i l.b) ≡
+    product_forms l.n l.m l.a l.b)
 
 abbrev pub decreases-loop-i : goal.decreases-loop-i
 decreases-loop-i l = length l.a - l.i

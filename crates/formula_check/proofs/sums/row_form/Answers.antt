@@ -19,10 +19,16 @@ loop-i-preserved c =
     let row : ℕ = c.args.row in
     let l = c.loop-i in
     let h : l.i < length fs = omega arith in
-    let to : (s s' : ℕ) → s' ≡ s → bit_xor s (row_form (drop (l.i + 1) fs) row (l.i + 1)) ≡ row_form fs row 0 → bit_xor s' (row_form (drop (l.i + 1) fs) row (l.i + 1)) ≡ row_form fs row 0 =
+    let to : (s s' : ℕ) → s' ≡ s → bit_xor s (row_form (drop (l.i + 1) fs) row (l.i + 1)) ≡ row_form fs row 0 → bit_xor s' (row_form (drop (l.i + 1)
+    fs) row (l.i + 1)) ≡ row_form fs row 0 =
     λ s s' e f. ap (λ (x : ℕ). bit_xor x (row_form (drop (l.i + 1) fs) row (l.i + 1))) e ∙ f in (
       omega arith,
-      elim c.if-row-i-eq1.branch [ then-row-i-eq1 w ↦ to (bit_xor l.sum (get_or fs l.i 0)) c.if-row-i-eq1.sum w.sum-is (row_set fs row l.i l.sum (row_form fs row 0) h l.invariant.1 w.if-row-i-eq1.true) | else-row-i-eq1 w ↦ to l.sum c.if-row-i-eq1.sum w.sum-is (row_unset fs row l.i l.sum (row_form fs row 0) h l.invariant.1 w.if-row-i-eq1.false) ],
+      elim c.if-row-i-eq1.branch [
+        | then-row-i-eq1 w ↦ to (bit_xor l.sum (get_or fs l.i 0)) c.if-row-i-eq1.sum w.sum-is (row_set fs row l.i l.sum
+            (row_form fs row 0) h l.invariant.1 w.if-row-i-eq1.true)
+        | else-row-i-eq1 w ↦ to l.sum c.if-row-i-eq1.sum w.sum-is (row_unset fs row l.i
+            l.sum (row_form fs row 0) h l.invariant.1 w.if-row-i-eq1.false)
+      ],
     )
 
 pub returns : goal.returns

@@ -13,7 +13,7 @@ step : (s bytes : List ℕ) (i : ℕ) → i < length s → i < length bytes → 
     1) s
 step s bytes i h g e =
     ap (λ (j : ℕ). take j (set bytes i (get_or s i 0))) (add-one i) ∙ take-suc-set bytes i (get_or s i 0) g ∙ ap (λ (l : List ℕ). l ++ (get_or s i 0
-        ∷ [])) e
+    ∷ [])) e
     ∙ sym (take-suc s i 0 h) ∙ ap (λ (j : ℕ). take j s) (sym (add-one i))
 
 pub loop-i-init : goal.loop-i-init

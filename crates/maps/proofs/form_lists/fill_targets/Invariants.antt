@@ -9,7 +9,8 @@ use Rattle.maps.proofs.form_lists.fill_targets.Given as goal
 
 abbrev pub invariant-loop-i : goal.invariant-loop-i
 invariant-loop-i l =
-    (l.i ≤ l.u) × (length l.t ≡ length l.initial.t) × (take l.i l.t ++ list_of (target_form l.shape l.n l.m) l.i (l.u - l.i) ≡ list_of (target_form l.shape l.n l.m) 0 l.u)
+    (l.i ≤ l.u) × (length l.t ≡ length l.initial.t) × (take l.i l.t ++ list_of (target_form l.shape l.n l.m) l.i (l.u - l.i) ≡ list_of (target_form
+    l.shape l.n l.m) 0 l.u)
 
 abbrev pub decreases-loop-i : goal.decreases-loop-i
 decreases-loop-i l = l.u - l.i

@@ -13,9 +13,15 @@ loop-i-init c = passed_start c.args.width c.args.gens.now
 pub is_product-requires : goal.is_product-requires
 is_product-requires c = c.requires
 
+pub returns-then-not-is_product : goal.returns-then-not-is_product
+returns-then-not-is_product c e = absurd (false≢true e)
+
 pub loop-i-preserved : goal.loop-i-preserved
 loop-i-preserved c =
     let a = c.args in
     let l = c.loop-i in
     let p = c.is_product.ensures (not-false _ c.if-not-is_product.false-raw) in
     passed_next a.width a.gens.now l.i l.invariant c.loop-i-test.true p
+
+pub returns : goal.returns
+returns c e = let a = c.args in passed_end a.width a.gens.now c.loop-i.i c.loop-i.invariant (omega arith)

@@ -15,6 +15,9 @@ loop-rest-init c = checking_start c.args.width c.args.u c.args.form
 pub lowest-requires : goal.lowest-requires
 lowest-requires c = c.requires.within
 
+pub returns-then-not-is_multiple : goal.returns-then-not-is_multiple
+returns-then-not-is_multiple c e = absurd (false≢true e)
+
 pub overflow_shr-rest : goal.overflow_shr-rest
 overflow_shr-rest c = c.requires.within
 
@@ -27,3 +30,8 @@ loop-rest-preserved c =
     let a = c.args in
     checking_next a.width a.u a.form c.loop-rest.rest c.loop-rest.invariant
     (subst (Span word (a.u ∷ [])) c.lowest.ensures (c.is_multiple.ensures (not-false _ c.if-not-is_multiple.false-raw)))
+
+pub returns : goal.returns
+returns c e =
+    let a = c.args in
+    checking_end a.width a.u a.form c.loop-rest.rest c.loop-rest.invariant (omega arith)

@@ -8,7 +8,11 @@ pub are_products-requires : goal.are_products-requires
 are_products-requires c = record { some = omega (arith, c.loop-w.invariant); within = omega arith }
 
 pub returns-then-are_products : goal.returns-then-are_products
-returns-then-are_products c = (record { some = omega (arith, c.loop-w.invariant); within = omega arith }, c.are_products.ensures c.if-are_products.true)
+returns-then-are_products c = (
+  record { some = omega (arith, c.loop-w.invariant); within = omega arith },
+  c.are_products.ensures
+      c.if-are_products.true,
+)
 
 pub loop-w-preserved : goal.loop-w-preserved
 loop-w-preserved c = omega (arith, c.loop-w.invariant)

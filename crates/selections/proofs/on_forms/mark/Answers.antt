@@ -13,7 +13,8 @@ pub loop-i-init : goal.loop-i-init
 loop-i-init c = marking_start c.args.sel.now c.args.skip c.args.marks.now
 
 pub bounds-marks-e : goal.bounds-marks-e
-bounds-marks-e c = (let it : (let a = c.args in let l = c.loop-i in get_or a.sel.now l.i 0 < length l.marks) = let a = c.args in let l = c.loop-i in let h = c.requires (get_or a.sel.now l.i 0) (mem_get_d a.sel.now l.i 0 c.loop-i-test.true) in omega (arith, h, l.invariant.same) in it)
+bounds-marks-e c = (let it : (let a = c.args in let l = c.loop-i in get_or a.sel.now l.i 0 < length l.marks) = let a = c.args in let l = c.loop-i in
+    let h = c.requires (get_or a.sel.now l.i 0) (mem_get_d a.sel.now l.i 0 c.loop-i-test.true) in omega (arith, h, l.invariant.same) in it)
 
 pub loop-i-preserved : goal.loop-i-preserved
 loop-i-preserved c =
@@ -21,7 +22,14 @@ loop-i-preserved c =
     let l = c.loop-i in
     let t = c.loop-i-test.true in
     let at : List ℕ → Type 0 = λ marks. Marking a.sel.now a.skip a.marks.now marks (l.i + 1) in
-    elim c.if-e-skip.branch [ then-e-skip w ↦ subst at (sym w.marks-is) (marking_next a.sel.now a.skip a.marks.now l.marks l.i l.invariant t w.if-e-skip.true ((let it : (let a = c.args in let l = c.loop-i in get_or a.sel.now l.i 0 < length l.marks) = let a = c.args in let l = c.loop-i in let h = c.requires (get_or a.sel.now l.i 0) (mem_get_d a.sel.now l.i 0 c.loop-i-test.true) in omega (arith, h, l.invariant.same) in it))) | else-e-skip w ↦ subst at (sym w.marks-is) (marking_skip a.sel.now a.skip a.marks.now l.marks l.i l.invariant t w.if-e-skip.false) ]
+    elim c.if-e-skip.branch [
+      | then-e-skip w ↦ subst at (sym w.marks-is) (marking_next a.sel.now a.skip a.marks.now l.marks l.i l.invariant t
+          w.if-e-skip.true ((let it : (let a = c.args in let l = c.loop-i in get_or a.sel.now l.i 0 < length l.marks) = let a = c.args in
+          let l = c.loop-i in let h = c.requires (get_or a.sel.now l.i 0) (mem_get_d a.sel.now l.i 0 c.loop-i-test.true) in
+          omega (arith, h, l.invariant.same) in
+          it)))
+      | else-e-skip w ↦ subst at (sym w.marks-is) (marking_skip a.sel.now a.skip a.marks.now l.marks l.i l.invariant t w.if-e-skip.false)
+    ]
 
 pub shape_of-marks : goal.shape_of-marks
 shape_of-marks c = c.loop-i.invariant.same

@@ -11,13 +11,27 @@ pub loop-i-init : goal.loop-i-init
 loop-i-init c = let a = c.args in naming_start a.numbers.now a.mask a.out.now
 
 pub offset_bounds-out-m : goal.offset_bounds-out-m
-offset_bounds-out-m c = omega (arith, (let l = c.loop-i in naming_inside c.args.numbers.now c.args.mask c.args.out.now l.out l.m l.i l.invariant c.loop-i-test.true (sym c.coordinate.ensures ∙ c.if-coordinate.true) c.requires), c.loop-i.invariant.same)
+offset_bounds-out-m c = omega (
+  arith,
+  (let l = c.loop-i in
+      naming_inside c.args.numbers.now c.args.mask c.args.out.now l.out l.m l.i l.invariant c.loop-i-test.true (sym c.coordinate.ensures ∙
+      c.if-coordinate.true) c.requires),
+  c.loop-i.invariant.same,
+)
 
 pub bounds-out-m : goal.bounds-out-m
-bounds-out-m c = (let l = c.loop-i in naming_inside c.args.numbers.now c.args.mask c.args.out.now l.out l.m l.i l.invariant c.loop-i-test.true (sym c.coordinate.ensures ∙ c.if-coordinate.true) c.requires)
+bounds-out-m c = (let l = c.loop-i in
+    naming_inside c.args.numbers.now c.args.mask c.args.out.now l.out l.m l.i l.invariant c.loop-i-test.true (sym c.coordinate.ensures ∙
+    c.if-coordinate.true) c.requires)
 
 pub overflow_add-m : goal.overflow_add-m
-overflow_add-m c = omega (arith, (let l = c.loop-i in naming_inside c.args.numbers.now c.args.mask c.args.out.now l.out l.m l.i l.invariant c.loop-i-test.true (sym c.coordinate.ensures ∙ c.if-coordinate.true) c.requires), c.loop-i.invariant.same)
+overflow_add-m c = omega (
+  arith,
+  (let l = c.loop-i in
+      naming_inside c.args.numbers.now c.args.mask c.args.out.now l.out l.m l.i l.invariant c.loop-i-test.true (sym c.coordinate.ensures ∙
+      c.if-coordinate.true) c.requires),
+  c.loop-i.invariant.same,
+)
 
 pub loop-i-preserved : goal.loop-i-preserved
 loop-i-preserved c =

@@ -41,12 +41,18 @@ slice_bounds-terms-end c =
     let p = c.put_named-m in filled_room (named (numbers_of c.args.c) c.rest_over-rest.result.mask 0) _ _ p.result p.ensures.1 p.ensures.0
 
 pub slice_bounds-copy-end : goal.slice_bounds-copy-end
-slice_bounds-copy-end c = (let p = c.put_named-m in sym (length-take-le p.result p.new.out ((let p = c.put_named-m in let a = c.args in let r = c.rest_over-rest in filled_room (named (numbers_of a.c) r.result.mask 0) _ _ p.result p.ensures.1 p.ensures.0))))
+slice_bounds-copy-end c = (let p = c.put_named-m in sym (length-take-le p.result p.new.out ((let p = c.put_named-m in let a = c.args in
+    let r = c.rest_over-rest in filled_room (named (numbers_of a.c) r.result.mask 0) _ _ p.result p.ensures.1 p.ensures.0))))
 
 pub copy-requires : goal.copy-requires
 copy-requires c =
     let h = c.if-out-m.false in
-    omega (arith, (let p = c.put_named-m in sym (length-take-le p.result p.new.out ((let p = c.put_named-m in let a = c.args in let r = c.rest_over-rest in filled_room (named (numbers_of a.c) r.result.mask 0) _ _ p.result p.ensures.1 p.ensures.0)))), h)
+    omega (
+      arith,
+      (let p = c.put_named-m in sym (length-take-le p.result p.new.out ((let p = c.put_named-m in let a = c.args in
+          let r = c.rest_over-rest in filled_room (named (numbers_of a.c) r.result.mask 0) _ _ p.result p.ensures.1 p.ensures.0)))),
+      h,
+    )
 
 pub returns : goal.returns
 returns c =

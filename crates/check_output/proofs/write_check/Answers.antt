@@ -1,0 +1,9 @@
+-- `check_output::write_check`: its reply is never refused. Assumes nothing.
+use Rattle.std.proofs.Common.{sym}
+use Rattle.printing.specs.pages.laws.Printed.{never_refused}
+use Rattle.check_output.proofs.write_check.Goals as goal
+
+pub write_printed-requires : goal.write_printed-requires
+write_printed-requires g c =
+    let p = c.check_program-said in
+    never_refused _ _ p.result _ _ p.ensures (sym c.check_page-page.ensures) p.auto.page

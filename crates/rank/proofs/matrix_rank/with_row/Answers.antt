@@ -1,0 +1,7 @@
+-- `rank::matrix_rank::with_row` meets its contract. Assumes nothing.
+use borrow.Author.Rules.{rules}
+use Rattle.rank.specs.matrix_rank.laws.Loops.{joined}
+use Rattle.rank.proofs.matrix_rank.with_row.Goals as goal
+
+pub returns-then-i-b : goal.returns-then-i-b
+returns-then-i-b c s = joined c.args.b c.requires c.args.sum c.args.i c.if-i-b.true s

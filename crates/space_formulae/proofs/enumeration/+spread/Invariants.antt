@@ -1,0 +1,35 @@
+-- `space_formulae::enumeration::spread` meets its contract, by recursion on the number of missing generators: the records so far are written, and those to come, written, give the
+-- final state. Assumes nothing.
+use native.Mathlib.Omega.{arith}
+use mathlib.Core.Path.{◌≡◌, refl, sym, ◌∙◌}
+use mathlib.Core.Logic.{◌≢◌}
+use mathlib.Core.List.{List}
+use Prim.Native.Nat.{ℕ, ◌+◌, ◌-◌, ◌*◌, ◌^◌, ◌<◌, ◌≤◌}
+use mir.Syntax.{w64}
+use mir.Val.{Fits}
+use lib.ListN.{length, get_or}
+use borrow.Author.Tests.{not-true}
+use Rattle.linear.specs.Basis.{insert}
+use Rattle.linear.specs.Word.{word}
+use Rattle.bases.specs.Basis.{rows_of, Holds}
+use Rattle.bases.specs.declared.Basis.{Basis}
+use Rattle.choices.specs.Choice.{numbers_of}
+use Rattle.choices.specs.declared.Choice.{Choice}
+use Rattle.records.specs.Records.{run}
+use Rattle.records.specs.Keep.{state_of}
+use Rattle.records.specs.declared.Tally.{Tally}
+use Rattle.space_formulae.specs.enumeration.Spread.{formulae_from, Branch}
+use Rattle.space_formulae.proofs.Going.{Going, node_leaf, going_leaf, going_full, going_stop, going_end, going_skip, node_down, going_down}
+use Rattle.space_formulae.proofs.enumeration.+spread.Given as goal
+
+abbrev pub invariant-loop-j : goal.invariant-loop-j
+invariant-loop-j l =
+    Going l.gens l.w l.targets (rows_of l.b) (numbers_of l.c) l.missing l.limit
+    (run l.limit (state_of l.initial.counts l.initial.out) (formulae_from l.gens l.w l.targets (rows_of l.b) (numbers_of l.c) (length l.gens -
+    l.start) l.start l.missing)) (length l.initial.out) l.j l.counts l.out
+
+abbrev pub decreases-loop-j : goal.decreases-loop-j
+decreases-loop-j l = length l.gens - l.j
+
+abbrev pub decreases-spread : goal.decreases-spread
+decreases-spread l = l.missing
