@@ -16,8 +16,8 @@ use Rattle.catalogue.specs.Catalogue.{Catalogued, catalogue_of}
 use Rattle.theorems.specs.catalogue_and_rank.Theorems.{CatalogueMeans, catalogue_of_means, look_up_means}
 use Rattle.space_formulae.specs.spaces.Spaces.{Formulae, is_entry, formulae_for}
 use Rattle.space_formulae.specs.spaces.Spaces as spaces
-use Rattle.space_formulae.specs.spaces.Theorems.{FormulaeMeans, formulae_for_means}
-use Rattle.space_formulae.specs.spaces.laws.Entry.{is_entry_law}
+use Rattle.space_formulae.proofs.laws.of_spaces.Theorems.{FormulaeMeans, formulae_for_means}
+use Rattle.space_formulae.proofs.laws.of_spaces.Entry.{is_entry_law}
 use Rattle.records.specs.Length.{record_length}
 use Rattle.records.specs.lookup.Lookup.{lookup}
 

@@ -29,7 +29,7 @@ use Rattle.printing.specs.refusals.Pages.{listing_room, answer_text}
 use Rattle.catalogue_text.specs.CatalogueAnswers.{catalogue_answer, catalogue_reply}
 use Rattle.rank_text.specs.RankAnswers.{rank_answer, rank_reply}
 use Rattle.problem_files.specs.inputs.Inputs.{input_file, input_of}
-use Rattle.problem_files.specs.inputs.laws.Input.{posed_enough}
+use Rattle.problem_files.proofs.laws.of_inputs.Input.{posed_enough}
 use Rattle.problem_files.specs.judging.Judged.{settled}
 use Rattle.programs.specs.Programs.{reply_to, problem_program, catalogue_program, rank_program}
 use Rattle.programs.specs.meaning.Lines.{lines_of}
