@@ -22,7 +22,8 @@ use Rattle.problem_files.specs.posing.Posing.{ProblemFile}
 use Rattle.problem_files.specs.declared.judging.Purpose.{Purpose}
 use Rattle.problem_files.specs.declared.judging.Purpose.TheVariants as purpose
 use Rattle.catalogue.specs.Catalogue.{Catalogued}
-use Rattle.theorems.specs.catalogue_and_rank.Theorems.{CatalogueMeans, catalogue_of_means, RankMeans, rank_of_means}
+use Rattle.theorems.specs.catalogue_and_rank.Theorems.{CatalogueMeans, RankMeans}
+use Rattle.theorems.proofs.laws.of_catalogue_and_rank.Theorems.{catalogue_of_means, rank_of_means}
 use Rattle.rank.specs.fewest.Fewest.{Ranking}
 use Rattle.catalogue_text.specs.report.CatalogueReports.{entries_text, entry_names, counts_text, catalogue_text}
 use Rattle.printing.specs.refusals.Pages.{listing_room, answer_text}
