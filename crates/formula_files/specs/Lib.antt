@@ -3,7 +3,6 @@ pub mod FormulaFile
 pub mod Lent
 pub mod Sound
 pub mod AcceptedSound
-pub mod Theorems
 pub mod laws
 pub mod lines
 pub mod refusals

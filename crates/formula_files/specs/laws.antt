@@ -1,7 +1,2 @@
 -- What the code's proofs cite, and what an accepted file has been through.
-pub mod FormulaFile
 pub mod Accepted
-pub mod Numbers
-pub mod Held
-pub mod Handed
-pub mod Roomy

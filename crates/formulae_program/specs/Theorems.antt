@@ -16,9 +16,9 @@ use Rattle.kinds.specs.Limits.{most_generators, most_targets}
 use Rattle.kinds.specs.Refusal.{Answer, refused, accepted, refuse, follow}
 use Rattle.problem_files.specs.posing.Posing.{ProblemFile}
 use Rattle.problem_files.specs.judging.Judged.{beyond, short, settled}
-use Rattle.problem_files.specs.laws.Accepted.{file_poses}
-use Rattle.problem_files.specs.inputs.laws.Handed.{shaped_counted, handed_few}
-use Rattle.problem_files.specs.inputs.laws.Input.{input_posed, posed_enough}
+use Rattle.problem_files.proofs.laws.Accepted.{file_poses}
+use Rattle.problem_files.proofs.laws.of_inputs.Handed.{shaped_counted, handed_few}
+use Rattle.problem_files.proofs.laws.of_inputs.Input.{input_posed, posed_enough}
 use Rattle.problem_files.specs.declared.judging.Purpose.TheVariants as purpose
 use Rattle.problems.specs.Problem.{problem}
 use Rattle.problems.proofs.Theorems.{Few}

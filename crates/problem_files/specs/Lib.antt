@@ -1,8 +1,6 @@
 -- The file of a problem, read.
 pub mod ProblemFile
 pub mod Lent
-pub mod Theorems
-pub mod laws
 pub mod list_lines
 pub mod handed_forms
 pub mod posing

@@ -1,3 +1,2 @@
 -- The lines of a problem's file under the first two.
 pub mod ProblemLines
-pub mod laws

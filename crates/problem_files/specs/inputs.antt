@@ -1,3 +1,2 @@
 -- The input of a program that answers a problem.
 pub mod Inputs
-pub mod laws

@@ -1,3 +1,2 @@
 -- The forms that a problem's file hands in, judged.
 pub mod Judged
-pub mod laws

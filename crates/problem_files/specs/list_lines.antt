@@ -1,4 +1,3 @@
 -- The lines of a list under the first two.
 pub mod Roles
 pub mod Views
-pub mod laws

@@ -1,4 +1,3 @@
 -- The problem of a file.
 pub mod Posing
 pub mod Views
-pub mod laws

@@ -1,3 +1,2 @@
 -- The fewest products, on forms.
 pub mod Fewest
-pub mod laws

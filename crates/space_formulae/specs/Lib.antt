@@ -1,7 +1,5 @@
 -- The formulae of a space of a problem.
 pub mod Replies
-pub mod Theorems
 pub mod formula_records
 pub mod enumeration
 pub mod spaces
-pub mod laws

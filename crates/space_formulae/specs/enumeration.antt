@@ -1,3 +1,2 @@
 -- The formulae of a space, counted and written as records.
 pub mod Spread
-pub mod laws

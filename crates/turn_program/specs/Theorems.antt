@@ -22,7 +22,7 @@ use Rattle.formula_check.specs.Formula.{Admitted}
 use Rattle.formula_check.specs.meaning.Meaning.{RightFormula}
 use Rattle.formula_files.specs.FormulaFile.{formula_file}
 use Rattle.formula_files.specs.AcceptedSound.{formula_accepted_sound}
-use Rattle.formula_files.specs.Theorems.{sound_admitted}
+use Rattle.formula_files.proofs.Theorems.{sound_admitted}
 use Rattle.round_trips.specs.formulae.PrintThenRead.{print_then_read}
 use Rattle.round_trips.specs.formulae.AcceptedOnly.{formula_accepted_short}
 use Rattle.turning.proofs.Theorems.{turned_right}

@@ -4,8 +4,8 @@ use Prim.Native.Nat.{ℕ}
 use mathlib.Core.List.{List}
 use lib.ListN.{length, replicate}
 use Rattle.formula_files.specs.FormulaFile.{formula_file}
-use Rattle.formula_files.specs.laws.FormulaFile.{final_refused, final_formula}
-use Rattle.formula_files.specs.laws.Numbers.{formula_told}
+use Rattle.formula_files.proofs.laws.FormulaFile.{final_refused, final_formula}
+use Rattle.formula_files.proofs.laws.Numbers.{formula_told}
 use Rattle.formula_files.specs.declared.Read.TheVariants as read
 use Rattle.formula_files.proofs.read_formula.Goals as goal
 

@@ -2,7 +2,7 @@
 use mathlib.Core.Path.{ap, ◌∙◌}
 use Rattle.formula_files.specs.lines.Views.{seen_body}
 use Rattle.formula_files.specs.lines.laws.Told.{body_told, body_none}
-use Rattle.formula_files.specs.laws.FormulaFile.{under_none, under_told}
+use Rattle.formula_files.proofs.laws.FormulaFile.{under_none, under_told}
 use Rattle.formula_files.proofs.read_under.Goals as goal
 
 pub shape_of-a-in_default : goal.shape_of-a-in_default

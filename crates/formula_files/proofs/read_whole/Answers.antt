@@ -3,7 +3,7 @@ use mathlib.Core.Path.{ap, ◌∙◌}
 use Rattle.kinds.specs.Kinds.{seen_kind}
 use Rattle.kinds.specs.Sizes.{seen_sizes}
 use Rattle.text.specs.heads.Views.{seen_head}
-use Rattle.formula_files.specs.laws.FormulaFile.{head_fit, file_1, file_rest, rest_2, rest_3, rest_under, under_at, left_refused, left_under}
+use Rattle.formula_files.proofs.laws.FormulaFile.{head_fit, file_1, file_rest, rest_2, rest_3, rest_under, under_at, left_refused, left_under}
 use Rattle.formula_files.proofs.read_whole.Goals as goal
 
 pub returns-in_default : goal.returns-in_default

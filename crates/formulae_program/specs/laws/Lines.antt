@@ -14,7 +14,7 @@ use Rattle.catalogue.proofs.laws.of_listing.Run.{fitting_le}
 use Rattle.catalogue.proofs.laws.of_listing.Placed.{placed}
 use Rattle.printing.specs.record_lines.RecordLines.{record_lines}
 use Rattle.space_formulae.specs.spaces.Spaces.{Formulae, record_size}
-use Rattle.space_formulae.specs.spaces.Theorems.{FormulaeMeans}
+use Rattle.space_formulae.proofs.laws.of_spaces.Theorems.{FormulaeMeans}
 use Rattle.formulae_text.specs.lines.FormulaLines.{formula_text, formula_lines}
 use Rattle.programs.specs.meaning.Lines.{lines_of}
 use Rattle.programs.specs.meaning.laws.Lines.{Stands, lines_are}

@@ -13,11 +13,12 @@ use Rattle.linear.proofs.laws.Order.{mem_get_d, mem_map}
 use Rattle.catalogue.proofs.laws.of_listing.Run.{fitting_le}
 use Rattle.problems.specs.Problem.{Problem}
 use Rattle.catalogue.specs.Catalogue.{Catalogued, catalogue_of}
-use Rattle.theorems.specs.catalogue_and_rank.Theorems.{CatalogueMeans, catalogue_of_means, look_up_means}
+use Rattle.theorems.specs.catalogue_and_rank.Theorems.{CatalogueMeans}
+use Rattle.theorems.proofs.laws.of_catalogue_and_rank.Theorems.{catalogue_of_means, look_up_means}
 use Rattle.space_formulae.specs.spaces.Spaces.{Formulae, is_entry, formulae_for}
 use Rattle.space_formulae.specs.spaces.Spaces as spaces
-use Rattle.space_formulae.specs.spaces.Theorems.{FormulaeMeans, formulae_for_means}
-use Rattle.space_formulae.specs.spaces.laws.Entry.{is_entry_law}
+use Rattle.space_formulae.proofs.laws.of_spaces.Theorems.{FormulaeMeans, formulae_for_means}
+use Rattle.space_formulae.proofs.laws.of_spaces.Entry.{is_entry_law}
 use Rattle.records.specs.Length.{record_length}
 use Rattle.records.specs.lookup.Lookup.{lookup}
 

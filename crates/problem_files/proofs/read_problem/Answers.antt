@@ -3,9 +3,9 @@ use mathlib.Core.Path.{ap}
 use native.Mathlib.Omega.{arith}
 use lib.ListN.{length, length-take}
 use Rattle.problem_files.specs.ProblemFile.{problem_file}
-use Rattle.problem_files.specs.laws.Numbers.{problem_told}
+use Rattle.problem_files.proofs.laws.Numbers.{problem_told}
 use Rattle.problem_files.specs.declared.judging.ProblemRead.TheVariants as read
-use Rattle.problem_files.specs.laws.Accepted.{held, final_refused, final_problem}
+use Rattle.problem_files.proofs.laws.Accepted.{held, final_refused, final_problem}
 use Rattle.problem_files.proofs.read_problem.Goals as goal
 
 pub copy-requires : goal.copy-requires

@@ -1,6 +1,6 @@
 -- `programs::problem_program` meets its contract. Assumes nothing.
 use borrow.Author.Rules.{rules}
-use Rattle.problem_files.specs.inputs.laws.Input.{posed_few}
+use Rattle.problem_files.proofs.laws.of_inputs.Input.{posed_few}
 use Rattle.programs.specs.laws.Steps.{program_refused, posed_pricing, program_said}
 use Rattle.programs.proofs.problem_program.Goals as goal
 

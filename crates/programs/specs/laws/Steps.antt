@@ -18,13 +18,13 @@ use Rattle.problem_files.specs.handed_forms.ProblemLines.{CostsFit}
 use Rattle.problem_files.specs.posing.Posing.{ProblemFile}
 use Rattle.problem_files.specs.posing.Views.{seen_posing, PosingFits, PosesIn}
 use Rattle.problem_files.specs.judging.Judged.{beyond, short, settled}
-use Rattle.problem_files.specs.judging.laws.Judging.{short_not}
+use Rattle.problem_files.proofs.laws.of_judging.Judging.{short_not}
 use Rattle.problem_files.specs.declared.judging.Purpose.{Purpose}
 use Rattle.problem_files.specs.declared.judging.Purpose.TheVariants as purpose
 use Rattle.problem_files.specs.declared.posing.PosedRead.{PosedRead}
 use Rattle.problem_files.specs.declared.posing.PosedRead.TheVariants as posed
 use Rattle.problem_files.specs.inputs.Inputs.{posed_input, input_file}
-use Rattle.problem_files.specs.inputs.laws.Input.{file_of, same_parts, posed_shaped, posed_priced}
+use Rattle.problem_files.proofs.laws.of_inputs.Input.{file_of, same_parts, posed_shaped, posed_priced}
 use Rattle.catalogue.specs.Catalogue.{catalogue_of}
 use Rattle.catalogue_text.specs.CatalogueAnswers.{catalogue_reply}
 use Rattle.rank.specs.Rank.{rank_for}

@@ -22,14 +22,15 @@ use Rattle.problem_files.specs.posing.Posing.{ProblemFile}
 use Rattle.problem_files.specs.declared.judging.Purpose.{Purpose}
 use Rattle.problem_files.specs.declared.judging.Purpose.TheVariants as purpose
 use Rattle.catalogue.specs.Catalogue.{Catalogued}
-use Rattle.theorems.specs.catalogue_and_rank.Theorems.{CatalogueMeans, catalogue_of_means, RankMeans, rank_of_means}
+use Rattle.theorems.specs.catalogue_and_rank.Theorems.{CatalogueMeans, RankMeans}
+use Rattle.theorems.proofs.laws.of_catalogue_and_rank.Theorems.{catalogue_of_means, rank_of_means}
 use Rattle.rank.specs.fewest.Fewest.{Ranking}
 use Rattle.catalogue_text.specs.report.CatalogueReports.{entries_text, entry_names, counts_text, catalogue_text}
 use Rattle.printing.specs.refusals.Pages.{listing_room, answer_text}
 use Rattle.catalogue_text.specs.CatalogueAnswers.{catalogue_answer, catalogue_reply}
 use Rattle.rank_text.specs.RankAnswers.{rank_answer, rank_reply}
 use Rattle.problem_files.specs.inputs.Inputs.{input_file, input_of}
-use Rattle.problem_files.specs.inputs.laws.Input.{posed_enough}
+use Rattle.problem_files.proofs.laws.of_inputs.Input.{posed_enough}
 use Rattle.problem_files.specs.judging.Judged.{settled}
 use Rattle.programs.specs.Programs.{reply_to, problem_program, catalogue_program, rank_program}
 use Rattle.programs.specs.meaning.Lines.{lines_of}

@@ -6,7 +6,7 @@ use Rattle.problems.proofs.laws.Handed.{replied_as, few_handed}
 use Rattle.problems.proofs.laws.of_prices.Handed.{problem_laid, priced_refused, priced_made, prices_handed, narrow_handed}
 use Rattle.rank.specs.Rank.{rank}
 use Rattle.rank.specs.fewest.Fewest.{lent_ranking}
-use Rattle.rank.specs.laws.Numbers.{rank_told}
+use Rattle.rank.proofs.laws.Numbers.{rank_told}
 use Rattle.rank.specs.declared.fewest.Ranked.TheVariants as ranked
 use Rattle.rank.proofs.rank.Goals as goal
 

@@ -4,7 +4,7 @@ use mathlib.Core.Path.{refl}
 use Rattle.problems.specs.Problem.{problem}
 use Rattle.problems.proofs.laws.Handed.{replied_as}
 use Rattle.rank.specs.fewest.Fewest.{lent_ranking}
-use Rattle.rank.specs.laws.Replies.{rank_far, rank_near}
+use Rattle.rank.proofs.laws.Replies.{rank_far, rank_near}
 use Rattle.rank.proofs.rank_posed.Goals as goal
 
 pub returns-then-k-ne0 : goal.returns-then-k-ne0

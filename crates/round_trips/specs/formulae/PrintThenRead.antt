@@ -10,7 +10,7 @@ use Rattle.words.specs.laws.Masks.{wide_words}
 use Rattle.formula_check.specs.Formula.{Admitted}
 use Rattle.formula_files.specs.FormulaFile.{formula_file}
 use Rattle.formula_files.specs.Sound.{Sound, BufferRoom}
-use Rattle.formula_files.specs.laws.FormulaFile.{judged_is}
+use Rattle.formula_files.proofs.laws.FormulaFile.{judged_is}
 use Rattle.formula_text.specs.FileText.{file_text}
 use Rattle.round_trips.specs.formulae.laws.FileBack.{file_back}
 

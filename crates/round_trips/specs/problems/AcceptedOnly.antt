@@ -10,9 +10,9 @@ use Rattle.kinds.specs.Refusal.{accepted}
 use Rattle.formula_text.specs.HeadText.{file_head}
 use Rattle.round_trips.specs.formulae.laws.HeadOnly.{head_only}
 use Rattle.problem_files.specs.posing.Posing.{ProblemFile}
-use Rattle.problem_files.specs.judging.laws.Judging.{settled_is}
+use Rattle.problem_files.proofs.laws.of_judging.Judging.{settled_is}
 use Rattle.problem_files.specs.ProblemFile.{problem_file}
-use Rattle.problem_files.specs.laws.Accepted.{posed_went, file_poses, file_priced, problem_inv}
+use Rattle.problem_files.proofs.laws.Accepted.{posed_went, file_poses, file_priced, problem_inv}
 use Rattle.problem_files.specs.declared.judging.Purpose.{Purpose}
 use Rattle.round_trips.specs.problems.ProblemText.{lines_text, problem_text}
 use Rattle.round_trips.specs.problems.PrintThenRead.{ProblemSound}

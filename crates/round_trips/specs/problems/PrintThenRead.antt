@@ -23,10 +23,10 @@ use Rattle.round_trips.specs.formulae.laws.HeadBack.{head_back}
 use Rattle.kinds.specs.Kinds.{handed}
 use Rattle.problem_files.specs.handed_forms.ProblemLines.{CostsFit}
 use Rattle.problem_files.specs.posing.Posing.{ProblemFile, problem_of, posed_lines, posed_file}
-use Rattle.problem_files.specs.posing.laws.Steps.{file_is}
+use Rattle.problem_files.proofs.laws.of_posing.Steps.{file_is}
 use Rattle.problem_files.specs.judging.Judged.{beyond, settled}
-use Rattle.problem_files.specs.judging.laws.Judging.{short_not, settled_is, settled_inv}
-use Rattle.problem_files.specs.inputs.laws.Handed.{shaped_counted}
+use Rattle.problem_files.proofs.laws.of_judging.Judging.{short_not, settled_is, settled_inv}
+use Rattle.problem_files.proofs.laws.of_inputs.Handed.{shaped_counted}
 use Rattle.problem_files.specs.ProblemFile.{problem_file}
 use Rattle.problem_files.specs.declared.judging.Purpose.{Purpose}
 use Rattle.problem_files.specs.declared.judging.Purpose.TheVariants as purpose

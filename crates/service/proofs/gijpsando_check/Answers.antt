@@ -6,7 +6,7 @@ use lib.ListN.{replicate}
 use Rattle.kinds.specs.Refusal.{Answer, refused}
 use Rattle.check_text.specs.CheckAnswers.{reply_of, bytes_of}
 use Rattle.service.specs.Service.{check_file}
-use Rattle.formula_files.specs.laws.Held.{read_held}
+use Rattle.formula_files.proofs.laws.Held.{read_held}
 use Rattle.service.specs.laws.Reading.{read_checks, refused_checks}
 use Rattle.service.proofs.gijpsando_check.Goals as goal
 

@@ -11,7 +11,7 @@ use Rattle.formula_check.specs.Formula.{Admitted}
 use Rattle.formula_check.specs.Buffers.{formula_in}
 use Rattle.formula_files.specs.FormulaFile.{formula_file}
 use Rattle.formula_files.specs.Lent.{formula_reply}
-use Rattle.formula_files.specs.laws.Held.{Held, refused_is}
+use Rattle.formula_files.proofs.laws.Held.{Held, refused_is}
 use Rattle.formula_files.specs.declared.Read.TheVariants as read
 use Rattle.check_text.specs.CheckAnswers.{admitted_text}
 use Rattle.service.specs.Service.{check_file}

@@ -1,7 +1,7 @@
 -- `space_formulae::formulae_for` meets its contract. Assumes nothing.
 use native.Mathlib.Omega.{arith}
 use Rattle.bases.specs.Basis.{based_dim}
-use Rattle.space_formulae.specs.laws.Replies.{given_far, given_no, is_accepted, given_yes}
+use Rattle.space_formulae.proofs.laws.Replies.{given_far, given_no, is_accepted, given_yes}
 use borrow.Author.Rules.{rules}
 use Rattle.bases.proofs.basis_of.Reads as basis-of-reads
 use Rattle.space_formulae.proofs.spaces.is_entry.Reads as is-entry-reads

@@ -2,8 +2,8 @@
 use mathlib.Core.Path.{sym, ap, ◌∙◌}
 use lib.ListN.{replicate}
 use Rattle.text.specs.heads.Views.{seen_head}
-use Rattle.formula_files.specs.laws.FormulaFile.{left_refused}
-use Rattle.formula_files.specs.laws.Held.{read_held}
+use Rattle.formula_files.proofs.laws.FormulaFile.{left_refused}
+use Rattle.formula_files.proofs.laws.Held.{read_held}
 use Rattle.turn_program.specs.laws.Steps.{turn_unread, turn_barred, turn_stopped, held_full, turn_told}
 use Rattle.turn_program.proofs.turn_file.Goals as goal
 

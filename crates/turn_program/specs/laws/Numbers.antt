@@ -20,10 +20,10 @@ use Rattle.formula_check.specs.Formula.{Admitted}
 use Rattle.formula_files.specs.FormulaFile.{formula_file}
 use Rattle.formula_files.specs.AcceptedSound.{formula_accepted_sound}
 use Rattle.formula_files.specs.Sound.{Sound, BufferRoom}
-use Rattle.formula_files.specs.Theorems.{sound_admitted}
+use Rattle.formula_files.proofs.Theorems.{sound_admitted}
 use Rattle.formula_files.specs.laws.Accepted.{file_inv}
-use Rattle.formula_files.specs.laws.Handed.{handed_sound, sound_room}
-use Rattle.formula_files.specs.laws.Roomy.{room_held, file_only}
+use Rattle.formula_files.proofs.laws.Handed.{handed_sound, sound_room}
+use Rattle.formula_files.proofs.laws.Roomy.{room_held, file_only}
 use Rattle.turning.specs.Turning.{reversed, column, columns, turned, turned_into, turning}
 use Rattle.turning.proofs.laws.Numbers.{turnable_only}
 use Rattle.turning.proofs.laws.Accepted.{turning_inv, turned_handed}

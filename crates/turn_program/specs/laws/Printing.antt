@@ -15,7 +15,7 @@ use Rattle.printing.specs.refusals.Pages.{formula_page, answer_text}
 use Rattle.formula_check.specs.Formula.{Admitted}
 use Rattle.formula_check.specs.Buffers.{formula_in}
 use Rattle.formula_files.specs.Lent.{formula_reply, Left}
-use Rattle.formula_files.specs.laws.Held.{Held, held, refused_is}
+use Rattle.formula_files.proofs.laws.Held.{Held, held, refused_is}
 use Rattle.formula_files.specs.declared.Read.TheVariants as read
 use Rattle.formula_text.specs.FileText.{file_text}
 use Rattle.turn_program.specs.TurnFile.{turn_file}

@@ -24,10 +24,10 @@ use Rattle.formula_check.specs.Formula.{Admitted}
 use Rattle.formula_check.specs.Buffers.{formula_in}
 use Rattle.formula_files.specs.FormulaFile.{formula_file}
 use Rattle.formula_files.specs.Lent.{formula_reply, Left}
-use Rattle.formula_files.specs.laws.FormulaFile.{left_under}
+use Rattle.formula_files.proofs.laws.FormulaFile.{left_under}
 use Rattle.formula_files.specs.laws.Accepted.{file_inv}
-use Rattle.formula_files.specs.laws.Held.{Held, refused_is}
-use Rattle.formula_files.specs.laws.Handed.{sound_handed}
+use Rattle.formula_files.proofs.laws.Held.{Held, refused_is}
+use Rattle.formula_files.proofs.laws.Handed.{sound_handed}
 use Rattle.formula_files.specs.Sound.{Sound}
 use Rattle.formula_files.specs.declared.Read.{Read}
 use Rattle.formula_files.specs.declared.Read.TheVariants as read

@@ -1,7 +1,7 @@
 -- `formulae_program::first_part::start` meets its contract. Assumes nothing.
 use mathlib.Core.Path.{sym, ◌∙◌}
 use borrow.Author.Rules.{rules}
-use Rattle.problem_files.specs.inputs.laws.Input.{posed_few}
+use Rattle.problem_files.proofs.laws.of_inputs.Input.{posed_few}
 use Rattle.formulae_program.specs.first_part.laws.Start.{start_short, start_refused, start_listed, short_not}
 use Rattle.formulae_program.proofs.first_part.start.Goals as goal
 

@@ -20,11 +20,11 @@ use Rattle.problems.specs.Problem.{Problem, problem}
 use Rattle.problems.proofs.Theorems.{Few, shaped_few}
 use Rattle.problem_files.specs.posing.Posing.{ProblemFile}
 use Rattle.problem_files.specs.posing.Views.{seen_posing, PosesIn}
-use Rattle.problem_files.specs.laws.Accepted.{file_poses}
+use Rattle.problem_files.proofs.laws.Accepted.{file_poses}
 use Rattle.problem_files.specs.declared.posing.PosedRead.{PosedRead}
 use Rattle.problem_files.specs.declared.posing.PosedRead.TheVariants as posed
 use Rattle.problem_files.specs.inputs.Inputs.{posed_input}
-use Rattle.problem_files.specs.inputs.laws.Input.{file_of, same_parts, input_posed}
+use Rattle.problem_files.proofs.laws.of_inputs.Input.{file_of, same_parts, input_posed}
 use Rattle.catalogue.specs.Catalogue.{Catalogued, catalogue_of, seen_catalogue, lent_catalogue}
 use Rattle.catalogue.specs.declared.Catalogued.{Catalogued as Reply}
 use Rattle.catalogue.specs.declared.Catalogued.TheVariants as reply

@@ -1,7 +1,7 @@
 -- `problem_files::handed_forms::list_lines` meets its contract. Assumes nothing.
 use Prim.Native.Nat.{◌≤◌}
 use native.Mathlib.Omega.{arith}
-use Rattle.problem_files.specs.handed_forms.laws.Lines.{list_many, list_taken, list_not}
+use Rattle.problem_files.proofs.laws.of_handed_forms.Lines.{list_many, list_taken, list_not}
 use Rattle.kinds.specs.Limits.{most_generators}
 use Rattle.problem_files.proofs.handed_forms.list_lines.Goals as goal
 

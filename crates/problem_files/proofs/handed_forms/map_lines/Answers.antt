@@ -2,7 +2,7 @@
 use mathlib.Core.Path.{ap, ◌∙◌}
 use native.Mathlib.Omega.{arith}
 use Rattle.maps.specs.Generators.{seen_count}
-use Rattle.problem_files.specs.handed_forms.laws.Lines.{map_many, map_more, map_none}
+use Rattle.problem_files.proofs.laws.of_handed_forms.Lines.{map_many, map_more, map_none}
 use Rattle.problem_files.proofs.handed_forms.map_lines.Goals as goal
 
 pub returns-in_default : goal.returns-in_default

@@ -1,6 +1,6 @@
 -- `problem_files::handed_forms::read_lines` meets its contract. Assumes nothing.
 use mathlib.Core.Path.{sym, ◌∙◌}
-use Rattle.problem_files.specs.handed_forms.laws.Lines.{ready_list, body_list, body_map}
+use Rattle.problem_files.proofs.laws.of_handed_forms.Lines.{ready_list, body_list, body_map}
 use Rattle.problem_files.proofs.handed_forms.read_lines.Goals as goal
 
 pub list_lines-requires : goal.list_lines-requires

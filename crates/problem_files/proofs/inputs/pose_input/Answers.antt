@@ -1,5 +1,5 @@
 -- `problem_files::inputs::pose_input` meets its contract. Assumes nothing.
-use Rattle.problem_files.specs.inputs.laws.Input.{posed_long, posed_read}
+use Rattle.problem_files.proofs.laws.of_inputs.Input.{posed_long, posed_read}
 use Rattle.problem_files.proofs.inputs.pose_input.Goals as goal
 
 pub returns-then-file-gt-FILE_BYTES : goal.returns-then-file-gt-FILE_BYTES

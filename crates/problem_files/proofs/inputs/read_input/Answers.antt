@@ -1,8 +1,8 @@
 -- `problem_files::inputs::read_input` meets its contract. Assumes nothing.
 use lib.ListN.{length}
 use Rattle.problem_files.specs.inputs.Inputs.{input_file}
-use Rattle.problem_files.specs.inputs.laws.Input.{input_long, input_read}
-use Rattle.problem_files.specs.laws.Numbers.{problem_told}
+use Rattle.problem_files.proofs.laws.of_inputs.Input.{input_long, input_read}
+use Rattle.problem_files.proofs.laws.Numbers.{problem_told}
 use Rattle.problem_files.specs.declared.judging.ProblemRead.TheVariants as read
 use Rattle.problem_files.proofs.inputs.read_input.Goals as goal
 

@@ -1,6 +1,6 @@
 -- `problem_files::judging::beyond` meets its contract. Assumes nothing.
 use Rattle.bases.specs.Basis.{based_dim}
-use Rattle.problem_files.specs.judging.laws.Judging.{beyond_catalogue, beyond_rank}
+use Rattle.problem_files.proofs.laws.of_judging.Judging.{beyond_catalogue, beyond_rank}
 use Rattle.problem_files.proofs.judging.beyond.Goals as goal
 
 pub returns-in-Catalogue : goal.returns-in-Catalogue

@@ -1,6 +1,6 @@
 -- `problem_files::judging::settle` meets its contract. Assumes nothing.
 use mathlib.Core.Path.{sym, ◌∙◌}
-use Rattle.problem_files.specs.laws.Steps.{said_refused, said_8, said_9, said_is}
+use Rattle.problem_files.proofs.laws.Steps.{said_refused, said_8, said_9, said_is}
 use Rattle.problem_files.proofs.judging.settle.Goals as goal
 
 pub returns-then-beyond : goal.returns-then-beyond

@@ -3,7 +3,7 @@ use Prim.Native.Nat.{ℕ}
 use mathlib.Core.Path.{sym, ap}
 use lib.Dec.{ltb}
 use native.Mathlib.Omega.{arith}
-use Rattle.problem_files.specs.judging.laws.Judging.{short_first, short_second, short_third}
+use Rattle.problem_files.proofs.laws.of_judging.Judging.{short_first, short_second, short_third}
 use Rattle.problem_files.proofs.judging.too_short.Goals as goal
 
 pub returns-then-first-n : goal.returns-then-first-n

@@ -4,7 +4,7 @@ use native.Mathlib.Omega.{arith}
 use Rattle.text.specs.Line.{mask_field}
 use Rattle.text.specs.laws.Line.{field_first, field_none, field_next, field_no}
 use Rattle.problem_files.specs.list_lines.Roles.{cost_line}
-use Rattle.problem_files.specs.list_lines.laws.Line.{form_not, cost_not, cost_above, form_is}
+use Rattle.problem_files.proofs.laws.of_list_lines.Line.{form_not, cost_not, cost_above, form_is}
 use Rattle.problem_files.proofs.list_lines.form_and_cost.Goals as goal
 
 pub returns-in_default : goal.returns-in_default

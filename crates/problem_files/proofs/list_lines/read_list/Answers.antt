@@ -2,7 +2,7 @@
 use native.Mathlib.Omega.{arith}
 use Rattle.text.specs.Views.{bytes_used}
 use Rattle.text.specs.laws.Line.{named, unnamed, fits_at}
-use Rattle.problem_files.specs.list_lines.laws.Body.{list_1, list_2, list_3, list_is, roles_at, roles_not, ended_is}
+use Rattle.problem_files.proofs.laws.of_list_lines.Body.{list_1, list_2, list_3, list_is, roles_at, roles_not, ended_is}
 use Rattle.problem_files.proofs.list_lines.read_list.Goals as goal
 
 pub returns-in_default : goal.returns-in_default

@@ -5,8 +5,8 @@ use Prim.Native.Nat.{◌<◌}
 use native.Mathlib.Omega.{arith}
 use lib.ListN.{length, length-set}
 use Rattle.problem_files.specs.list_lines.Roles.{role_line}
-use Rattle.problem_files.specs.list_lines.laws.Line.{role_next, role_no}
-use Rattle.problem_files.specs.list_lines.laws.Loop.{roles_start, roles_turn, roles_stop, roles_end}
+use Rattle.problem_files.proofs.laws.of_list_lines.Line.{role_next, role_no}
+use Rattle.problem_files.proofs.laws.of_list_lines.Loop.{roles_start, roles_turn, roles_stop, roles_end}
 use Rattle.problem_files.proofs.list_lines.read_roles.Goals as goal
 
 pub loop-i-init : goal.loop-i-init

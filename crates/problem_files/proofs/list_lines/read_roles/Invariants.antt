@@ -4,7 +4,7 @@ use mathlib.Core.Path.{◌≡◌}
 use Prim.Native.Nat.{◌≤◌, ◌-◌}
 use lib.ListN.{length, take, drop}
 use Rattle.problem_files.specs.list_lines.Roles.{role_lines}
-use Rattle.problem_files.specs.list_lines.laws.Loop.{behind}
+use Rattle.problem_files.proofs.laws.of_list_lines.Loop.{behind}
 use Rattle.problem_files.proofs.list_lines.read_roles.Given as goal
 
 abbrev pub invariant-loop-i : goal.invariant-loop-i

@@ -2,7 +2,7 @@
 use mathlib.Core.Path.{◌∙◌}
 use native.Mathlib.Omega.{arith}
 use Rattle.problem_files.specs.list_lines.Roles.{form_and_cost}
-use Rattle.problem_files.specs.list_lines.laws.Line.{role_short, role_other, role_comma, role_is, role_next, role_no}
+use Rattle.problem_files.proofs.laws.of_list_lines.Line.{role_short, role_other, role_comma, role_is, role_next, role_no}
 use Rattle.problem_files.proofs.list_lines.role_line.Goals as goal
 
 pub returns-then-s-lt2 : goal.returns-then-s-lt2

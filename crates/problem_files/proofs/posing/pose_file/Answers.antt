@@ -3,9 +3,9 @@ use mathlib.Core.Path.{ap, ◌∙◌}
 use Rattle.kinds.specs.Kinds.{seen_kind}
 use Rattle.kinds.specs.Sizes.{shape_of, seen_sizes}
 use Rattle.text.specs.heads.Views.{seen_head}
-use Rattle.formula_files.specs.laws.FormulaFile.{head_fit}
-use Rattle.problem_files.specs.handed_forms.laws.Lines.{body_targets}
-use Rattle.problem_files.specs.posing.laws.Steps.{file_1, file_2, file_3, file_read}
+use Rattle.formula_files.proofs.laws.FormulaFile.{head_fit}
+use Rattle.problem_files.proofs.laws.of_handed_forms.Lines.{body_targets}
+use Rattle.problem_files.proofs.laws.of_posing.Steps.{file_1, file_2, file_3, file_read}
 use Rattle.problem_files.proofs.posing.pose_file.Goals as goal
 
 pub returns-in_default : goal.returns-in_default

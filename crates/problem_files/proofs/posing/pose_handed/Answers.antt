@@ -1,6 +1,6 @@
 -- `problem_files::posing::pose_handed` meets its contract. Assumes nothing.
 use mathlib.Core.Path.{refl}
-use Rattle.problem_files.specs.posing.laws.Steps.{handed_refused, handed_made}
+use Rattle.problem_files.proofs.laws.of_posing.Steps.{handed_refused, handed_made}
 use Rattle.problem_files.proofs.posing.pose_handed.Goals as goal
 
 pub returns-in-Refused : goal.returns-in-Refused

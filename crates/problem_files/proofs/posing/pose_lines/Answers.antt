@@ -1,5 +1,5 @@
 -- `problem_files::posing::pose_lines` meets its contract. Assumes nothing.
-use Rattle.problem_files.specs.posing.laws.Steps.{lines_refused, lines_posed}
+use Rattle.problem_files.proofs.laws.of_posing.Steps.{lines_refused, lines_posed}
 use Rattle.problem_files.proofs.posing.pose_lines.Goals as goal
 
 pub shape_of-gs-then-e-ne0 : goal.shape_of-gs-then-e-ne0

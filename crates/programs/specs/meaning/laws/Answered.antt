@@ -20,9 +20,9 @@ use Rattle.problems.proofs.Theorems.{Few, shaped_few}
 use Rattle.problem_files.specs.handed_forms.ProblemLines.{CostsFit}
 use Rattle.problem_files.specs.posing.Posing.{ProblemFile}
 use Rattle.problem_files.specs.judging.Judged.{beyond}
-use Rattle.problem_files.specs.laws.Accepted.{file_poses, file_priced}
+use Rattle.problem_files.proofs.laws.Accepted.{file_poses, file_priced}
 use Rattle.problem_files.specs.inputs.Inputs.{posed_input, input_file}
-use Rattle.problem_files.specs.inputs.laws.Input.{input_posed, input_inv}
+use Rattle.problem_files.proofs.laws.of_inputs.Input.{input_posed, input_inv}
 use Rattle.problem_files.specs.declared.judging.Purpose.{Purpose}
 use Rattle.rank.specs.fewest.Fewest.{Ranking, is, above, beyond as never, written, ranking}
 use Rattle.catalogue.specs.Catalogue.{Catalogued, entry_listing, catalogue_of}

@@ -4,7 +4,7 @@ use native.Mathlib.Omega.{arith}
 use mathlib.Core.Path.{sym, ap}
 use Rattle.kinds.specs.Refusal.{Answer}
 use Rattle.rank.specs.fewest.Fewest.{Ranking, lent_ranking}
-use Rattle.rank.specs.fewest.laws.Least.{too_short, picked_length, picked_solves, finished}
+use Rattle.rank.proofs.laws.of_fewest.Least.{too_short, picked_length, picked_solves, finished}
 use Rattle.rank.proofs.fewest.finish.Goals as goal
 
 pub returns-then-out-n : goal.returns-then-out-n

@@ -3,7 +3,7 @@ use native.Mathlib.Omega.{arith}
 use mathlib.Core.Path.{◌≡◌, refl, ◌∙◌}
 use Prim.Native.Nat.{◌+◌, ◌-◌, ◌<◌}
 use lib.ListN.{length}
-use Rattle.rank.specs.fewest.laws.Least.{Looking, looking_start, looking_next, looking_found, looking_none}
+use Rattle.rank.proofs.laws.of_fewest.Least.{Looking, looking_start, looking_next, looking_found, looking_none}
 use Rattle.rank.proofs.fewest.least_formula.Given as goal
 
 abbrev pub invariant-loop-k : goal.invariant-loop-k

@@ -1,6 +1,6 @@
 -- `rank::fewest::meet` meets its contract. Assumes nothing.
 use borrow.Author.Rules.{rules}
-use Rattle.rank.specs.fewest.laws.Least.{skipped}
+use Rattle.rank.proofs.laws.of_fewest.Least.{skipped}
 use Rattle.rank.proofs.fewest.meet.Goals as goal
 
 pub returns-then-k-bound : goal.returns-then-k-bound

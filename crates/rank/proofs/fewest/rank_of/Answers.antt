@@ -6,7 +6,7 @@ use Rattle.kinds.specs.Refusal.{Answer}
 use Rattle.rank.specs.fewest.Fewest.{Ranking, lent_ranking}
 use Rattle.rank.specs.declared.fewest.Least.TheVariants as answered
 use Rattle.problems.proofs.laws.Handed.{replied_as}
-use Rattle.rank.specs.fewest.laws.Least.{says_beyond, says_above, says_formula, missed_is, found_as, asking, finishing, few_held, numbers_held}
+use Rattle.rank.proofs.laws.of_fewest.Least.{says_beyond, says_above, says_formula, missed_is, found_as, asking, finishing, few_held, numbers_held}
 use Rattle.rank.proofs.fewest.rank_of.Goals as goal
 
 pub returns-then-misses : goal.returns-then-misses

@@ -4,7 +4,7 @@ use mathlib.Core.Bool.{false≢true}
 use Prim.Native.Nat.{◌-◌}
 use borrow.Author.Tests.{not-false}
 use lib.ListN.{length}
-use Rattle.rank.specs.matrix_rank.laws.Loops.{Passed, passed_start, passed_next, passed_end}
+use Rattle.rank.proofs.laws.of_matrix_rank.Loops.{Passed, passed_start, passed_next, passed_end}
 use Rattle.rank.proofs.matrix_rank.are_products.Given as goal
 
 abbrev pub invariant-loop-i : goal.invariant-loop-i

@@ -1,6 +1,6 @@
 -- `rank::matrix_rank::is_multiple` meets its contract. Assumes nothing.
 use borrow.Author.Tests.{eqb-true}
-use Rattle.rank.specs.matrix_rank.laws.Loops.{fits_zero, fits_same}
+use Rattle.rank.proofs.laws.of_matrix_rank.Loops.{fits_zero, fits_same}
 use Rattle.rank.proofs.matrix_rank.is_multiple.Goals as goal
 
 pub returns-then-row-eq0 : goal.returns-then-row-eq0

@@ -7,7 +7,7 @@ use Rattle.linear.specs.Word.{word}
 use Rattle.linear.specs.laws.Span.{span_nul}
 use Rattle.bases.specs.Basis.{rows_of}
 use Rattle.rank.specs.matrix_rank.Matrix.{Summed}
-use Rattle.rank.specs.matrix_rank.laws.Loops.{summed_start}
+use Rattle.rank.proofs.laws.of_matrix_rank.Loops.{summed_start}
 use Rattle.rank.proofs.matrix_rank.largest_rank.Given as goal
 
 abbrev pub invariant-loop-t : goal.invariant-loop-t

@@ -1,6 +1,6 @@
 -- `rank::matrix_rank::least_products` meets its contract. Assumes nothing.
 use borrow.Author.Rules.{rules}
-use Rattle.rank.specs.matrix_rank.laws.Matrix.{bounded, bound_none}
+use Rattle.rank.proofs.laws.of_matrix_rank.Matrix.{bounded, bound_none}
 use Rattle.rank.proofs.matrix_rank.least_products.Goals as goal
 
 pub returns-then-b-ge8 : goal.returns-then-b-ge8

@@ -4,7 +4,7 @@ use borrow.Author.Rules.{rules}
 use Prim.Native.Nat.{ℕ}
 use lib.Pow.{pow_pos}
 use Rattle.linear.proofs.laws.Shift.{one_shift}
-use Rattle.rank.specs.matrix_rank.laws.Loops.{lowest}
+use Rattle.rank.proofs.laws.of_matrix_rank.Loops.{lowest}
 use Rattle.rank.proofs.matrix_rank.lowest.Goals as goal
 
 pub overflow_sub-result : goal.overflow_sub-result

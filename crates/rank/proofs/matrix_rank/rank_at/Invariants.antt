@@ -4,7 +4,7 @@ use Prim.Native.Nat.{ℕ}
 use Rattle.linear.specs.Basis.{insert}
 use Rattle.linear.specs.Word.{word}
 use Rattle.bases.specs.Basis.{rows_of, Holds}
-use Rattle.rank.specs.matrix_rank.laws.Loops.{shorter, Cutting, cutting_start, cutting_next, cutting_end}
+use Rattle.rank.proofs.laws.of_matrix_rank.Loops.{shorter, Cutting, cutting_start, cutting_next, cutting_end}
 use Rattle.rank.proofs.matrix_rank.rank_at.Given as goal
 
 abbrev pub invariant-loop-rest : goal.invariant-loop-rest

@@ -15,7 +15,7 @@ use Rattle.formula_files.specs.Sound.{Sound}
 use Rattle.formula_text.specs.BodyText.{body_text}
 use Rattle.formula_text.specs.FileText.{file_text}
 use Rattle.round_trips.specs.formulae.laws.BodyBack.{body_back}
-use Rattle.formula_files.specs.laws.FormulaFile.{file_rest, rest_judged}
+use Rattle.formula_files.proofs.laws.FormulaFile.{file_rest, rest_judged}
 
 pub file_back : (f : Admitted) (la lb lr : ℕ) → Sound f → AllBelow (2 ^ 64) f.firsts → AllBelow (2 ^ 64) f.seconds → AllBelow (2 ^ 64) f.rows
     → formula_file (file_text f) la lb lr

@@ -19,7 +19,7 @@ use Rattle.problems.specs.Taken.{ListTaken}
 use Rattle.problems.proofs.laws.Taken.{shaped_inv}
 use Rattle.problems.proofs.laws.Laying.{list_targets}
 use Rattle.problem_files.specs.handed_forms.ProblemLines.{list_lines, map_lines, body_of, CostsFit}
-use Rattle.problem_files.specs.handed_forms.laws.Lines.{list_taken, map_none}
+use Rattle.problem_files.proofs.laws.of_handed_forms.Lines.{list_taken, map_none}
 use Rattle.round_trips.specs.problems.ProblemText.{list_text, lines_text}
 use Rattle.round_trips.specs.problems.laws.ListBack.{list_back}
 use Rattle.kinds.specs.Limits.{most_generators, cost_bits}

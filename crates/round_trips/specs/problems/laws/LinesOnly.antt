@@ -17,8 +17,8 @@ use Rattle.printing.specs.Print.{mask_text}
 use Rattle.formula_files.specs.lines.Formula.{ended}
 use Rattle.kinds.specs.Kinds.{is_list}
 use Rattle.problem_files.specs.list_lines.Roles.{role_names, generator_role, target_role, target_cost, form_and_cost, role_line, role_lines, list_body}
-use Rattle.problem_files.specs.list_lines.laws.Read.{form_inv, role_inv, roles_inv, list_inv}
-use Rattle.problem_files.specs.list_lines.laws.Costs.{roles_costs}
+use Rattle.problem_files.proofs.laws.of_list_lines.Read.{form_inv, role_inv, roles_inv, list_inv}
+use Rattle.problem_files.proofs.laws.of_list_lines.Costs.{roles_costs}
 use Rattle.problem_files.specs.handed_forms.ProblemLines.{list_lines, map_lines, body_of}
 use Rattle.round_trips.specs.formulae.laws.HeadOnly.{name_only, field_only}
 use Rattle.round_trips.specs.problems.ProblemText.{cost_text, roles_text, list_text, lines_text}

@@ -16,8 +16,8 @@ use Rattle.text.specs.Line.{LF, comma}
 use Rattle.printing.specs.Print.{mask_text}
 use Rattle.formula_files.specs.lines.Formula.{ended}
 use Rattle.problem_files.specs.list_lines.Roles.{role_names, generator_role, target_role, target_cost, role_line, role_lines, list_body}
-use Rattle.problem_files.specs.list_lines.laws.Line.{role_is, form_is}
-use Rattle.problem_files.specs.list_lines.laws.Body.{list_is}
+use Rattle.problem_files.proofs.laws.of_list_lines.Line.{role_is, form_is}
+use Rattle.problem_files.proofs.laws.of_list_lines.Body.{list_is}
 use Rattle.round_trips.specs.formulae.laws.HeadBack.{numeral_back, mask_back, field_back, name_back}
 use Rattle.round_trips.specs.problems.ProblemText.{cost_text, roles_text, list_text}
 

@@ -1,5 +1,5 @@
 -- `space_formulae::spaces::is_entry` meets its contract. Assumes nothing.
-use Rattle.space_formulae.specs.spaces.laws.Entry.{rows_other, rows_short, rows_judged}
+use Rattle.space_formulae.proofs.laws.of_spaces.Entry.{rows_other, rows_short, rows_judged}
 use borrow.Author.Rules.{rules}
 use Rattle.bases.proofs.Basis.empty.Reads as empty-reads
 use Rattle.bases.proofs.basis_of.Reads as basis-of-reads

@@ -4,7 +4,7 @@ use mathlib.Core.List.{[]}
 use Prim.Native.Nat.{◌+◌}
 use native.Mathlib.Nat.{div-le_self}
 use lib.ListN.{length}
-use Rattle.space_formulae.specs.spaces.laws.Listing.{first_node, told_all, told_more}
+use Rattle.space_formulae.proofs.laws.of_spaces.Listing.{first_node, told_all, told_more}
 use native.Mathlib.Omega.{arith}
 use borrow.Author.Rules.{rules}
 use Rattle.bases.proofs.Basis.empty.Reads as empty-reads

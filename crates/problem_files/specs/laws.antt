@@ -1,4 +1,0 @@
--- What the code's proofs cite, and what an accepted file has been through.
-pub mod Steps
-pub mod Accepted
-pub mod Numbers

@@ -1,3 +1,0 @@
--- The laws behind Rank.
-pub mod Replies
-pub mod Numbers

@@ -1,0 +1,4 @@
+-- Laws of the definitions of specs/.
+pub mod Theorems
+pub mod Entry
+pub mod Listing

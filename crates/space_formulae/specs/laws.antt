@@ -1,3 +1,0 @@
--- The laws behind the formulae of a space.
-pub mod Replies
-pub mod Numbers

@@ -1,0 +1,2 @@
+-- What an accepted Catalogue and an accepted Rank mean.
+pub mod Theorems

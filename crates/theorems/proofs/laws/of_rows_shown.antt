@@ -1,0 +1,2 @@
+-- The rows of a formula, shown.
+pub mod Theorems
