@@ -18,16 +18,18 @@ fn answer(rt: &(impl Print + Eprint), input: &[u8], problem: bool) {
     program_output::write_formulae(rt, input);
 }
 
-// Says on standard error that a file can't be opened: its name, and why in the system's own words, without the error's number.
+// The system's own words of why a call failed, without the error's number behind them.
+fn in_words(said: &str) -> &str {
+    said.split(" (os error ").next().unwrap_or(said)
+}
+
+// Says on standard error that a file can't be opened: its name, and why.
 fn say_unopened(rt: &(impl Eprint + AllocGlobal), name: &str, why: &std::io::Error) {
     let Ok(said) = format!(in rt.alloc(); "{why}") else {
         let _ = eprintln!(rt; "{name}: {why}");
         return;
     };
-    let reason = match said.split_once(" (os error ") {
-        Some((words, _)) => words,
-        None => said.as_str(),
-    };
+    let reason = in_words(said.as_str());
     let _ = eprintln!(rt; "{name}: {reason}");
 }
 
