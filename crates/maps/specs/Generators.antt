@@ -98,12 +98,12 @@ unfolding generator_count first_mask second_mask
 masks_in_range n m j h =
     record {
       some_left = omega arith;
-      left = (let k : j / (2 ^ m - 1) < 2 ^ n - 1 = (div-lt_iff_lt-mul Some).1 h in omega arith);
+      left = (let k : j / (2 ^ m - 1) < 2 ^ n - 1 = (div-lt_iff_lt-mul some).1 h in omega arith);
       some_right = omega arith;
-      right = (let k : j % (2 ^ m - 1) < 2 ^ m - 1 = mod-lt j Some in omega arith);
+      right = (let k : j % (2 ^ m - 1) < 2 ^ m - 1 = mod-lt j some in omega arith);
     }
   where
-    Some : 0 < 2 ^ m - 1
+    some : 0 < 2 ^ m - 1
     some = go (2 ^ m - 1) refl
       where
         go : (x : ℕ) → 2 ^ m - 1 ≡ x → 0 < x
