@@ -2,8 +2,7 @@
 --   seenX s r == the reading of s that the answer r stands for
 --   bytesX r  == the bytes used, 0 where there is no reading
 -- Assumes nothing.
-use Rattle.std.specs.Prelude.{ℕ, ◌+◌, List, take, drop}
-use Rattle.std.proofs.Math.Option.{Option, none, some}
+use Rattle.std.specs.Prelude.{ℕ, ◌+◌, List, take, drop, Option, None, Some}
 use Rattle.text.specs.declared.Number.{Number}
 use Rattle.text.specs.declared.Number.TheVariants as number
 use Rattle.text.specs.declared.Cut.{Cut}
@@ -14,28 +13,28 @@ use Rattle.text.specs.declared.FieldRead.{FieldRead}
 use Rattle.text.specs.declared.FieldRead.TheVariants as field
 
 abbrev pub seen_number : Number → Option ℕ
-seen_number (number.Is v) = some v
-seen_number number.No = none
+seen_number (number.Is v) = Some v
+seen_number number.No = None
 
 abbrev pub seen_cut : List ℕ → Cut → Option (List ℕ × List ℕ)
-seen_cut s (cut_at.At e) = some (take e s, drop (e + 1) s)
-seen_cut s cut_at.No = none
+seen_cut s (cut_at.At e) = Some (take e s, drop (e + 1) s)
+seen_cut s cut_at.No = None
 
 abbrev pub bytes_cut : Cut → ℕ
 bytes_cut (cut_at.At e) = e + 1
 bytes_cut cut_at.No = 0
 
 abbrev pub seen_used : List ℕ → Used → Option (List ℕ)
-seen_used s (used.Is u) = some (drop u s)
-seen_used s used.No = none
+seen_used s (used.Is u) = Some (drop u s)
+seen_used s used.No = None
 
 abbrev pub bytes_used : Used → ℕ
 bytes_used (used.Is u) = u
 bytes_used used.No = 0
 
 abbrev pub seen_field : List ℕ → FieldRead → Option (ℕ × List ℕ)
-seen_field s (field.Is v u) = some (v, drop u s)
-seen_field s field.No = none
+seen_field s (field.Is v u) = Some (v, drop u s)
+seen_field s field.No = None
 
 abbrev pub bytes_field : FieldRead → ℕ
 bytes_field (field.Is v u) = u

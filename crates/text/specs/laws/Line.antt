@@ -5,9 +5,8 @@
 --   read_at, fits_at                           a reading of the part of s from u on
 --   Ends, Named, FieldAt                         what is known where a cut, a fixed line, a field was found
 -- Assumes nothing.
-use Rattle.std.specs.Prelude.{ℕ, suc, ◌+◌, ◌-◌, ◌<◌, ◌≤◌, ◌≡◌, refl, List, [], ◌∷◌, Bool, true, false, cond, length, get_or, take, drop, eqb}
+use Rattle.std.specs.Prelude.{ℕ, suc, ◌+◌, ◌-◌, ◌<◌, ◌≤◌, ◌≡◌, refl, List, [], ◌∷◌, Bool, true, false, cond, length, get_or, take, drop, eqb, Option, None, Some}
 use Rattle.std.proofs.Common.{sym, ap, ◌∙◌, arith, add-one, length-drop, drop-cons, drop-drop, length-take-le, eq-eqb, ne_eqb}
-use Rattle.std.proofs.Math.Option.{Option, none, some}
 use Rattle.std.proofs.Math.Seq.{drop-length}
 use borrow.Author.Rules.{part_to_end}
 use Rattle.kinds.specs.Kinds.{same}
@@ -45,25 +44,25 @@ till_le c (b ∷ s) = go (eqb b c) (till_le c s)
     go false h = omega arith
 
 -- cutting goes by that number
-pub cut_some : (c : ℕ) (s : List ℕ) → till c s < length s → cut c s ≡ some (take (till c s) s, drop (till c s + 1) s)
+pub cut_some : (c : ℕ) (s : List ℕ) → till c s < length s → cut c s ≡ Some (take (till c s) s, drop (till c s + 1) s)
 unfolding till cut
 cut_some c [] h = absurd (omega arith)
 cut_some c (b ∷ s) h = go (eqb b c) (cut_some c s) h
   where
-    go : (t : Bool) → (till c s < length s → cut c s ≡ some (take (till c s) s, drop (till c s + 1) s))
+    go : (t : Bool) → (till c s < length s → cut c s ≡ Some (take (till c s) s, drop (till c s + 1) s))
         → cond t 0 (suc (till c s)) < suc (length s)
-        → cond {A = Option (List ℕ × List ℕ)} t (some ([], s)) (cut c s >>= λ p. some (b ∷ p.0, p.1)) ≡ some (take (cond t 0 (suc (till c s))) (b ∷ s), drop (cond t 0 (suc (till c s)) + 1) (b ∷ s))
+        → cond {A = Option (List ℕ × List ℕ)} t (Some ([], s)) (cut c s >>= λ p. Some (b ∷ p.0, p.1)) ≡ Some (take (cond t 0 (suc (till c s))) (b ∷ s), drop (cond t 0 (suc (till c s)) + 1) (b ∷ s))
     go true ih l = refl
     go false ih l = rw (ih (omega arith), add-one, add-one)
 
-pub cut_none : (c : ℕ) (s : List ℕ) → till c s ≡ length s → cut c s ≡ none
+pub cut_none : (c : ℕ) (s : List ℕ) → till c s ≡ length s → cut c s ≡ None
 unfolding till cut
 cut_none c [] h = refl
 cut_none c (b ∷ s) h = go (eqb b c) (cut_none c s) h
   where
-    go : (t : Bool) → (till c s ≡ length s → cut c s ≡ none)
+    go : (t : Bool) → (till c s ≡ length s → cut c s ≡ None)
         → cond t 0 (suc (till c s)) ≡ suc (length s)
-        → cond {A = Option (List ℕ × List ℕ)} t (some ([], s)) (cut c s >>= λ p. some (b ∷ p.0, p.1)) ≡ none
+        → cond {A = Option (List ℕ × List ℕ)} t (Some ([], s)) (cut c s >>= λ p. Some (b ∷ p.0, p.1)) ≡ None
     go true ih l = absurd (omega arith)
     go false ih l = rw (ih (omega arith))
 
@@ -76,7 +75,7 @@ cut_fits r e n h g = rw g at h
 
 -- the first c of s stands at place e
 pub record Ends (c : ℕ) (s : List ℕ) (e : ℕ) : Type 0 where
-  pub is : cut c s ≡ some (take e s, drop (e + 1) s)
+  pub is : cut c s ≡ Some (take e s, drop (e + 1) s)
   pub fits : e + 1 ≤ length s
 
 pub ends : (c : ℕ) (s : List ℕ) (r : Cut) (e : ℕ) → (cut c s ≡ seen_cut s r) × (bytes_cut r ≤ length s) → r ≡ At e → Ends c s e
@@ -86,29 +85,29 @@ pub ends_length : {c : ℕ} {s : List ℕ} {e : ℕ} → Ends c s e → e ≡ le
 ends_length {s = s} {e = e} E = sym (length-take-le e s (omega (arith, E.fits)))
 
 -- ---- fixed lines
-pub name_cut : (n s : List ℕ) → cut LF s ≡ none → name_line n s ≡ none
+pub name_cut : (n s : List ℕ) → cut LF s ≡ None → name_line n s ≡ None
 unfolding name_line
 name_cut n s e = rw e
 
-pub name_other : (n s x t : List ℕ) → cut LF s ≡ some (x, t) → same x n ≡ false → name_line n s ≡ none
+pub name_other : (n s x t : List ℕ) → cut LF s ≡ Some (x, t) → same x n ≡ false → name_line n s ≡ None
 unfolding name_line
 name_other n s x t e h = rw (e, h)
 
-pub name_is : (n s x t : List ℕ) → cut LF s ≡ some (x, t) → same x n ≡ true → name_line n s ≡ some t
+pub name_is : (n s x t : List ℕ) → cut LF s ≡ Some (x, t) → same x n ≡ true → name_line n s ≡ Some t
 unfolding name_line
 name_is n s x t e h = rw (e, h)
 
 -- ---- fields
 module _ (base most c : ℕ) where
-  pub field_cut : (s : List ℕ) → cut c s ≡ none → field base most c s ≡ none
+  pub field_cut : (s : List ℕ) → cut c s ≡ None → field base most c s ≡ None
   unfolding field
   field_cut s e = rw e
 
-  pub field_not : (s x t : List ℕ) → cut c s ≡ some (x, t) → numeral base most x ≡ none → field base most c s ≡ none
+  pub field_not : (s x t : List ℕ) → cut c s ≡ Some (x, t) → numeral base most x ≡ None → field base most c s ≡ None
   unfolding field
   field_not s x t e h = rw (e, h)
 
-  pub field_is : (s x t : List ℕ) (v : ℕ) → cut c s ≡ some (x, t) → numeral base most x ≡ some v → field base most c s ≡ some (v, t)
+  pub field_is : (s x t : List ℕ) (v : ℕ) → cut c s ≡ Some (x, t) → numeral base most x ≡ Some v → field base most c s ≡ Some (v, t)
   unfolding field
   field_is s x t v e h = rw (e, h)
 
@@ -132,25 +131,25 @@ used_fit r v n e h = rw h at e
 
 -- what is left of s behind a fixed line, from place u on
 pub record Named (name s : List ℕ) (u : ℕ) : Type 0 where
-  pub is : name_line name s ≡ some (drop u s)
+  pub is : name_line name s ≡ Some (drop u s)
   pub fits : u ≤ length s
 
 pub named : (name s : List ℕ) (r : Used) (u : ℕ) → (name_line name s ≡ seen_used s r) × (bytes_used r ≤ length s) → r ≡ used.Is u → Named name s u
 named name s r u p h = record { is = p.0 ∙ ap (seen_used s) h; fits = used_fit r u (length s) p.1 h }
 
-pub unnamed : (name s : List ℕ) (r : Used) → name_line name s ≡ seen_used s r → r ≡ used.No → name_line name s ≡ none
+pub unnamed : (name s : List ℕ) (r : Used) → name_line name s ≡ seen_used s r → r ≡ used.No → name_line name s ≡ None
 unnamed name s r e h = e ∙ ap (seen_used s) h
 
 -- ---- a number v read by f from the part of s from u on, and what is left, from place w on
 pub record FieldAt (f : List ℕ → Option (ℕ × List ℕ)) (s : List ℕ) (u v w : ℕ) : Type 0 where
-  pub is : f (drop u s) ≡ some (v, drop w s)
+  pub is : f (drop u s) ≡ Some (v, drop w s)
   pub fits : w ≤ length s
 
 module _ (f : List ℕ → Option (ℕ × List ℕ)) (s : List ℕ) where
   pub field_first : (r : FieldRead) (v w : ℕ) → (f s ≡ seen_field s r) × (bytes_field r ≤ length s) → r ≡ field_read.Is v w → FieldAt f s 0 v w
   field_first r v w p h = record { is = p.0 ∙ ap (seen_field s) h; fits = (let l = p.1 in rw h at l) }
 
-  pub field_none : (r : FieldRead) → f s ≡ seen_field s r → r ≡ field_read.No → f s ≡ none
+  pub field_none : (r : FieldRead) → f s ≡ seen_field s r → r ≡ field_read.No → f s ≡ None
   field_none r e h = e ∙ ap (seen_field s) h
 
   pub field_next : (u : ℕ) (r : FieldRead) (v w : ℕ)
@@ -158,10 +157,10 @@ module _ (f : List ℕ → Option (ℕ × List ℕ)) (s : List ℕ) where
       → r ≡ field_read.Is v w → u ≤ length s → FieldAt f s u v (u + w)
   field_next u r v w p h l =
       record {
-        is = read_at s u r (field_read.Is v w) f seen_field p.0 h ∙ ap (λ (x : List ℕ). some (v, x)) (drop-drop w u s);
+        is = read_at s u r (field_read.Is v w) f seen_field p.0 h ∙ ap (λ (x : List ℕ). Some (v, x)) (drop-drop w u s);
         fits = fits_at s u r (field_read.Is v w) bytes_field p.1 h l;
       }
 
   pub field_no : (u : ℕ) (r : FieldRead) → f (take (length s - u) (drop u s)) ≡ seen_field (take (length s - u) (drop u s)) r
-      → r ≡ field_read.No → f (drop u s) ≡ none
+      → r ≡ field_read.No → f (drop u s) ≡ None
   field_no u r e h = read_at s u r field_read.No f seen_field e h
