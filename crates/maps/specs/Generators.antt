@@ -16,9 +16,8 @@
 --   length_list_of, at_list_of   a list so made has c members, and f (i + j) at j
 --   forms_length, forms_at   the list has as many forms as there are generators, and the form of generator j at j
 -- Assumes nothing.
-use Rattle.std.specs.Prelude.{◌≡◌, refl, List, [], ◌∷◌, ℕ, zero, suc, ◌+◌, ◌-◌, ◌*◌, ◌/◌, ◌%◌, ◌^◌, ◌<◌, ◌≤◌, leb, length, get_or}
+use Rattle.std.specs.Prelude.{◌≡◌, refl, List, [], ◌∷◌, ℕ, zero, suc, ◌+◌, ◌-◌, ◌*◌, ◌/◌, ◌%◌, ◌^◌, ◌<◌, ◌≤◌, leb, length, get_or, Option, None, Some}
 use Rattle.std.proofs.Common.{sym, ap, ap₂, ◌∙◌, subst, div-add-mod', div-lt_iff_lt-mul, mod-lt, mul-zero, add-zero, add-suc, suc-add, zero-add, arith}
-use Rattle.std.proofs.Math.Option.{Option, none, some}
 use Rattle.std.proofs.Math.Arith.{digits_lt, digits_div, digits_mod}
 use Rattle.kinds.specs.Sizes.{given}
 use Rattle.forms.specs.products.Product.{product_form}
@@ -56,8 +55,8 @@ count_of n m = given (leb (generator_count n m) most_generators) (generator_coun
 
 -- the answer of the code
 abbrev pub seen_count : Count → Option ℕ
-seen_count (count.Is c) = some c
-seen_count count.Many = none
+seen_count (count.Is c) = Some c
+seen_count count.Many = None
 
 -- the masks of a generator in n and m variables
 pub record Masks (n m A B : ℕ) : Type 0 where
@@ -99,12 +98,12 @@ unfolding generator_count first_mask second_mask
 masks_in_range n m j h =
     record {
       some_left = omega arith;
-      left = (let k : j / (2 ^ m - 1) < 2 ^ n - 1 = (div-lt_iff_lt-mul some).1 h in omega arith);
+      left = (let k : j / (2 ^ m - 1) < 2 ^ n - 1 = (div-lt_iff_lt-mul Some).1 h in omega arith);
       some_right = omega arith;
-      right = (let k : j % (2 ^ m - 1) < 2 ^ m - 1 = mod-lt j some in omega arith);
+      right = (let k : j % (2 ^ m - 1) < 2 ^ m - 1 = mod-lt j Some in omega arith);
     }
   where
-    some : 0 < 2 ^ m - 1
+    Some : 0 < 2 ^ m - 1
     some = go (2 ^ m - 1) refl
       where
         go : (x : ℕ) → 2 ^ m - 1 ≡ x → 0 < x

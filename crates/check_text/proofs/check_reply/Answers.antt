@@ -1,6 +1,6 @@
 -- `check_text::check_reply` meets its contract. Assumes nothing.
 use mathlib.Core.Path.{◌≡◌, ap, ◌∙◌}
-use mathlib.Core.Option.{none}
+use Rattle.std.specs.Prelude.{None}
 use Prim.Native.Nat.{ℕ}
 use native.Mathlib.Omega.{arith}
 use Rattle.kinds.specs.Sizes.{sizes, seen_sizes}
@@ -12,7 +12,7 @@ pub returns-in_default : goal.returns-in_default
 returns-in_default c =
     let args = c.args in
     let e = c.requires.sized in
-    let f : sizes args.shape ≡ none = c.sizes_of.ensures ∙ ap seen_sizes c.in_default.is in
+    let f : sizes args.shape ≡ None = c.sizes_of.ensures ∙ ap seen_sizes c.in_default.is in
     absurd (let z : ◌≡◌ {A = ℕ} 0 1 = cc in omega arith)
 
 pub judge-said-requires : goal.judge-said-requires

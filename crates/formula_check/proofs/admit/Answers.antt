@@ -1,7 +1,7 @@
 -- `formula_check::admit` meets its contract. Assumes nothing.
 use mathlib.Core.Path.{◌≡◌, sym, ap, ◌∙◌}
 use mathlib.Core.Bool.{true}
-use mathlib.Core.Option.{some}
+use Rattle.std.specs.Prelude.{Some}
 use Prim.Native.Nat.{ℕ}
 use native.Mathlib.Omega.{arith}
 use lib.ListN.{length}
@@ -36,7 +36,7 @@ returns-in_default-sizes_of c =
 
 pub returns-then-a-k : goal.returns-then-a-k
 returns-then-a-k c = (let a = c.args in let z = (let it : (let a = c.args in let kd = c.in-Is.kind in
-    (known_map (kind_numbered a.number) ≡ some kd) × (sizes (shape_of kd a.p a.q a.r) ≡ some (c.in-Are.n, c.in-Are.m, c.in-Are.u))) = let numbered =
+    (known_map (kind_numbered a.number) ≡ Some kd) × (sizes (shape_of kd a.p a.q a.r) ≡ Some (c.in-Are.n, c.in-Are.m, c.in-Are.u))) = let numbered =
     c.kind_numbered in let Known-map = c.known_map in
     (ap known_map numbered.ensures ∙ Known-map.ensures ∙ ap seen_kind c.in-Is.is, c.sizes_of.ensures ∙ ap seen_sizes c.in-Are.is) in it) in
     admit_5 a.number a.p a.q a.r a.k a.a.now a.b.now a.rows.now c.in-Is.kind z.0 c.in-Are.n c.in-Are.m c.in-Are.u z.1 (unlike_a _ _ _ _ _
@@ -44,7 +44,7 @@ returns-then-a-k c = (let a = c.args in let z = (let it : (let a = c.args in let
 
 pub returns-then-b-k : goal.returns-then-b-k
 returns-then-b-k c = (let a = c.args in let z = (let it : (let a = c.args in let kd = c.in-Is.kind in
-    (known_map (kind_numbered a.number) ≡ some kd) × (sizes (shape_of kd a.p a.q a.r) ≡ some (c.in-Are.n, c.in-Are.m, c.in-Are.u))) = let numbered =
+    (known_map (kind_numbered a.number) ≡ Some kd) × (sizes (shape_of kd a.p a.q a.r) ≡ Some (c.in-Are.n, c.in-Are.m, c.in-Are.u))) = let numbered =
     c.kind_numbered in let Known-map = c.known_map in
     (ap known_map numbered.ensures ∙ Known-map.ensures ∙ ap seen_kind c.in-Is.is, c.sizes_of.ensures ∙ ap seen_sizes c.in-Are.is) in it) in
     admit_5 a.number a.p a.q a.r a.k a.a.now a.b.now a.rows.now c.in-Is.kind z.0 c.in-Are.n c.in-Are.m c.in-Are.u z.1 (unlike_b _ _ _ _ _
@@ -52,7 +52,7 @@ returns-then-b-k c = (let a = c.args in let z = (let it : (let a = c.args in let
 
 pub returns-then-rows-u : goal.returns-then-rows-u
 returns-then-rows-u c = (let a = c.args in let z = (let it : (let a = c.args in let kd = c.in-Is.kind in
-    (known_map (kind_numbered a.number) ≡ some kd) × (sizes (shape_of kd a.p a.q a.r) ≡ some (c.in-Are.n, c.in-Are.m, c.in-Are.u))) = let numbered =
+    (known_map (kind_numbered a.number) ≡ Some kd) × (sizes (shape_of kd a.p a.q a.r) ≡ Some (c.in-Are.n, c.in-Are.m, c.in-Are.u))) = let numbered =
     c.kind_numbered in let Known-map = c.known_map in
     (ap known_map numbered.ensures ∙ Known-map.ensures ∙ ap seen_kind c.in-Is.is, c.sizes_of.ensures ∙ ap seen_sizes c.in-Are.is) in it) in
     admit_5 a.number a.p a.q a.r a.k a.a.now a.b.now a.rows.now c.in-Is.kind z.0 c.in-Are.n c.in-Are.m c.in-Are.u z.1 (unlike_rows _ _ _ _ _
@@ -63,7 +63,7 @@ returns-then-e-ne0 c =
     let a = c.args in
     let kd = c.in-Is.kind in
     (let a = c.args in let kd = c.in-Is.kind in let z = (let it : (let a = c.args in let kd = c.in-Is.kind in
-    (known_map (kind_numbered a.number) ≡ some kd) × (sizes (shape_of kd a.p a.q a.r) ≡ some (c.in-Are.n, c.in-Are.m, c.in-Are.u))) = let
+    (known_map (kind_numbered a.number) ≡ Some kd) × (sizes (shape_of kd a.p a.q a.r) ≡ Some (c.in-Are.n, c.in-Are.m, c.in-Are.u))) = let
     numbered = c.kind_numbered in let Known-map = c.known_map in
     (ap known_map numbered.ensures ∙ Known-map.ensures ∙ ap seen_kind c.in-Is.is, c.sizes_of.ensures ∙ ap seen_sizes c.in-Are.is) in it) in
     let x : length a.a.now ≡ a.k = omega (arith, c.if-a-k.false) in let y : length a.b.now ≡ a.k = omega (arith, c.if-b-k.false) in
@@ -79,7 +79,7 @@ returns c =
     let a = c.args in
     let kd = c.in-Is.kind in
     (let a = c.args in let kd = c.in-Is.kind in let z = (let it : (let a = c.args in let kd = c.in-Is.kind in
-    (known_map (kind_numbered a.number) ≡ some kd) × (sizes (shape_of kd a.p a.q a.r) ≡ some (c.in-Are.n, c.in-Are.m, c.in-Are.u))) = let
+    (known_map (kind_numbered a.number) ≡ Some kd) × (sizes (shape_of kd a.p a.q a.r) ≡ Some (c.in-Are.n, c.in-Are.m, c.in-Are.u))) = let
     numbered = c.kind_numbered in let Known-map = c.known_map in
     (ap known_map numbered.ensures ∙ Known-map.ensures ∙ ap seen_kind c.in-Is.is, c.sizes_of.ensures ∙ ap seen_sizes c.in-Are.is) in it) in
     let x : length a.a.now ≡ a.k = omega (arith, c.if-a-k.false) in let y : length a.b.now ≡ a.k = omega (arith, c.if-b-k.false) in

@@ -1,7 +1,7 @@
 -- `kinds::mid_sizes` meets its contract: what fits is at most 64, so that it can be doubled. Assumes nothing.
 use mathlib.Core.Path.{sym, ap, ◌∙◌}
 use mathlib.Core.Bool.{true≢false}
-use mathlib.Core.Option.{some}
+use Rattle.std.specs.Prelude.{Some}
 use Prim.Native.Nat.{ℕ}
 use native.Mathlib.Omega.{arith}
 use borrow.Author.Tests.{not-true, not-false}
@@ -33,7 +33,7 @@ pub returns-then-q-m : goal.returns-then-q-m
 returns-then-q-m c =
     let args = c.args in
     mid_is args.p args.q args.r (record { third = omega arith; tie = c.if-q-m.true; fits = fitting c.before })
-    ∙ ap (λ (m : ℕ). some (args.p, m, args.p)) c.if-q-m.true
+    ∙ ap (λ (m : ℕ). Some (args.p, m, args.p)) c.if-q-m.true
 
 pub returns-else-q-m : goal.returns-else-q-m
 returns-else-q-m c =

@@ -2,7 +2,7 @@
 use native.Mathlib.Omega.{arith}
 use mathlib.Core.Path.{◌≡◌, ap, ◌∙◌}
 use Prim.Native.Nat.{◌≤◌}
-use mathlib.Core.Option.{some}
+use Rattle.std.specs.Prelude.{Some}
 use Rattle.kinds.specs.laws.Sizes.{sizes_bounds}
 use Rattle.maps.specs.Generators.{count_of, seen_count}
 use Rattle.problems.proofs.laws.Refusals.{counted}
@@ -39,7 +39,7 @@ fill_generators-requires c =
     let pre = c.requires in
     let generator-count = c.generator_count in
     let a = args in
-    let C : count_of a.n a.m ≡ some c.in-Is.c = generator-count.ensures ∙ ap seen_count c.in-Is.is in
+    let C : count_of a.n a.m ≡ Some c.in-Is.c = generator-count.ensures ∙ ap seen_count c.in-Is.is in
     let f = counted a.n a.m c.in-Is.c C in
     let l : c.in-Is.c ≤ most_generators = f.1 in
     record { count = f.0; few = l; room = (let g = pre.0 in omega arith) }

@@ -1,6 +1,6 @@
 -- `turn_program::turn_read` meets its contract. Assumes nothing.
 use mathlib.Core.Path.{◌≡◌, ap, ◌∙◌}
-use mathlib.Core.Option.{none}
+use Rattle.std.specs.Prelude.{None}
 use Prim.Native.Nat.{ℕ}
 use native.Mathlib.Omega.{arith}
 use Rattle.kinds.specs.Sizes.{sizes, seen_sizes}
@@ -10,7 +10,7 @@ use Rattle.turn_program.proofs.turn_read.Goals as goal
 pub returns-in_default : goal.returns-in_default
 returns-in_default c =
     let e = c.requires.ready.sized in
-    let f : sizes c.args.shape ≡ none = c.sizes_of.ensures ∙ ap seen_sizes c.in_default.is in
+    let f : sizes c.args.shape ≡ None = c.sizes_of.ensures ∙ ap seen_sizes c.in_default.is in
     absurd (let z : ◌≡◌ {A = ℕ} 0 1 = cc in omega arith)
 
 pub turn_admitted-e-requires : goal.turn_admitted-e-requires

@@ -4,9 +4,8 @@
 --   short_room                  each buffer has room
 --   lent_refused, lent_filled   the buffers as they were, and filled
 -- Assumes nothing.
-use Rattle.std.specs.Prelude.{◌≡◌, refl, Bool, false, not, ◌||◌, List, ℕ, ◌≤◌, length, eqb, ltb}
+use Rattle.std.specs.Prelude.{◌≡◌, refl, Bool, false, not, ◌||◌, List, ℕ, ◌≤◌, length, eqb, ltb, Option}
 use Rattle.std.proofs.Common.{sym, ap₂, ◌∙◌, subst, ltb-false}
-use Rattle.std.proofs.Math.Option.{Option}
 use Rattle.std.proofs.lemmas.List.{length-map}
 use Rattle.kinds.specs.Sizes.{shape_of, sizes}
 use Rattle.kinds.specs.Refusal.{Answer, refused, accepted, need, refuse}

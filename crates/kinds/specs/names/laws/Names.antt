@@ -3,9 +3,8 @@
 --   number_below           a kind's number is below the count of kinds
 --   named_here, named_on, named_none   the first kind with a name, from a number on
 -- Assumes nothing.
-use Rattle.std.specs.Prelude.{ℕ, zero, suc, ◌+◌, ◌≤◌, ◌<◌, ◌≡◌, refl, List, [], ◌∷◌, Bool, true, false, cond, length, drop}
+use Rattle.std.specs.Prelude.{ℕ, zero, suc, ◌+◌, ◌≤◌, ◌<◌, ◌≡◌, refl, List, [], ◌∷◌, Bool, true, false, cond, length, drop, Option, None, Some}
 use Rattle.std.proofs.Common.{ap, sym, ◌∙◌, arith, add-one, length-drop, ne_eqb}
-use Rattle.std.proofs.Math.Option.{Option, none, some}
 use Rattle.std.proofs.Math.Seq.{drop-nil}
 use Rattle.kinds.specs.declared.Kind.{Kind}
 use Rattle.kinds.specs.declared.Kind.TheVariants as kind
@@ -26,10 +25,10 @@ name_plain kind.Mid = omega arith
 
 -- ---- the kinds from number i on: they stand in the order of their numbers
 abbrev ahead : Option Kind → List Kind → List Kind
-ahead none l = []
-ahead (some k) l = k ∷ l
+ahead None l = []
+ahead (Some k) l = k ∷ l
 
-beyond : (x : ℕ) → length kinds ≤ x → kind_numbered x ≡ none
+beyond : (x : ℕ) → length kinds ≤ x → kind_numbered x ≡ None
 unfolding kind_numbered
 beyond x h = rw (
   ne_eqb 0 x (λ e. omega arith),
@@ -51,7 +50,7 @@ kinds_at (suc (suc (suc (suc (suc zero))))) = refl
 kinds_at (suc (suc (suc (suc (suc (suc i)))))) =
     drop-nil i ∙ sym (ap (λ (o : Option Kind). ahead o []) (beyond (suc (suc (suc (suc (suc (suc i)))))) (omega arith)))
 
-pub number_below : (i : ℕ) (k : Kind) → kind_numbered i ≡ some k → i < length kinds
+pub number_below : (i : ℕ) (k : Kind) → kind_numbered i ≡ Some k → i < length kinds
 number_below i k e =
     let h : drop i kinds ≡ k ∷ drop (suc i) kinds = kinds_at i ∙ ap (λ (o : Option Kind). ahead o (drop (suc i) kinds)) e in
     let l : length (drop i kinds) ≡ suc (length (drop (suc i) kinds)) = ap length h in
@@ -64,11 +63,11 @@ named_from s i = first_kind (λ k. same (name_of k) s) (drop i kinds)
 named_at : (s : List ℕ) (i : ℕ) (o : Option Kind) → kind_numbered i ≡ o → named_from s i ≡ first_kind (λ k. same (name_of k) s) (ahead o (drop (suc i) kinds))
 named_at s i o e = ap (first_kind (λ k. same (name_of k) s)) (kinds_at i ∙ ap (λ (x : Option Kind). ahead x (drop (suc i) kinds)) e)
 
-pub named_here : (s : List ℕ) (i : ℕ) (k : Kind) → kind_numbered i ≡ some k → same (name_of k) s ≡ true → named_from s i ≡ some k
-named_here s i k e t = named_at s i (some k) e ∙ ap (λ (b : Bool). cond b (some k) (named_from s (suc i))) t
+pub named_here : (s : List ℕ) (i : ℕ) (k : Kind) → kind_numbered i ≡ Some k → same (name_of k) s ≡ true → named_from s i ≡ Some k
+named_here s i k e t = named_at s i (Some k) e ∙ ap (λ (b : Bool). cond b (Some k) (named_from s (suc i))) t
 
-pub named_on : (s : List ℕ) (i : ℕ) (k : Kind) → kind_numbered i ≡ some k → same (name_of k) s ≡ false → named_from s i ≡ named_from s (i + 1)
-named_on s i k e t = named_at s i (some k) e ∙ ap (λ (b : Bool). cond b (some k) (named_from s (suc i))) t ∙ ap (named_from s) (sym (add-one i))
+pub named_on : (s : List ℕ) (i : ℕ) (k : Kind) → kind_numbered i ≡ Some k → same (name_of k) s ≡ false → named_from s i ≡ named_from s (i + 1)
+named_on s i k e t = named_at s i (Some k) e ∙ ap (λ (b : Bool). cond b (Some k) (named_from s (suc i))) t ∙ ap (named_from s) (sym (add-one i))
 
-pub named_none : (s : List ℕ) (i : ℕ) → kind_numbered i ≡ none → named_from s i ≡ none
-named_none s i e = named_at s i none e
+pub named_none : (s : List ℕ) (i : ℕ) → kind_numbered i ≡ None → named_from s i ≡ None
+named_none s i e = named_at s i None e
