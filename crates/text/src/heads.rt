@@ -1,13 +1,13 @@
 // The first two lines of a file.
 ghost use Rattle.std.specs.Prelude.{◌≡◌, ◌≤◌, length};
 ghost use Rattle.text.specs.heads.Head.{count_fields, head_line, head_lines};
-ghost use Rattle.text.specs.heads.Views.{seen_counts, seen_head, bytes_head};
+ghost use Rattle.text.specs.heads.Views.{seen_head, bytes_head};
 
 use kinds::Known;
 
 // The four counts of the second line.
 fn counts_of(s: &[u8]) -> Option<(u64, u64, u64, u64)>
-    ensures { count_fields s.now ≡ seen_counts result }
+    ensures { result ≡ count_fields s.now }
 {
     let (p, used) = super::field_at(s, b',', 10, 4)?;
     let (q, v) = super::field_at(&s[used..], b',', 10, 4)?;

@@ -5,8 +5,8 @@
 
 ghost use Rattle.std.specs.Prelude.{◌≡◌, ◌+◌, ◌^◌, ◌≤◌, length};
 ghost use Rattle.text.specs.Numeral.{digit, numeral};
-ghost use Rattle.text.specs.Line.{till, cut, name_line, field};
-ghost use Rattle.text.specs.Views.{seen_number, seen_cut, bytes_cut, seen_used, bytes_used, seen_field, bytes_field};
+ghost use Rattle.text.specs.Line.{cut, name_line, field};
+ghost use Rattle.text.specs.Views.{seen_cut, bytes_cut, seen_used, bytes_used, seen_field, bytes_field};
 ghost use Rattle.text.specs.Limits.{input_room};
 
 pub mod heads;
@@ -40,7 +40,7 @@ fn digit_of(b: u8) -> u64
 // The numeral s to the base, of at most `most` digits.
 pub fn numeral_of(s: &[u8], base: u64, most: usize) -> Option<u64>
     requires { (base ≤ 16) × (base ^ most ≤ 2 ^ 64) }
-    ensures { numeral base most s.now ≡ seen_number result }
+    ensures { result ≡ numeral base most s.now }
 {
     let n = s.len();
     if n == 0 {
