@@ -10,11 +10,10 @@
 --   known_map o     == the kind, if it is known and not the list
 -- Document 01: poly, short, circ, mat, list. Document 02: mid. Assumes nothing.
 use Rattle.std.specs.Prelude.{◌≡◌, refl, Bool, true, false, ◌&&◌, cond, List, [], ◌∷◌, ℕ, ◌≤◌, length, eqb, Option, None, Some}
+use Rattle.std.specs.List.{find}
 use Rattle.std.proofs.Common.{arith}
 use Rattle.kinds.specs.declared.Kind.{Kind}
 use Rattle.kinds.specs.declared.Kind.TheVariants as kind
-use Rattle.kinds.specs.declared.Known.{Known}
-use Rattle.kinds.specs.declared.Known.TheVariants as found
 
 pub record Entry : Type 0 where
   pub number : ℕ
@@ -56,13 +55,8 @@ handed k c = cond (is_list k) c 0
 abbrev pub kinds : List Kind
 kinds = kind.Poly ∷ kind.Short ∷ kind.Circ ∷ kind.Mat ∷ kind.List ∷ kind.Mid ∷ []
 
--- the first of some kinds that passes a test
-abbrev pub first_kind : (Kind → Bool) → List Kind → Option Kind
-first_kind p [] = None
-first_kind p (k ∷ l) = cond (p k) (Some k) (first_kind p l)
-
 unfoldable pub kind_numbered : ℕ → Option Kind
-kind_numbered x = first_kind (λ k. eqb (number_of k) x) kinds
+kind_numbered x = find (λ k. eqb (number_of k) x) kinds
 
 pub kind_numbered_law : (kd : Kind) → kind_numbered (number_of kd) ≡ Some kd
 unfolding kind_numbered
@@ -81,7 +75,7 @@ same (x ∷ s) [] = false
 same (x ∷ s) (y ∷ t) = eqb x y && same s t
 
 abbrev pub kind_named : List ℕ → Option Kind
-kind_named s = first_kind (λ k. same (name_of k) s) kinds
+kind_named s = find (λ k. same (name_of k) s) kinds
 
 pub kind_named_law : (k : Kind) → kind_named (name_of k) ≡ Some k
 kind_named_law kind.Poly = refl
@@ -95,8 +89,3 @@ kind_named_law kind.Mid = refl
 abbrev pub known_map : Option Kind → Option Kind
 known_map None = None
 known_map (Some k) = cond (is_list k) None (Some k)
-
--- the answer of the code
-abbrev pub seen_kind : Known → Option Kind
-seen_kind (found.Is k) = Some k
-seen_kind found.No = None

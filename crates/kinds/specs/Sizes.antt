@@ -9,8 +9,6 @@ use Rattle.kinds.specs.Limits.{most_coordinates}
 use Rattle.kinds.specs.declared.Kind.{Kind}
 use Rattle.kinds.specs.declared.Kind.TheVariants as kind
 use Rattle.kinds.specs.declared.Shape.{Shape}
-use Rattle.kinds.specs.declared.Sized.{Sized}
-use Rattle.kinds.specs.declared.Sized.TheVariants as sized
 
 -- a value where the test holds
 abbrev pub given : {A : Type 0} → Bool → A → Option A
@@ -54,8 +52,3 @@ shape_of k p q r = record { kind = k; p = p; q = q; r = r }
 
 abbrev pub sizes : Shape → Option (ℕ × ℕ × ℕ)
 sizes shape = sizes_for shape.kind shape.p shape.q shape.r
-
--- the answer of the code
-abbrev pub seen_sizes : Sized → Option (ℕ × ℕ × ℕ)
-seen_sizes (sized.Are n m t) = Some (n, m, t)
-seen_sizes sized.No = None

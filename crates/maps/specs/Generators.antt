@@ -22,8 +22,6 @@ use Rattle.std.proofs.Math.Arith.{digits_lt, digits_div, digits_mod}
 use Rattle.kinds.specs.Sizes.{given}
 use Rattle.forms.specs.products.Product.{product_form}
 use Rattle.forms.specs.products.laws.Product.{product_below}
-use Rattle.maps.specs.declared.Count.{Count}
-use Rattle.maps.specs.declared.Count.TheVariants as count
 use Rattle.kinds.specs.Limits.{most_generators}
 
 unfoldable pub generator_count : ℕ → ℕ → ℕ
@@ -52,11 +50,6 @@ generator_forms n m = list_of (generator_form n m) 0 (generator_count n m)
 -- refusal 4: "has more than 4,095 forms"
 unfoldable pub count_of : ℕ → ℕ → Option ℕ
 count_of n m = given (leb (generator_count n m) most_generators) (generator_count n m)
-
--- the answer of the code
-abbrev pub seen_count : Count → Option ℕ
-seen_count (count.Is c) = Some c
-seen_count count.Many = None
 
 -- the masks of a generator in n and m variables
 pub record Masks (n m A B : ℕ) : Type 0 where
@@ -98,12 +91,12 @@ unfolding generator_count first_mask second_mask
 masks_in_range n m j h =
     record {
       some_left = omega arith;
-      left = (let k : j / (2 ^ m - 1) < 2 ^ n - 1 = (div-lt_iff_lt-mul Some).1 h in omega arith);
+      left = (let k : j / (2 ^ m - 1) < 2 ^ n - 1 = (div-lt_iff_lt-mul some).1 h in omega arith);
       some_right = omega arith;
-      right = (let k : j % (2 ^ m - 1) < 2 ^ m - 1 = mod-lt j Some in omega arith);
+      right = (let k : j % (2 ^ m - 1) < 2 ^ m - 1 = mod-lt j some in omega arith);
     }
   where
-    Some : 0 < 2 ^ m - 1
+    some : 0 < 2 ^ m - 1
     some = go (2 ^ m - 1) refl
       where
         go : (x : ℕ) → 2 ^ m - 1 ≡ x → 0 < x
