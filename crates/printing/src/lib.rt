@@ -84,6 +84,5 @@ pub fn put_kind(kind: Kind, out: &mut [u8], at: usize) -> usize
     requires { at + longest_name < 2 ^ 64 }
     ensures { (result ≡ at + length (name_of kind)) × (out.new ≡ sets out.old at (name_of kind)) }
 {
-    let name = kinds::names::name_of(kind);
-    put_bytes(&name.bytes[..name.len], out, at)
+    put_bytes(kinds::names::name_of(kind), out, at)
 }

@@ -3,7 +3,7 @@ ghost use Rattle.std.specs.Prelude.{◌≡◌, ◌≤◌, length};
 ghost use Rattle.text.specs.heads.Head.{count_fields, head_line, head_lines};
 ghost use Rattle.text.specs.heads.Views.{seen_head, bytes_head};
 
-use kinds::Known;
+use kinds::Kind;
 
 // The four counts of the second line.
 fn counts_of(s: &[u8]) -> Option<(u64, u64, u64, u64)>
@@ -18,10 +18,10 @@ fn counts_of(s: &[u8]) -> Option<(u64, u64, u64, u64)>
     Some((p, q, r, k))
 }
 
-// What the first two lines say, and the bytes used.
+// What the first two lines say, the kind where it is known, and the bytes used.
 #[derive(Clone, Copy)]
 pub struct Head {
-    pub kind: Known,
+    pub kind: Option<Kind>,
     pub p: u64,
     pub q: u64,
     pub r: u64,

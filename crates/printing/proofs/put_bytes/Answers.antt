@@ -1,5 +1,5 @@
 -- `printing::put_bytes` meets its contract. Assumes nothing.
-use Rattle.std.specs.Prelude.{◌≡◌, refl, ℕ, ◌+◌, length}
+use Rattle.std.specs.Prelude.{◌≡◌, refl, ℕ, length}
 use Rattle.std.proofs.Common.{ap, arith, add-zero}
 use Rattle.std.proofs.lemmas.List.Edits.{sets}
 use Rattle.printing.specs.laws.Print.{bytes_step, bytes_end}

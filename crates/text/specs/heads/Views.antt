@@ -2,12 +2,11 @@
 --   seen_head s r, bytes_head r == the reading of s that r stands for, and the bytes used, 0 where there is no reading
 -- Assumes nothing.
 use Rattle.std.specs.Prelude.{ℕ, List, drop, Option, None, Some}
-use Rattle.kinds.specs.Kinds.{seen_kind}
 use Rattle.text.specs.heads.Head.{Head}
 use Rattle.text.specs.declared.heads.Head as code
 
 abbrev pub seen_head : List ℕ → Option code.Head → Option (Head × List ℕ)
-seen_head s (Some h) = Some (record { kind = seen_kind h.kind; p = h.p; q = h.q; r = h.r; k = h.k }, drop h.used s)
+seen_head s (Some h) = Some (record { kind = h.kind; p = h.p; q = h.q; r = h.r; k = h.k }, drop h.used s)
 seen_head s None = None
 
 abbrev pub bytes_head : Option code.Head → ℕ

@@ -20,4 +20,4 @@ returns-in_err-p c =
 pub returns : goal.returns
 returns c =
     let counts = read_at count_fields (take c.in_ok-e.e c.args.s.now) (c.in_ok-n.n + 1) _ (sym c.in_ok-p.ensures) in
-    (rw (← c.kind_named-kind.ensures) (head_is _ _ _ _ _ _ _ _ _ c.in_ok-e.ensures.0 c.in_ok-n.ensures.0 counts), c.in_ok-e.ensures.1)
+    (rw c.kind_named-kind.ensures (head_is _ _ _ _ _ _ _ _ _ c.in_ok-e.ensures.0 c.in_ok-n.ensures.0 counts), c.in_ok-e.ensures.1)
