@@ -6,9 +6,9 @@ use Prim.Native.Nat.{ℕ}
 use native.Mathlib.Omega.{arith}
 use lib.ListN.{length}
 use borrow.Author.Rules.{rules}
-use Rattle.kinds.specs.Kinds.{kind_numbered, known_map, seen_kind}
+use Rattle.kinds.specs.Kinds.{kind_numbered, known_map}
 use Rattle.kinds.specs.Refusal.{refused}
-use Rattle.kinds.specs.Sizes.{shape_of, sizes, seen_sizes}
+use Rattle.kinds.specs.Sizes.{shape_of, sizes}
 use Rattle.formula_check.specs.Formula.{passed, admit, lengths, lists_handed}
 use Rattle.formula_check.proofs.laws.Admission.{unlike_a, unlike_b, unlike_rows, alike, passed_not, passed_is}
 use Rattle.formula_check.proofs.laws.Admission.{admit_2, admit_3, admit_5, admit_passed}
@@ -24,21 +24,21 @@ pub returns-in_default : goal.returns-in_default
 returns-in_default c =
     let args = c.args in
     admit_2 args.number args.p args.q args.r args.k args.a.now args.b.now args.rows.now
-    (ap known_map c.kind_numbered.ensures ∙ c.known_map.ensures ∙ ap seen_kind c.in_default.is)
+    (ap known_map c.kind_numbered.ensures ∙ c.known_map.ensures ∙ c.in_default.is)
 
 pub returns-in_default-sizes_of : goal.returns-in_default-sizes_of
 returns-in_default-sizes_of c =
     let args = c.args in
     admit_3 args.number args.p args.q args.r args.k args.a.now args.b.now args.rows.now c.in-Is.kind
     (ap known_map c.kind_numbered.ensures
-    ∙ c.known_map.ensures ∙ ap seen_kind c.in-Is.is)
-    (c.sizes_of.ensures ∙ ap seen_sizes c.in_default-sizes_of.is)
+    ∙ c.known_map.ensures ∙ c.in-Is.is)
+    (c.sizes_of.ensures ∙ c.in_default-sizes_of.is)
 
 pub returns-then-a-k : goal.returns-then-a-k
 returns-then-a-k c = (let a = c.args in let z = (let it : (let a = c.args in let kd = c.in-Is.kind in
     (known_map (kind_numbered a.number) ≡ Some kd) × (sizes (shape_of kd a.p a.q a.r) ≡ Some (c.in-Are.n, c.in-Are.m, c.in-Are.u))) = let numbered =
     c.kind_numbered in let Known-map = c.known_map in
-    (ap known_map numbered.ensures ∙ Known-map.ensures ∙ ap seen_kind c.in-Is.is, c.sizes_of.ensures ∙ ap seen_sizes c.in-Are.is) in it) in
+    (ap known_map numbered.ensures ∙ Known-map.ensures ∙ c.in-Is.is, c.sizes_of.ensures ∙ c.in-Are.is) in it) in
     admit_5 a.number a.p a.q a.r a.k a.a.now a.b.now a.rows.now c.in-Is.kind z.0 c.in-Are.n c.in-Are.m c.in-Are.u z.1 (unlike_a _ _ _ _ _
     c.if-a-k.true))
 
@@ -46,7 +46,7 @@ pub returns-then-b-k : goal.returns-then-b-k
 returns-then-b-k c = (let a = c.args in let z = (let it : (let a = c.args in let kd = c.in-Is.kind in
     (known_map (kind_numbered a.number) ≡ Some kd) × (sizes (shape_of kd a.p a.q a.r) ≡ Some (c.in-Are.n, c.in-Are.m, c.in-Are.u))) = let numbered =
     c.kind_numbered in let Known-map = c.known_map in
-    (ap known_map numbered.ensures ∙ Known-map.ensures ∙ ap seen_kind c.in-Is.is, c.sizes_of.ensures ∙ ap seen_sizes c.in-Are.is) in it) in
+    (ap known_map numbered.ensures ∙ Known-map.ensures ∙ c.in-Is.is, c.sizes_of.ensures ∙ c.in-Are.is) in it) in
     admit_5 a.number a.p a.q a.r a.k a.a.now a.b.now a.rows.now c.in-Is.kind z.0 c.in-Are.n c.in-Are.m c.in-Are.u z.1 (unlike_b _ _ _ _ _
     c.if-b-k.true))
 
@@ -54,7 +54,7 @@ pub returns-then-rows-u : goal.returns-then-rows-u
 returns-then-rows-u c = (let a = c.args in let z = (let it : (let a = c.args in let kd = c.in-Is.kind in
     (known_map (kind_numbered a.number) ≡ Some kd) × (sizes (shape_of kd a.p a.q a.r) ≡ Some (c.in-Are.n, c.in-Are.m, c.in-Are.u))) = let numbered =
     c.kind_numbered in let Known-map = c.known_map in
-    (ap known_map numbered.ensures ∙ Known-map.ensures ∙ ap seen_kind c.in-Is.is, c.sizes_of.ensures ∙ ap seen_sizes c.in-Are.is) in it) in
+    (ap known_map numbered.ensures ∙ Known-map.ensures ∙ c.in-Is.is, c.sizes_of.ensures ∙ c.in-Are.is) in it) in
     admit_5 a.number a.p a.q a.r a.k a.a.now a.b.now a.rows.now c.in-Is.kind z.0 c.in-Are.n c.in-Are.m c.in-Are.u z.1 (unlike_rows _ _ _ _ _
     c.if-rows-u.true))
 
@@ -65,7 +65,7 @@ returns-then-e-ne0 c =
     (let a = c.args in let kd = c.in-Is.kind in let z = (let it : (let a = c.args in let kd = c.in-Is.kind in
     (known_map (kind_numbered a.number) ≡ Some kd) × (sizes (shape_of kd a.p a.q a.r) ≡ Some (c.in-Are.n, c.in-Are.m, c.in-Are.u))) = let
     numbered = c.kind_numbered in let Known-map = c.known_map in
-    (ap known_map numbered.ensures ∙ Known-map.ensures ∙ ap seen_kind c.in-Is.is, c.sizes_of.ensures ∙ ap seen_sizes c.in-Are.is) in it) in
+    (ap known_map numbered.ensures ∙ Known-map.ensures ∙ c.in-Is.is, c.sizes_of.ensures ∙ c.in-Are.is) in it) in
     let x : length a.a.now ≡ a.k = omega (arith, c.if-a-k.false) in let y : length a.b.now ≡ a.k = omega (arith, c.if-b-k.false) in
     let w : length a.rows.now ≡ c.in-Are.u = omega (arith, c.if-rows-u.false) in
     admit_passed a.number a.p a.q a.r a.k a.a.now a.b.now a.rows.now kd z.0 c.in-Are.n c.in-Are.m c.in-Are.u z.1 (alike a.k c.in-Are.u a.a.now
@@ -81,7 +81,7 @@ returns c =
     (let a = c.args in let kd = c.in-Is.kind in let z = (let it : (let a = c.args in let kd = c.in-Is.kind in
     (known_map (kind_numbered a.number) ≡ Some kd) × (sizes (shape_of kd a.p a.q a.r) ≡ Some (c.in-Are.n, c.in-Are.m, c.in-Are.u))) = let
     numbered = c.kind_numbered in let Known-map = c.known_map in
-    (ap known_map numbered.ensures ∙ Known-map.ensures ∙ ap seen_kind c.in-Is.is, c.sizes_of.ensures ∙ ap seen_sizes c.in-Are.is) in it) in
+    (ap known_map numbered.ensures ∙ Known-map.ensures ∙ c.in-Is.is, c.sizes_of.ensures ∙ c.in-Are.is) in it) in
     let x : length a.a.now ≡ a.k = omega (arith, c.if-a-k.false) in let y : length a.b.now ≡ a.k = omega (arith, c.if-b-k.false) in
     let w : length a.rows.now ≡ c.in-Are.u = omega (arith, c.if-rows-u.false) in
     admit_passed a.number a.p a.q a.r a.k a.a.now a.b.now a.rows.now kd z.0 c.in-Are.n c.in-Are.m c.in-Are.u z.1 (alike a.k c.in-Are.u a.a.now
