@@ -55,12 +55,7 @@ fn read_whole(s: &[u8], a: &mut [u64], b: &mut [u64], d: &mut [u64]) -> Read
     let Some(kind) = kinds::known_map(known) else {
         return Read::Refused(2);
     };
-    let shape = Shape {
-        kind: kind,
-        p: p,
-        q: q,
-        r: r,
-    };
+    let shape = Shape { kind, p, q, r };
     let Some((n, m, t)) = kinds::sizes_of(shape) else {
         return Read::Refused(3);
     };
