@@ -22,8 +22,6 @@ use Rattle.std.proofs.Math.Arith.{digits_lt, digits_div, digits_mod}
 use Rattle.kinds.specs.Sizes.{given}
 use Rattle.forms.specs.products.Product.{product_form}
 use Rattle.forms.specs.products.laws.Product.{product_below}
-use Rattle.maps.specs.declared.Count.{Count}
-use Rattle.maps.specs.declared.Count.TheVariants as count
 use Rattle.kinds.specs.Limits.{most_generators}
 
 unfoldable pub generator_count : ℕ → ℕ → ℕ
@@ -52,11 +50,6 @@ generator_forms n m = list_of (generator_form n m) 0 (generator_count n m)
 -- refusal 4: "has more than 4,095 forms"
 unfoldable pub count_of : ℕ → ℕ → Option ℕ
 count_of n m = given (leb (generator_count n m) most_generators) (generator_count n m)
-
--- the answer of the code
-abbrev pub seen_count : Count → Option ℕ
-seen_count (count.Is c) = Some c
-seen_count count.Many = None
 
 -- the masks of a generator in n and m variables
 pub record Masks (n m A B : ℕ) : Type 0 where

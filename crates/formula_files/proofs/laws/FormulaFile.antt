@@ -9,7 +9,6 @@ use Rattle.std.proofs.Common.{ap, ◌∙◌, arith, ltb-false}
 use borrow.Author.Rules.{part_to_end}
 use Rattle.kinds.specs.declared.Kind.{Kind}
 use Rattle.kinds.specs.declared.Shape.{Shape}
-use Rattle.kinds.specs.declared.Known.{Known}
 use Rattle.kinds.specs.Kinds.{known_map}
 use Rattle.kinds.specs.Limits.{most_products}
 use Rattle.kinds.specs.Refusal.{Answer, refused, accepted, refuse, follow}
@@ -165,5 +164,5 @@ pub final_formula : (o : Answer Admitted) (shape : Shape) (k : ℕ) (r : Read) (
 final_formula (refused x) shape k r a b d a₁ b₁ d₁ h g l = absurd (let q : ◌≡◌ {A = ℕ} 0 1 = cc in omega arith)
 final_formula (accepted f) shape k r a b d a₁ b₁ d₁ h g l = (sym g ∙ h, l.0, l.1, l.2)
 
-pub head_fit : (x : HeadRead) (kind : Known) (p q r k u n : ℕ) → bytes_head x ≤ n → x ≡ hd.Is kind p q r k u → u ≤ n
+pub head_fit : (x : HeadRead) (kind : Option Kind) (p q r k u n : ℕ) → bytes_head x ≤ n → x ≡ hd.Is kind p q r k u → u ≤ n
 head_fit x kind p q r k u n e h = rw h at e

@@ -3,18 +3,12 @@
 --   head_cut .. head_is     the second line
 --   heads_name .. heads_is  the first two lines
 -- Assumes nothing.
-use Rattle.std.specs.Prelude.{ℕ, ◌+◌, ◌-◌, ◌≡◌, List, length, take, drop, Option, None, Some}
-use Rattle.std.proofs.Common.{ap, ◌∙◌, drop-drop}
-use Rattle.kinds.specs.Kinds.{kind_named, seen_kind}
-use Rattle.kinds.specs.declared.Known.{Known}
+use Rattle.std.specs.Prelude.{ℕ, ◌≡◌, List, Option, None, Some}
+use Rattle.kinds.specs.Kinds.{kind_named}
 use Rattle.text.specs.Reading.{◌>>=◌}
 use Rattle.text.specs.Numeral.{count}
 use Rattle.text.specs.Line.{cut, LF, comma, name_line, count_field}
 use Rattle.text.specs.heads.Head.{head_names, count_fields, head_line, head_lines}
-use Rattle.text.specs.heads.Views.{seen_head}
-use Rattle.text.specs.laws.Line.{read_at}
-use Rattle.text.specs.declared.heads.HeadRead.{HeadRead}
-use Rattle.text.specs.declared.heads.HeadRead.TheVariants as head
 
 pub fields_1 : (s : List ℕ) → count_field s ≡ None → count_fields s ≡ None
 unfolding count_fields
@@ -58,10 +52,3 @@ heads_name s e = rw e
 pub heads_is : (s t : List ℕ) → name_line head_names s ≡ Some t → head_lines s ≡ head_line t
 unfolding head_lines
 heads_is s t e = rw e
-
--- the second line, of the part of s from u on
-pub head_at : (s : List ℕ) (u : ℕ) (x : HeadRead) (kind : Known) (p q r k v : ℕ) → head_line (take (length s - u) (drop u s)) ≡ seen_head (take (length s - u) (drop u s)) x → x ≡ head.Is kind p q r k v
-    → head_line (drop u s) ≡ Some (record { kind = seen_kind kind; p = p; q = q; r = r; k = k }, drop (u + v) s)
-head_at s u x kind p q r k v e h =
-    read_at s u x (head.Is kind p q r k v) head_line seen_head e h
-    ∙ ap (λ (t : List ℕ). Some (record { kind = seen_kind kind; p = p; q = q; r = r; k = k }, t)) (drop-drop v u s)
