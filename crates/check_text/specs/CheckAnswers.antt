@@ -3,8 +3,7 @@
 --   reply_of, bytes_of   == the reply of `gijpsando_check`, and the second string's final content
 -- Document 01: "a second takes what the Check program would print, and the reply is the count of bytes written (always above 35) or a refusal's
 -- number. Too short a second string is refused by 9." Assumes nothing.
-use Rattle.std.specs.Prelude.{cond, List, ℕ, length, ltb}
-use Rattle.std.proofs.Math.Option.{Option, none, some}
+use Rattle.std.specs.Prelude.{cond, List, ℕ, length, ltb, Option, None, Some}
 use Rattle.formula_check.specs.Formula.{Admitted, verdict}
 use Rattle.kinds.specs.Refusal.{Answer, refused, accepted}
 use Rattle.formula_check.specs.declared.verdicts.Verdict.{Verdict}
@@ -13,8 +12,8 @@ use Rattle.check_text.specs.replies.CheckText.{check_text}
 use Rattle.printing.specs.fields.Written.{written_in}
 
 abbrev pub verdict_of : Option ℕ → Verdict
-verdict_of none = said.Right
-verdict_of (some t) = said.Wrong t
+verdict_of None = said.Right
+verdict_of (Some t) = said.Wrong t
 
 abbrev pub admitted_text : Admitted → List ℕ
 admitted_text f = check_text f.shape (length f.firsts) (verdict_of (verdict f).0) (verdict f).1

@@ -8,7 +8,7 @@ ghost use Rattle.kinds.specs.Refusal.{accepted};
 ghost use Rattle.check_text.specs.CheckAnswers.{admitted_text, reply_of, bytes_of};
 ghost use Rattle.formula_check.specs.Buffers.{formula_in, FormulaBuffers};
 
-use kinds::{Shape, Sized};
+use kinds::Shape;
 use words::first_words;
 
 pub mod replies;
@@ -28,7 +28,7 @@ pub fn check_reply(
         × (out.new ≡ bytes_of (accepted (admitted_text (formula_in shape k a.now b.now rows.now)))
         out.old) }
 {
-    let Sized::Are(n, m, outputs) = kinds::sizes_of(shape) else {
+    let Some((n, m, outputs)) = kinds::sizes_of(shape) else {
         return 3;
     };
     let firsts = first_words(a, k as usize);

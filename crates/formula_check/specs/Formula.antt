@@ -11,8 +11,7 @@
 -- Document 01: "A formula has k products, each a pair of masks, and one row per target. It may repeat a product. The reply is right, or wrong
 -- with the first output that differs for some input."
 -- The theorem that ties it to every choice of input bits is in `meaning`. Assumes nothing.
-use Rattle.std.specs.Prelude.{Bool, false, not, ◌&&◌, ◌||◌, cond, List, [], ◌∷◌, ℕ, suc, ◌+◌, length, eqb, ltb}
-use Rattle.std.proofs.Math.Option.{Option, none, some}
+use Rattle.std.specs.Prelude.{Bool, false, not, ◌&&◌, ◌||◌, cond, List, [], ◌∷◌, ℕ, suc, ◌+◌, length, eqb, ltb, Option, None, Some}
 use Rattle.linear.specs.Bit.{bit, xor_b}
 use Rattle.kinds.specs.Kinds.{kind_numbered, known_map}
 use Rattle.kinds.specs.Sizes.{shape_of, sizes}
@@ -35,9 +34,9 @@ formula_output n m (x ∷ xs) (y ∷ ys) row k a b =
 
 -- ---- by forms
 unfoldable pub first_wrong : Shape → (n m : ℕ) → List ℕ → List ℕ → ℕ → Option ℕ
-first_wrong shape n m fs [] t = none
+first_wrong shape n m fs [] t = None
 first_wrong shape n m fs (row ∷ rows) t =
-    cond (eqb (row_form fs row 0) (target_form shape n m t)) (first_wrong shape n m fs rows (suc t)) (some t)
+    cond (eqb (row_form fs row 0) (target_form shape n m t)) (first_wrong shape n m fs rows (suc t)) (Some t)
 
 -- ---- adders: Wish 2, "each distinct a mask once and each distinct b mask once; rows are counted as before"
 abbrev pub adders : (xs ys rows : List ℕ) → ℕ
@@ -83,7 +82,7 @@ unfoldable pub lengths : (k u : ℕ) (xs ys rows : List ℕ) → Bool
 lengths k u xs ys rows = not (eqb (length xs) k) || (not (eqb (length ys) k) || not (eqb (length rows) u))
 
 abbrev pub lists_handed : (k : ℕ) (xs ys rows : List ℕ) → ℕ → Option Lists
-lists_handed k xs ys rows u = cond (lengths k u xs ys rows) none (some (xs, ys, rows))
+lists_handed k xs ys rows u = cond (lengths k u xs ys rows) None (Some (xs, ys, rows))
 
 -- refusal 9, "a lent buffer that must take the whole of an answer is too short"
 abbrev pub too_short : (la lb lr : ℕ) → Admitted → Bool

@@ -6,8 +6,7 @@
 --   Judging ..    == rows for the outputs of a map with accepted sizes, and at most 64 forms
 --   Fitting ..    == as many masks on one side as on the other, at most 64, and such rows
 -- Assumes nothing.
-use Rattle.std.specs.Prelude.{◌≡◌, List, [], ◌∷◌, ℕ, ◌≤◌, length}
-use Rattle.std.proofs.Math.Option.{Option, none, some}
+use Rattle.std.specs.Prelude.{◌≡◌, List, [], ◌∷◌, ℕ, ◌≤◌, length, Option, None, Some}
 use Rattle.kinds.specs.Kinds.{number_of}
 use Rattle.kinds.specs.Sizes.{sizes}
 use Rattle.kinds.specs.Refusal.{Answer, refused, accepted}
@@ -37,8 +36,8 @@ check_numbers (reply.Judged verdict.Right w) = answer_numbers (0 ∷ 0 ∷ w ∷
 check_numbers (reply.Judged (verdict.Wrong t) w) = answer_numbers (1 ∷ t ∷ w ∷ [])
 
 abbrev pub check_values : Option ℕ × ℕ → List ℕ
-check_values (none, w) = 0 ∷ 0 ∷ w ∷ []
-check_values (some t, w) = 1 ∷ t ∷ w ∷ []
+check_values (None, w) = 0 ∷ 0 ∷ w ∷ []
+check_values (Some t, w) = 1 ∷ t ∷ w ∷ []
 
 abbrev pub formula_values : Admitted → List ℕ
 formula_values f = number_of f.shape.kind ∷ f.shape.p ∷ f.shape.q ∷ f.shape.r ∷ length f.firsts ∷ []
@@ -48,10 +47,10 @@ outline (refused e) = refused e
 outline (accepted f) = accepted (f.shape, length f.firsts)
 
 pub record Judging (shape : Shape) (n m : ℕ) (fs rows : List ℕ) : Type 0 where
-  pub sized : sizes shape ≡ some (n, m, length rows)
+  pub sized : sizes shape ≡ Some (n, m, length rows)
   pub few : length fs ≤ most_products
 
 pub record Fitting (shape : Shape) (n m : ℕ) (xs ys rows : List ℕ) : Type 0 where
-  pub sized : sizes shape ≡ some (n, m, length rows)
+  pub sized : sizes shape ≡ Some (n, m, length rows)
   pub paired : length xs ≡ length ys
   pub few : length xs ≤ most_products

@@ -16,7 +16,7 @@ ghost use Rattle.kinds.specs.Numbers.{reply_numbers};
 ghost use Rattle.formula_check.specs.Replies.{seen_admission, seen_reply, check_numbers, check_values, Judging, Fitting};
 ghost use Rattle.formula_check.specs.verdicts.Verdicts.{seen_verdict};
 
-use kinds::{Known, Shape, Sized};
+use kinds::Shape;
 use verdicts::Verdict;
 
 pub mod sides;
@@ -139,25 +139,14 @@ pub fn admit(
     ensures { admit (kind_numbered number) p q r k (lists_handed k a.now b.now rows.now)
         ≡ seen_admission result a.now b.now rows.now }
 {
-    let Known::Is(kind) = kinds::known_map(kinds::kind_numbered(number)) else {
+    let Some(kind) = kinds::known_map(kinds::kind_numbered(number)) else {
         return Admission::Refused(2);
     };
-    let shape = Shape {
-        kind: kind,
-        p: p,
-        q: q,
-        r: r,
-    };
-    let Sized::Are(n, m, u) = kinds::sizes_of(shape) else {
+    let shape = Shape { kind, p, q, r };
+    let Some((n, m, u)) = kinds::sizes_of(shape) else {
         return Admission::Refused(3);
     };
-    if a.len() as u64 != k {
-        return Admission::Refused(5);
-    }
-    if b.len() as u64 != k {
-        return Admission::Refused(5);
-    }
-    if rows.len() as u64 != u {
+    if a.len() as u64 != k || b.len() as u64 != k || rows.len() as u64 != u {
         return Admission::Refused(5);
     }
     let e = refusal(too_wide(n, m, a, b, rows), zero_factor(a, b), a.len());

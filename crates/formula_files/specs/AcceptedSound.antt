@@ -1,9 +1,8 @@
 -- What is accepted is sound.
 --   formula_accepted_sound   a formula that is read is one that is not refused, and the lent buffers take it
 -- Assumes nothing.
-use Rattle.std.specs.Prelude.{ℕ, ◌≤◌, ◌≡◌, List, ◌||◌, ltb, length}
+use Rattle.std.specs.Prelude.{ℕ, ◌≤◌, ◌≡◌, List, ◌||◌, ltb, length, Some}
 use Rattle.std.proofs.Common.{sym, ap, ◌∙◌, subst, ltb-false}
-use Rattle.std.proofs.Math.Option.{some}
 use Rattle.kinds.specs.Limits.{most_products}
 use Rattle.kinds.specs.Refusal.{accepted}
 use Rattle.kinds.specs.laws.Refusal.{neither}
@@ -30,7 +29,7 @@ formula_accepted_sound s la lb lr f e =
     let S : Sound (formula_of (shape_of A.kd G.head.p G.head.q G.head.r) A.n A.m xs ys zs) =
     record {
       not_list = A.is_map;
-      fits = A.sized ∙ ap (λ (t : ℕ). some (A.n, A.m, t)) (sym l.2);
+      fits = A.sized ∙ ap (λ (t : ℕ). Some (A.n, A.m, t)) (sym l.2);
       paired = l.0 ∙ sym l.1;
       few = subst (λ (n : ℕ). n ≤ most_products) (sym l.0) (ltb-false most_products k A.few);
       narrow_firsts = a.0;

@@ -3,8 +3,7 @@
 --                          factors within n and m bits and not zero, rows within as many bits as there are products
 --   BufferRoom f la lb lr == the lent buffers take its products and rows
 -- Assumes nothing.
-use Rattle.std.specs.Prelude.{ℕ, ◌≤◌, ◌≡◌, false, length}
-use Rattle.std.proofs.Math.Option.{some}
+use Rattle.std.specs.Prelude.{ℕ, ◌≤◌, ◌≡◌, false, length, Some}
 use Rattle.kinds.specs.Kinds.{is_list}
 use Rattle.kinds.specs.Limits.{most_products}
 use Rattle.kinds.specs.Sizes.{sizes}
@@ -13,7 +12,7 @@ use Rattle.formula_check.specs.Formula.{Admitted}
 
 pub record Sound (f : Admitted) : Type 0 where
   pub not_list : is_list f.shape.kind ≡ false
-  pub fits : sizes f.shape ≡ some (f.n, f.m, length f.rows)
+  pub fits : sizes f.shape ≡ Some (f.n, f.m, length f.rows)
   pub paired : length f.firsts ≡ length f.seconds
   pub few : length f.firsts ≤ most_products
   pub narrow_firsts : wide f.n f.firsts ≡ false

@@ -10,7 +10,7 @@ ghost use Rattle.formula_files.specs.Lent.{formula_reply, formula_read_numbers, 
 ghost use Rattle.kinds.specs.Numbers.{reply_numbers};
 ghost use Rattle.formula_check.specs.Replies.{formula_values};
 
-use kinds::{Known, Shape, Sized};
+use kinds::Shape;
 use lines::BodyRead;
 use text::heads::HeadRead;
 
@@ -52,16 +52,11 @@ fn read_whole(s: &[u8], a: &mut [u64], b: &mut [u64], d: &mut [u64]) -> Read
     let HeadRead::Is(known, p, q, r, k, used) = text::heads::head_lines(s) else {
         return Read::Refused(1);
     };
-    let Known::Is(kind) = kinds::known_map(known) else {
+    let Some(kind) = kinds::known_map(known) else {
         return Read::Refused(2);
     };
-    let shape = Shape {
-        kind: kind,
-        p: p,
-        q: q,
-        r: r,
-    };
-    let Sized::Are(n, m, t) = kinds::sizes_of(shape) else {
+    let shape = Shape { kind, p, q, r };
+    let Some((n, m, t)) = kinds::sizes_of(shape) else {
         return Read::Refused(3);
     };
     let e = read_under(

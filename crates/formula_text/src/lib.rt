@@ -14,7 +14,7 @@ ghost use Rattle.formula_text.specs.BodyText.{products_text, rows_text};
 ghost use Rattle.formula_text.specs.FileText.{formula_text, file_text, FormulaAsked};
 ghost use Rattle.formula_check.specs.Buffers.{formula_in, FormulaBuffers};
 
-use kinds::{Shape, Sized};
+use kinds::Shape;
 use words::first_words;
 
 // A comma and a count of up to four digits from place `at` on, as far as there is room; the place after them.
@@ -129,7 +129,7 @@ pub fn print_formula(
     requires { FormulaBuffers shape k a.now b.now rows.now × (length page.old ≡ formula_page) }
     ensures { (take result page.new ≡ file_text (formula_in shape k a.now b.now rows.now)) × (result ≤ formula_page) }
 {
-    let Sized::Are(_, _, outputs) = kinds::sizes_of(shape) else {
+    let Some((_, _, outputs)) = kinds::sizes_of(shape) else {
         return 0;
     };
     put_formula(

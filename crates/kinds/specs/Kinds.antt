@@ -9,13 +9,11 @@
 --   handed k c     == how many forms or costs a call or file hands in where a list hands in c: none for the other kinds
 --   known_map o     == the kind, if it is known and not the list
 -- Document 01: poly, short, circ, mat, list. Document 02: mid. Assumes nothing.
-use Rattle.std.specs.Prelude.{◌≡◌, refl, Bool, true, false, ◌&&◌, cond, List, [], ◌∷◌, ℕ, ◌≤◌, length, eqb}
-use Rattle.std.proofs.Math.Option.{Option, none, some}
+use Rattle.std.specs.Prelude.{◌≡◌, refl, Bool, true, false, ◌&&◌, cond, List, [], ◌∷◌, ℕ, ◌≤◌, length, eqb, Option, None, Some}
+use Rattle.std.specs.List.{find}
 use Rattle.std.proofs.Common.{arith}
 use Rattle.kinds.specs.declared.Kind.{Kind}
 use Rattle.kinds.specs.declared.Kind.TheVariants as kind
-use Rattle.kinds.specs.declared.Known.{Known}
-use Rattle.kinds.specs.declared.Known.TheVariants as found
 
 pub record Entry : Type 0 where
   pub number : ℕ
@@ -57,15 +55,10 @@ handed k c = cond (is_list k) c 0
 abbrev pub kinds : List Kind
 kinds = kind.Poly ∷ kind.Short ∷ kind.Circ ∷ kind.Mat ∷ kind.List ∷ kind.Mid ∷ []
 
--- the first of some kinds that passes a test
-abbrev pub first_kind : (Kind → Bool) → List Kind → Option Kind
-first_kind p [] = none
-first_kind p (k ∷ l) = cond (p k) (some k) (first_kind p l)
-
 unfoldable pub kind_numbered : ℕ → Option Kind
-kind_numbered x = first_kind (λ k. eqb (number_of k) x) kinds
+kind_numbered x = find (λ k. eqb (number_of k) x) kinds
 
-pub kind_numbered_law : (kd : Kind) → kind_numbered (number_of kd) ≡ some kd
+pub kind_numbered_law : (kd : Kind) → kind_numbered (number_of kd) ≡ Some kd
 unfolding kind_numbered
 kind_numbered_law kind.Poly = refl
 kind_numbered_law kind.Short = refl
@@ -82,9 +75,9 @@ same (x ∷ s) [] = false
 same (x ∷ s) (y ∷ t) = eqb x y && same s t
 
 abbrev pub kind_named : List ℕ → Option Kind
-kind_named s = first_kind (λ k. same (name_of k) s) kinds
+kind_named s = find (λ k. same (name_of k) s) kinds
 
-pub kind_named_law : (k : Kind) → kind_named (name_of k) ≡ some k
+pub kind_named_law : (k : Kind) → kind_named (name_of k) ≡ Some k
 kind_named_law kind.Poly = refl
 kind_named_law kind.Short = refl
 kind_named_law kind.Circ = refl
@@ -94,10 +87,5 @@ kind_named_law kind.Mid = refl
 
 -- a kind that has formulae. Refusal 2: "The kind .. is unknown, or is list where a formula is sent."
 abbrev pub known_map : Option Kind → Option Kind
-known_map none = none
-known_map (some k) = cond (is_list k) none (some k)
-
--- the answer of the code
-abbrev pub seen_kind : Known → Option Kind
-seen_kind (found.Is k) = some k
-seen_kind found.No = none
+known_map None = None
+known_map (Some k) = cond (is_list k) None (Some k)

@@ -14,16 +14,15 @@
 --   5 lines or lists of the wrong number or shape       11 a selection's numbers
 --   6 a bit outside the width                           12 a product is used by no row; in the turning, before 9
 -- Assumes nothing.
-use Rattle.std.specs.Prelude.{Bool, true, false, ℕ, zero, suc, min}
-use Rattle.std.proofs.Math.Option.{Option, none, some}
+use Rattle.std.specs.Prelude.{Bool, true, false, ℕ, zero, suc, min, Option, None, Some}
 
 pub data Answer (A : Type 0) : Type 0 where
   refused : ℕ → Answer A
   accepted : A → Answer A
 
 abbrev pub need : {A B : Type 0} → ℕ → Option A → (A → Answer B) → Answer B
-need e none f = refused e
-need e (some a) f = f a
+need e None f = refused e
+need e (Some a) f = f a
 
 abbrev pub refuse : {A : Type 0} → ℕ → Bool → Answer A → Answer A
 refuse e true o = refused e

@@ -4,19 +4,16 @@
 --   shape_of kind p q r == the kind with its sizes
 --   sizes shape        == n, m and the number of outputs. For list, whose forms have p bits and no factors, n is p and m is 1.
 -- Assumes nothing.
-use Rattle.std.specs.Prelude.{Bool, true, false, ◌&&◌, ℕ, ◌+◌, ◌-◌, ◌*◌, leb, eqb}
-use Rattle.std.proofs.Math.Option.{Option, none, some}
+use Rattle.std.specs.Prelude.{Bool, true, false, ◌&&◌, ℕ, ◌+◌, ◌-◌, ◌*◌, leb, eqb, Option, None, Some}
 use Rattle.kinds.specs.Limits.{most_coordinates}
 use Rattle.kinds.specs.declared.Kind.{Kind}
 use Rattle.kinds.specs.declared.Kind.TheVariants as kind
 use Rattle.kinds.specs.declared.Shape.{Shape}
-use Rattle.kinds.specs.declared.Sized.{Sized}
-use Rattle.kinds.specs.declared.Sized.TheVariants as sized
 
 -- a value where the test holds
 abbrev pub given : {A : Type 0} → Bool → A → Option A
-given true x = some x
-given false x = none
+given true x = Some x
+given false x = None
 
 -- x and y at least 1, and x × y at most 64
 unfoldable pub within : ℕ → ℕ → Bool
@@ -55,8 +52,3 @@ shape_of k p q r = record { kind = k; p = p; q = q; r = r }
 
 abbrev pub sizes : Shape → Option (ℕ × ℕ × ℕ)
 sizes shape = sizes_for shape.kind shape.p shape.q shape.r
-
--- the answer of the code
-abbrev pub seen_sizes : Sized → Option (ℕ × ℕ × ℕ)
-seen_sizes (sized.Are n m t) = some (n, m, t)
-seen_sizes sized.No = none

@@ -1,3 +1,2 @@
--- A kind's name in the code, and the laws of names.
-pub mod Name
+-- The laws of names.
 pub mod laws

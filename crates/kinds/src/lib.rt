@@ -4,8 +4,8 @@
 #![tactic(auto)]
 
 ghost use Rattle.std.specs.Prelude.{◌≡◌};
-ghost use Rattle.kinds.specs.Kinds.{number_of, kind_numbered, is_list, handed, known_map, seen_kind};
-ghost use Rattle.kinds.specs.Sizes.{within, poly_sizes, square_sizes, mat_sizes, list_sizes, mid_sizes, sizes, seen_sizes};
+ghost use Rattle.kinds.specs.Kinds.{number_of, kind_numbered, is_list, handed, known_map};
+ghost use Rattle.kinds.specs.Sizes.{within, poly_sizes, square_sizes, mat_sizes, list_sizes, mid_sizes, sizes};
 
 pub mod names;
 
@@ -23,7 +23,7 @@ pub const COST: u64 = 65535;
 pub const COST_BITS: u64 = 16;
 
 // Document 01's kinds, then those of document 02.
-#[derive(Clone, Copy)]
+#[derive(Clone, Copy, PartialEq, Eq)]
 pub enum Kind {
     Poly,
     Short,
@@ -33,11 +33,15 @@ pub enum Kind {
     Mid,
 }
 
-#[derive(Clone, Copy)]
-pub enum Known {
-    Is(Kind),
-    No,
-}
+// The kinds in the order of their numbers.
+const KINDS: [Kind; 6] = [
+    Kind::Poly,
+    Kind::Short,
+    Kind::Circ,
+    Kind::Mat,
+    Kind::List,
+    Kind::Mid,
+];
 
 // The number by which a caller names the kind.
 pub fn number_of(kind: Kind) -> u64
@@ -53,18 +57,18 @@ pub fn number_of(kind: Kind) -> u64
     }
 }
 
-// The kind with that number; `No` is refusal 2.
-pub fn kind_numbered(number: u64) -> Known
-    ensures { kind_numbered number ≡ seen_kind result }
+// The kind with that number; `None` is refusal 2.
+pub fn kind_numbered(number: u64) -> Option<Kind>
+    ensures { kind_numbered number ≡ result }
 {
     match number {
-        0 => Known::Is(Kind::Poly),
-        1 => Known::Is(Kind::Short),
-        2 => Known::Is(Kind::Circ),
-        3 => Known::Is(Kind::Mat),
-        4 => Known::Is(Kind::List),
-        5 => Known::Is(Kind::Mid),
-        _ => Known::No,
+        0 => Some(Kind::Poly),
+        1 => Some(Kind::Short),
+        2 => Some(Kind::Circ),
+        3 => Some(Kind::Mat),
+        4 => Some(Kind::List),
+        5 => Some(Kind::Mid),
+        _ => None,
     }
 }
 
@@ -72,14 +76,7 @@ pub fn kind_numbered(number: u64) -> Known
 pub fn is_list(kind: Kind) -> bool
     ensures { result ≡ is_list kind }
 {
-    match kind {
-        Kind::Poly => false,
-        Kind::Short => false,
-        Kind::Circ => false,
-        Kind::Mat => false,
-        Kind::List => true,
-        Kind::Mid => false,
-    }
+    matches!(kind, Kind::List)
 }
 
 // How many forms or costs are handed in, where a list hands in c.
@@ -89,18 +86,11 @@ pub fn handed(kind: Kind, c: u64) -> u64
     if is_list(kind) { c } else { 0 }
 }
 
-// The kind, if it is known and has formulae; `No` is refusal 2 of a formula.
-pub fn known_map(known: Known) -> Known
-    ensures { known_map (seen_kind known) ≡ seen_kind result }
+// The kind, if it is known and has formulae; `None` is refusal 2 of a formula.
+pub fn known_map(known: Option<Kind>) -> Option<Kind>
+    ensures { known_map known ≡ result }
 {
-    let Known::Is(kind) = known else {
-        return Known::No;
-    };
-    if is_list(kind) {
-        Known::No
-    } else {
-        Known::Is(kind)
-    }
+    known.filter(|kind| !is_list(*kind))
 }
 
 // A kind with its sizes p, q and r: what a caller names.
@@ -112,119 +102,82 @@ pub struct Shape {
     pub r: u64,
 }
 
-// n, m and the number of outputs; `No` is refusal 3.
-#[derive(Clone, Copy)]
-pub enum Sized {
-    Are(u64, u64, u64),
-    No,
-}
-
 // Whether x and y are at least 1 and their product is at most 64.
 fn fits(x: u64, y: u64) -> bool
     ensures { result ≡ within x y }
 {
-    if x == 0 {
-        return false;
-    }
-    if y == 0 {
+    if x == 0 || y == 0 {
         return false;
     }
     y <= COORDINATES / x
 }
 
-fn poly_sizes(p: u64, q: u64, r: u64) -> Sized
-    ensures { poly_sizes p q r ≡ seen_sizes result }
+fn poly_sizes(p: u64, q: u64, r: u64) -> Option<(u64, u64, u64)>
+    ensures { poly_sizes p q r ≡ result }
 {
-    if r != 0 {
-        return Sized::No;
+    if r != 0 || !fits(p, q) {
+        return None;
     }
-    if fits(p, q) {
-        Sized::Are(p, q, p + q - 1)
-    } else {
-        Sized::No
-    }
+    Some((p, q, p + q - 1))
 }
 
-fn square_sizes(p: u64, q: u64, r: u64) -> Sized
-    ensures { square_sizes p q r ≡ seen_sizes result }
+fn square_sizes(p: u64, q: u64, r: u64) -> Option<(u64, u64, u64)>
+    ensures { square_sizes p q r ≡ result }
 {
-    if r != 0 {
-        return Sized::No;
+    if r != 0 || p != q || !fits(p, q) {
+        return None;
     }
-    if p != q {
-        return Sized::No;
-    }
-    if fits(p, q) {
-        Sized::Are(p, q, p)
-    } else {
-        Sized::No
-    }
+    Some((p, q, p))
 }
 
 // The two products are looked at before they are multiplied, so that nothing overflows.
-fn mat_sizes(p: u64, q: u64, r: u64) -> Sized
-    ensures { mat_sizes p q r ≡ seen_sizes result }
+fn mat_sizes(p: u64, q: u64, r: u64) -> Option<(u64, u64, u64)>
+    ensures { mat_sizes p q r ≡ result }
 {
-    if !fits(p, q) {
-        return Sized::No;
-    }
-    if !fits(q, r) {
-        return Sized::No;
+    if !fits(p, q) || !fits(q, r) {
+        return None;
     }
     let n = p * q;
     let m = q * r;
-    if fits(n, m) {
-        Sized::Are(n, m, p * r)
-    } else {
-        Sized::No
+    if !fits(n, m) {
+        return None;
     }
+    Some((n, m, p * r))
 }
 
-fn list_sizes(p: u64, q: u64, r: u64) -> Sized
-    ensures { list_sizes p q r ≡ seen_sizes result }
+fn list_sizes(p: u64, q: u64, r: u64) -> Option<(u64, u64, u64)>
+    ensures { list_sizes p q r ≡ result }
 {
-    if q == 0 {
-        return Sized::No;
+    if q == 0 || !fits(p, 1) || !fits(r, 1) {
+        return None;
     }
-    if !fits(p, 1) {
-        return Sized::No;
-    }
-    if fits(r, 1) {
-        Sized::Are(p, 1, r)
-    } else {
-        Sized::No
-    }
+    Some((p, 1, r))
 }
 
 // p is doubled once it is known to be small, so that nothing overflows.
-fn mid_sizes(p: u64, q: u64, r: u64) -> Sized
-    ensures { mid_sizes p q r ≡ seen_sizes result }
+fn mid_sizes(p: u64, q: u64, r: u64) -> Option<(u64, u64, u64)>
+    ensures { mid_sizes p q r ≡ result }
 {
-    if r != 0 {
-        return Sized::No;
-    }
-    if !fits(p, q) {
-        return Sized::No;
+    if r != 0 || !fits(p, q) {
+        return None;
     }
     let m = 2 * p - 1;
-    if q == m {
-        Sized::Are(p, m, p)
-    } else {
-        Sized::No
+    if q != m {
+        return None;
     }
+    Some((p, m, p))
 }
 
-// The sizes of a map of that shape.
-pub fn sizes_of(shape: Shape) -> Sized
-    ensures { sizes shape ≡ seen_sizes result }
+// n, m and the number of outputs of a map of that shape; `None` is refusal 3.
+pub fn sizes_of(shape: Shape) -> Option<(u64, u64, u64)>
+    ensures { sizes shape ≡ result }
 {
-    let kind = shape.kind;
+    let Shape { kind, p, q, r } = shape;
     match kind {
-        Kind::Poly => poly_sizes(shape.p, shape.q, shape.r),
-        Kind::Short => square_sizes(shape.p, shape.q, shape.r),
-        Kind::Circ => square_sizes(shape.p, shape.q, shape.r),
-        Kind::Mat => mat_sizes(shape.p, shape.q, shape.r),
-        Kind::List => list_sizes(shape.p, shape.q, shape.r),
-        Kind::Mid => mid_sizes(shape.p, shape.q, shape.r),
+        Kind::Poly => poly_sizes(p, q, r),
+        Kind::Short | Kind::Circ => square_sizes(p, q, r),
+        Kind::Mat => mat_sizes(p, q, r),
+        Kind::List => list_sizes(p, q, r),
+        Kind::Mid => mid_sizes(p, q, r),
     }
 }

@@ -12,9 +12,8 @@
 --   rank_formula, rank_exactly, rank_above, rank_beyond, rank_at_equal_prices
 --                                                            what Rank says: never one product too many, none cheaper, and when it says no number
 -- Assumes nothing.
-use Rattle.std.specs.Prelude.{◌≡◌, ◌⊎◌, ◌↔◌, false, ℕ, suc, ◌+◌, ◌-◌, ◌*◌, ◌^◌, ◌<◌, ◌≤◌, length, get_or}
+use Rattle.std.specs.Prelude.{◌≡◌, ◌⊎◌, ◌↔◌, false, ℕ, suc, ◌+◌, ◌-◌, ◌*◌, ◌^◌, ◌<◌, ◌≤◌, length, get_or, Some}
 use mathlib.Core.List.{List, [], ◌∷◌, map, Memᴰ}
-use Rattle.std.proofs.Math.Option.{some}
 use Rattle.std.proofs.Common.{arith}
 use Rattle.linear.specs.Space.{Space}
 use Rattle.linear.specs.Span.{combination, Span, Within, SameSpan, Independent}
@@ -199,7 +198,7 @@ module _ (S : Space) (gens targets : List S.Vec) where
     pub cheapest_of_a_space : (W : List Vec) → Reduced S W → Within S W (generators_in S gens W)
         → Formula S gens W (cheapest_in S gens (by_price base prices) W)
         × ((fs : List ℕ) → Formula S gens W fs → precedes prices fs (cheapest_in S gens (by_price base prices) W) ≡ false)
-        × (cheapest prices (formulae S gens W) ≡ some (cheapest_in S gens (by_price base prices) W))
+        × (cheapest prices (formulae S gens W) ≡ Some (cheapest_in S gens (by_price base prices) W))
     cheapest_of_a_space W ρ h = (
       cheapest_in_formula S gens prices base all wide W ρ h,
       λ fs F. precedes_no prices fs (cheapest_in S gens (by_price base prices) W) (cheapest_in_first S gens prices base all wide W ρ h fs F),
@@ -213,7 +212,7 @@ module _ (S : Space) (gens targets : List S.Vec) where
 
   -- The cheapest of some choices is one of them that no other precedes, and there is one wherever there is a choice.
   pub cheapest_exactly : (prices : List ℕ) (l : List (List ℕ)) (es : List ℕ)
-      → (cheapest prices l ≡ some es) ↔ (Memᴰ es l × ((fs : List ℕ) → Memᴰ fs l → precedes prices fs es ≡ false))
+      → (cheapest prices l ≡ Some es) ↔ (Memᴰ es l × ((fs : List ℕ) → Memᴰ fs l → precedes prices fs es ≡ false))
   cheapest_exactly prices l es = (
     λ e. let c = cheapest_is prices l es e in (c.member, λ fs m. precedes_no prices fs es (c.first fs m)),
     λ (m, h). cheapest_only prices l es (record { member = m; first = λ fs n. no_precedes prices fs es (h fs n) }),
@@ -250,5 +249,5 @@ module _ (S : Space) (gens targets : List S.Vec) where
     -- Where all generators cost the same, what it says is the first formula of the first entry for r.
     pub rank_at_equal_prices : ((i j : ℕ) → i < length gens → j < length gens → get_or prices i 0 ≡ get_or prices j 0)
         → (fs : List ℕ) → fewest S gens targets prices ≡ formula fs
-        → (es : List ℕ) × (first (entries S gens targets (length fs)) ≡ some es) × (first (formulae S gens (space S gens targets es)) ≡ some fs)
+        → (es : List ℕ) × (first (entries S gens targets (length fs)) ≡ Some es) × (first (formulae S gens (space S gens targets es)) ≡ Some fs)
     rank_at_equal_prices = equal_prices S gens targets prices

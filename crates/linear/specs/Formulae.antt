@@ -7,9 +7,8 @@
 --   Formula W es           == es are the numbers of a formula of the space W: as many as its dimensions, rising, independent, spanning it
 --   RankFormula fs         == what is true of the formula that Rank says
 -- The theorems are in `Theorems`. Assumes nothing.
-use Rattle.std.specs.Prelude.{◌≡◌, ◌⊎◌, Bool, not, cond, ℕ, zero, suc, ◌+◌, ◌<◌, ◌≤◌, length}
+use Rattle.std.specs.Prelude.{◌≡◌, ◌⊎◌, Bool, not, cond, ℕ, zero, suc, ◌+◌, ◌<◌, ◌≤◌, length, Option, None, Some}
 use mathlib.Core.List.{List, [], ◌∷◌, Memᴰ}
-use Rattle.std.proofs.Math.Option.{Option, none, some}
 use Rattle.linear.specs.Space.{Space}
 use Rattle.linear.specs.Span.{Independent, SameSpan}
 use Rattle.linear.specs.Basis.{basis_of, dim}
@@ -22,12 +21,12 @@ use Rattle.linear.specs.Prices.{total, cheapest}
 
 -- the first of a list, and a second choice where there is no first
 abbrev pub first : {A : Type 0} → List A → Option A
-first [] = none
-first (x ∷ l) = some x
+first [] = None
+first (x ∷ l) = Some x
 
 abbrev pub or_else : {A : Type 0} → Option A → Option A → Option A
-or_else (some x) y = some x
-or_else none y = y
+or_else (Some x) y = Some x
+or_else None y = y
 
 pub data Fewest : Type 0 where
   formula : List ℕ → Fewest
@@ -36,8 +35,8 @@ pub data Fewest : Type 0 where
 
 -- what Rank says of the formula that it found first, counting dimensions up
 abbrev pub first_formula : Option (List ℕ) → Fewest
-first_formula none = above
-first_formula (some fs) = formula fs
+first_formula None = above
+first_formula (Some fs) = formula fs
 
 module _ (S : Space) (gens : List S.Vec) where
   open S use {Vec}
@@ -57,7 +56,7 @@ module _ (S : Space) (gens : List S.Vec) where
 
     module _ (prices : List ℕ) where
       unfoldable pub least_from : ℕ → ℕ → Option (List ℕ)
-      least_from zero k = none
+      least_from zero k = None
       least_from (suc n) k = or_else (cheapest prices (all_formulae k)) (least_from n (suc k))
 
       -- Document 02: "Rank's formula becomes the cheapest among all formulae with r products in any entry, the dictionary_first among equals."

@@ -7,9 +7,8 @@
 --   along ok C js         == of the numbers js in order each that passes the test and whose generator is not in the span of C and what is taken
 --   cheapest_in js W       == the numbers taken along js inside the space W, ascending
 -- Document 02: "the cheapest among all formulae with r products in any entry, the dictionary_first among equals".
--- Laws: laws/Prices, laws/Greedy (`along`), laws/Cheapest. Assumes nothing.
-use Rattle.std.specs.Prelude.{Bool, true, false, cond, ◌&&◌, ◌||◌, List, [], ◌∷◌, map, ℕ, suc, ◌+◌, ◌*◌, ◌%◌, get_or, eqb, ltb}
-use Rattle.std.proofs.Math.Option.{Option, none, some}
+-- Laws: proofs/laws/Prices, proofs/laws/Greedy (`along`), proofs/laws/Cheapest. Assumes nothing.
+use Rattle.std.specs.Prelude.{Bool, true, false, cond, ◌&&◌, ◌||◌, List, [], ◌∷◌, map, ℕ, suc, ◌+◌, ◌*◌, ◌%◌, get_or, eqb, ltb, Option, None, Some}
 use Rattle.linear.specs.Space.{Space}
 use Rattle.linear.specs.Basis.{insert}
 use Rattle.linear.specs.Entry.{inside, generator}
@@ -32,15 +31,15 @@ module _ (prices : List ℕ) where
 
   -- the better of what is held, if anything is, and one more
   unfoldable pub cheaper : Option (List ℕ) → List ℕ → Option (List ℕ)
-  cheaper none es = some es
-  cheaper (some fs) es = some (cond (precedes es fs) es fs)
+  cheaper None es = Some es
+  cheaper (Some fs) es = Some (cond (precedes es fs) es fs)
 
   unfoldable pub cheapest_from : Option (List ℕ) → List (List ℕ) → Option (List ℕ)
   cheapest_from held [] = held
   cheapest_from held (es ∷ l) = cheapest_from (cheaper held es) l
 
   abbrev pub cheapest : List (List ℕ) → Option (List ℕ)
-  cheapest l = cheapest_from none l
+  cheapest l = cheapest_from None l
 
 -- a generator's cost and its number in one: cost × base + number
 unfoldable pub price_keys : ℕ → ℕ → List ℕ → List ℕ

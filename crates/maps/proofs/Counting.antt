@@ -8,7 +8,7 @@
 --   numbered_mask          of a number of a menu that is not refused the masks can be made
 -- Assumes nothing.
 use mathlib.Core.Path.{◌≡◌, refl, sym, ap, ap₂, ◌∙◌}
-use mathlib.Core.Option.{none, some}
+use Rattle.std.specs.Prelude.{None, Some}
 use Prim.Native.Nat.{ℕ, zero, suc, ◌-◌, ◌*◌, ◌%◌, ◌^◌, ◌<◌, ◌≤◌}
 use native.Mathlib.Nat.{mul-le-mul, mul-zero, zero-mul}
 use native.Mathlib.Decide.{dec_le}
@@ -23,11 +23,11 @@ use Rattle.maps.specs.Generators.{generator_count, count_of, Numbered, MaskNumbe
 use Rattle.kinds.specs.Limits.{most_generators}
 
 module _ (n m : ℕ) where
-  pub count_is : (c : ℕ) → c ≡ generator_count n m → c ≤ most_generators → count_of n m ≡ some c
+  pub count_is : (c : ℕ) → c ≡ generator_count n m → c ≤ most_generators → count_of n m ≡ Some c
   unfolding count_of
-  count_is c e h = given_yes (leb (generator_count n m) most_generators) (generator_count n m) (le-leb (generator_count n m) most_generators (omega arith)) ∙ ap some (sym e)
+  count_is c e h = given_yes (leb (generator_count n m) most_generators) (generator_count n m) (le-leb (generator_count n m) most_generators (omega arith)) ∙ ap Some (sym e)
 
-  pub count_many : most_generators < generator_count n m → count_of n m ≡ none
+  pub count_many : most_generators < generator_count n m → count_of n m ≡ None
   unfolding count_of
   count_many h = given_no (leb (generator_count n m) most_generators) (generator_count n m) (λ e. let l = leb-true (generator_count n m) most_generators e in omega arith)
 

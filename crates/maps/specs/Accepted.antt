@@ -5,9 +5,8 @@
 --   accepted_terms         an accepted output can be tested at each of its n × m pairs
 --   accepted_in_table, accepted_square   of poly p,p, size and output stand in the table of squares, and the target form is that of the table
 -- Assumes nothing.
-use Rattle.std.specs.Prelude.{◌≡◌, ℕ, ◌+◌, ◌-◌, ◌*◌, ◌/◌, ◌%◌, ◌<◌, ◌≤◌}
+use Rattle.std.specs.Prelude.{◌≡◌, ℕ, ◌+◌, ◌-◌, ◌*◌, ◌/◌, ◌%◌, ◌<◌, ◌≤◌, Some}
 use Rattle.std.proofs.Common.{sym, ap, ap₂, ◌∙◌, subst, div-le_self, mul-le-mul, arith}
-use Rattle.std.proofs.Math.Option.{some}
 use Rattle.std.proofs.Math.Nat.{mod-le}
 use Rattle.std.proofs.Math.Decide.{dec_le}
 use Rattle.kinds.specs.declared.Kind.{Kind}
@@ -21,7 +20,7 @@ use Rattle.maps.specs.Squares.{InTable}
 -- Document 01's table: "for t below n + m − 1", "t below n"; document 02: "output t below n"; a size that misfits is refusal 3
 pub record Accepted (shape : Shape) (n m t : ℕ) : Type 0 where
   pub outputs : ℕ
-  pub sized : sizes shape ≡ some (n, m, outputs)
+  pub sized : sizes shape ≡ Some (n, m, outputs)
   pub asked : t < outputs
 
 -- no divisor is 0, nothing is taken from 0, and sums are small
@@ -36,7 +35,7 @@ pub record Terms (shape : Shape) (t i j : ℕ) : Type 0 where
 
 -- ---- what sizes that fit say, kind by kind
 module _ (p q r : ℕ) (z : ℕ × ℕ × ℕ) where
-  matrix_pos : mat_sizes p q r ≡ some z → MatWithin p q r
+  matrix_pos : mat_sizes p q r ≡ Some z → MatWithin p q r
   unfolding mat_sizes
   matrix_pos h = mat_within p q r (given_some (within (p * q) (q * r)) (p * q, q * r, p * r) z h).0
 
@@ -44,8 +43,8 @@ module _ (shape : Shape) (n m t : ℕ) (A : Accepted shape n m t) where
   pub accepted_fits : Within n m
   accepted_fits = (sizes_bounds shape (n, m, A.outputs) A.sized).fits
 
-  sized_as : (k : Kind) → shape.kind ≡ k → sizes_for k shape.p shape.q shape.r ≡ some (n, m, A.outputs)
-  sized_as k e = subst (λ (x : Kind). sizes_for x shape.p shape.q shape.r ≡ some (n, m, A.outputs)) e A.sized
+  sized_as : (k : Kind) → shape.kind ≡ k → sizes_for k shape.p shape.q shape.r ≡ Some (n, m, A.outputs)
+  sized_as k e = subst (λ (x : Kind). sizes_for x shape.p shape.q shape.r ≡ Some (n, m, A.outputs)) e A.sized
 
   matrix_of : shape.kind ≡ kind.Mat → MatWithin shape.p shape.q shape.r
   matrix_of e = matrix_pos shape.p shape.q shape.r (n, m, A.outputs) (sized_as kind.Mat e)
@@ -71,7 +70,7 @@ root p h = go (dec_le p 8)
     go (yes l) = l
     go (no l) = absurd (let g : 9 * 9 ≤ p * p = (let b : 9 ≤ p = omega arith in mul-le-mul b b) in omega arith)
 
-module _ (p q r n m u t : ℕ) (h : poly_sizes p q r ≡ some (n, m, u)) (e : p ≡ q) where
+module _ (p q r n m u t : ℕ) (h : poly_sizes p q r ≡ Some (n, m, u)) (e : p ≡ q) where
   facts : (r ≡ 0) × Within p q × (◌≡◌ {A = ℕ × ℕ × ℕ} (p, q, p + q - 1) (n, m, u))
   facts = poly_some p q r (n, m, u) h
 
@@ -89,7 +88,7 @@ module _ (p q r n m u t : ℕ) (h : poly_sizes p q r ≡ some (n, m, u)) (e : p 
       ap₂ (λ (x y : ℕ). target_form (shape_of kind.Poly p x y) n m t) (sym e) facts.0 ∙ ap₂ (λ (x y : ℕ). target_form (shape_of kind.Poly p p 0) x y t) N M
 
 module _ (shape : Shape) (n m t : ℕ) (A : Accepted shape n m t) (K : shape.kind ≡ kind.Poly) (e : shape.p ≡ shape.q) where
-  as_poly : poly_sizes shape.p shape.q shape.r ≡ some (n, m, A.outputs)
+  as_poly : poly_sizes shape.p shape.q shape.r ≡ Some (n, m, A.outputs)
   as_poly = sized_as shape n m t A kind.Poly K
 
   pub accepted_in_table : InTable shape.p t

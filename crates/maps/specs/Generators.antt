@@ -16,15 +16,12 @@
 --   length_list_of, at_list_of   a list so made has c members, and f (i + j) at j
 --   forms_length, forms_at   the list has as many forms as there are generators, and the form of generator j at j
 -- Assumes nothing.
-use Rattle.std.specs.Prelude.{◌≡◌, refl, List, [], ◌∷◌, ℕ, zero, suc, ◌+◌, ◌-◌, ◌*◌, ◌/◌, ◌%◌, ◌^◌, ◌<◌, ◌≤◌, leb, length, get_or}
+use Rattle.std.specs.Prelude.{◌≡◌, refl, List, [], ◌∷◌, ℕ, zero, suc, ◌+◌, ◌-◌, ◌*◌, ◌/◌, ◌%◌, ◌^◌, ◌<◌, ◌≤◌, leb, length, get_or, Option, None, Some}
 use Rattle.std.proofs.Common.{sym, ap, ap₂, ◌∙◌, subst, div-add-mod', div-lt_iff_lt-mul, mod-lt, mul-zero, add-zero, add-suc, suc-add, zero-add, arith}
-use Rattle.std.proofs.Math.Option.{Option, none, some}
 use Rattle.std.proofs.Math.Arith.{digits_lt, digits_div, digits_mod}
 use Rattle.kinds.specs.Sizes.{given}
 use Rattle.forms.specs.products.Product.{product_form}
 use Rattle.forms.specs.products.laws.Product.{product_below}
-use Rattle.maps.specs.declared.Count.{Count}
-use Rattle.maps.specs.declared.Count.TheVariants as count
 use Rattle.kinds.specs.Limits.{most_generators}
 
 unfoldable pub generator_count : ℕ → ℕ → ℕ
@@ -53,11 +50,6 @@ generator_forms n m = list_of (generator_form n m) 0 (generator_count n m)
 -- refusal 4: "has more than 4,095 forms"
 unfoldable pub count_of : ℕ → ℕ → Option ℕ
 count_of n m = given (leb (generator_count n m) most_generators) (generator_count n m)
-
--- the answer of the code
-abbrev pub seen_count : Count → Option ℕ
-seen_count (count.Is c) = some c
-seen_count count.Many = none
 
 -- the masks of a generator in n and m variables
 pub record Masks (n m A B : ℕ) : Type 0 where

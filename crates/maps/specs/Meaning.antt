@@ -7,8 +7,7 @@
 --   value_differs   forms that are not equal differ at some input, which is found
 --   product_listed, generator_value, generator_nonzero, generators_differ   the menu is every product, each by its number, none 0 and none twice
 -- Assumes nothing.
-use Rattle.std.specs.Prelude.{◌≡◌, ◌≢◌, Bool, false, ◌&&◌, ℕ, ◌*◌, ◌^◌, ◌<◌, ◌≤◌, get_or}
-use Rattle.std.proofs.Math.Option.{some}
+use Rattle.std.specs.Prelude.{◌≡◌, ◌≢◌, Bool, false, ◌&&◌, ℕ, ◌*◌, ◌^◌, ◌<◌, ◌≤◌, get_or, Some}
 use Rattle.std.specs.Int.Bits.{bit_xor}
 use Rattle.linear.specs.Bit.{bit, xor_b}
 use Rattle.kinds.specs.Kinds.{is_list}
@@ -23,7 +22,7 @@ use Rattle.maps.specs.laws.Target as targets
 use Rattle.maps.specs.laws.Generators as generators
 
 -- Document 01's table of targets, and document 02's mid: of a map with n and m variables and u outputs, the form of output t computes output t.
-pub target_value : (shape : Shape) (n m u : ℕ) → sizes shape ≡ some (n, m, u) → (t : ℕ) → t < u → is_list shape.kind ≡ false → (a b : ℕ → Bool)
+pub target_value : (shape : Shape) (n m u : ℕ) → sizes shape ≡ Some (n, m, u) → (t : ℕ) → t < u → is_list shape.kind ≡ false → (a b : ℕ → Bool)
     → value n m (target_form shape n m t) a b ≡ output shape a b t
 target_value = targets.target_value
 

@@ -8,7 +8,7 @@
 ghost use Rattle.std.specs.Prelude.{◌≡◌};
 ghost use Rattle.maps.specs.Target.{pair, target_form};
 ghost use Rattle.maps.specs.Accepted.{Accepted, Terms};
-ghost use Rattle.maps.specs.Generators.{first_mask, second_mask, generator_form, count_of, seen_count, Numbered, MaskNumber};
+ghost use Rattle.maps.specs.Generators.{first_mask, second_mask, generator_form, count_of, Numbered, MaskNumber};
 ghost use Rattle.maps.specs.Costs.{generator_cost};
 
 use kinds::{Kind, Shape};
@@ -71,35 +71,22 @@ pub fn target(shape: Shape, n: u64, m: u64, t: u64) -> u64
     sum_of_pairs(shape, n, m, t)
 }
 
-// The number of generators; `Many`, above 4095, is refusal 4.
-#[derive(Clone, Copy)]
-pub enum Count {
-    Is(u64),
-    Many,
-}
-
-// How many generators there are in n and m variables. From 13 variables on either side there are too many, so that nothing overflows.
-pub fn generator_count(n: u64, m: u64) -> Count
-    ensures { count_of n m ≡ seen_count result }
+// How many generators there are in n and m variables; `None`, above 4095, is refusal 4. From 13 variables on either side there are too many, so that
+// nothing overflows.
+pub fn generator_count(n: u64, m: u64) -> Option<u64>
+    ensures { count_of n m ≡ result }
 {
-    if n == 0 {
-        return Count::Is(0);
+    if n == 0 || m == 0 {
+        return Some(0);
     }
-    if m == 0 {
-        return Count::Is(0);
-    }
-    if n > 12 {
-        return Count::Many;
-    }
-    if m > 12 {
-        return Count::Many;
+    if n > 12 || m > 12 {
+        return None;
     }
     let c = ((1u64 << n) - 1) * ((1u64 << m) - 1);
-    if c <= kinds::GENERATORS as u64 {
-        Count::Is(c)
-    } else {
-        Count::Many
+    if c > kinds::GENERATORS as u64 {
+        return None;
     }
+    Some(c)
 }
 
 // The masks of the generator number j: the digits of j to the base 2^m - 1, each counted from 1.

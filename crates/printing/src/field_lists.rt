@@ -9,11 +9,9 @@ fn put_spaced(xs: &[u64], base: u64, most: usize, out: &mut [u8], at: usize) -> 
     ensures { Piece out.old at (spaced_text base most xs.now) (21 * length xs.now) out.new result }
 {
     let mut e = at;
-    let mut i = 0;
-    while i < xs.len() {
-        super::put_byte(out, e, 32);
-        e = super::put_number(xs[i], base, most, out, e + 1);
-        i += 1;
+    for x in xs {
+        super::put_byte(out, e, b' ');
+        e = super::put_number(*x, base, most, out, e + 1);
     }
     e
 }
@@ -23,9 +21,9 @@ pub fn put_inner(xs: &[u64], base: u64, most: usize, out: &mut [u8], at: usize) 
     requires { InnerAsked xs.now base most (at + 20) }
     ensures { Piece out.old at (inner_text base most xs.now) (21 * length xs.now + 1) out.new result }
 {
-    if xs.len() == 0 {
+    let [x, rest @ ..] = xs else {
         return super::put_bytes(b"-", out, at);
-    }
-    let a = super::put_number(xs[0], base, most, out, at);
-    put_spaced(&xs[1..], base, most, out, a)
+    };
+    let a = super::put_number(*x, base, most, out, at);
+    put_spaced(rest, base, most, out, a)
 }

@@ -12,7 +12,7 @@ pub fn put_field(n: u64, out: &mut [u8], at: usize) -> usize
     requires { at ≤ 8589934592 }
     ensures { Piece out.old at (field_text n) 21 out.new result }
 {
-    super::put_byte(out, at, 44);
+    super::put_byte(out, at, b',');
     super::put_number(n, 10, 20, out, at + 1)
 }
 
@@ -21,8 +21,7 @@ pub fn put_sizes(shape: Shape, k: u64, out: &mut [u8], at: usize) -> usize
     requires { at ≤ 4294967296 }
     ensures { Piece out.old at (sizes_text shape k) 89 out.new result }
 {
-    let kind = shape.kind;
-    let a = super::put_kind(kind, out, at);
+    let a = super::put_kind(shape.kind, out, at);
     let b = put_field(shape.p, out, a);
     let c = put_field(shape.q, out, b);
     let d = put_field(shape.r, out, c);

@@ -36,9 +36,10 @@ fn digit_byte(d: u64) -> u8
     ensures { result ≡ digit_byte d }
 {
     if d < 10 {
-        return 48 + d as u8;
+        b'0' + d as u8
+    } else {
+        b'a' + (d - 10) as u8
     }
-    87 + d as u8
 }
 
 // The byte x at place i, where there is one.
@@ -55,12 +56,10 @@ pub fn put_bytes(s: &[u8], out: &mut [u8], at: usize) -> usize
     requires { at + length s.now < 2 ^ 64 }
     ensures { (result ≡ at + length s.now) × (out.new ≡ sets out.old at s.now) }
 {
-    let mut i: usize = 0;
-    while i < s.len() {
-        put_byte(out, at + i, s[i]);
-        i += 1;
+    for (i, b) in s.iter().enumerate() {
+        put_byte(out, at + i, *b);
     }
-    at + i
+    at + s.len()
 }
 
 // The digits of n to the base, at most f of them, from place `at` on as far as there is room; the place after them.
@@ -85,8 +84,5 @@ pub fn put_kind(kind: Kind, out: &mut [u8], at: usize) -> usize
     requires { at + longest_name < 2 ^ 64 }
     ensures { (result ≡ at + length (name_of kind)) × (out.new ≡ sets out.old at (name_of kind)) }
 {
-    let name = kinds::names::name_of(kind);
-    let bytes = name.bytes;
-    let n = name.len;
-    put_bytes(&bytes[..n], out, at)
+    put_bytes(kinds::names::name_of(kind), out, at)
 }

@@ -18,8 +18,7 @@ pub fn print_page(s: &[u8], page: &mut [u8]) -> Printed
     if page.len() < s.len() {
         return Printed::Refused(9);
     }
-    let n = super::put_bytes(s, page, 0);
-    Printed::Bytes(n)
+    Printed::Bytes(super::put_bytes(s, page, 0))
 }
 
 // A page for a whole reply. (A page from a call has a length for the proofs, and no bytes that they would compute.)

@@ -10,7 +10,7 @@ pub fn put_lists(xs: &[u64], ys: &[u64], out: &mut [u8], at: usize) -> usize
         ys.now + 4) out.new result }
 {
     let a = super::field_lists::put_inner(xs, 10, 20, out, at);
-    super::put_byte(out, a, 44);
+    super::put_byte(out, a, b',');
     let b = super::field_lists::put_inner(ys, 16, 16, out, a + 1);
     super::put_bytes(b"\n", out, b)
 }
@@ -21,7 +21,7 @@ pub fn put_lead(n: u64, out: &mut [u8], at: usize) -> usize
     ensures { Piece out.old at (lead_text n) 21 out.new result }
 {
     let a = super::put_number(n, 10, 20, out, at);
-    super::put_byte(out, a, 44);
+    super::put_byte(out, a, b',');
     a + 1
 }
 

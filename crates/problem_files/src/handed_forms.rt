@@ -5,7 +5,6 @@ ghost use Rattle.problem_files.specs.handed_forms.ProblemLines.{handed_in, list_
 ghost use Rattle.kinds.specs.Limits.{most_generators, most_targets};
 
 use kinds::Shape;
-use maps::Count;
 
 // The lines of a list: refusal 4 or 5, or 0 and the forms from the start of g and t, the generators' costs from the start of c.
 fn list_lines(q: u64, r: u64, s: &[u8], g: &mut [u64], t: &mut [u64], c: &mut [u64]) -> u64
@@ -25,7 +24,7 @@ fn list_lines(q: u64, r: u64, s: &[u8], g: &mut [u64], t: &mut [u64], c: &mut [u
 fn map_lines(n: u64, m: u64, s: &[u8]) -> u64
     ensures { map_lines n m s.now ≡ refused_by result ([], [], []) }
 {
-    let Count::Is(c) = maps::generator_count(n, m) else {
+    let Some(c) = maps::generator_count(n, m) else {
         return 4;
     };
     if 0 < s.len() {

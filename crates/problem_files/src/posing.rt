@@ -5,7 +5,7 @@ ghost use Rattle.problem_files.specs.handed_forms.ProblemLines.{FormRoom};
 ghost use Rattle.problem_files.specs.posing.Posing.{posed_lines, posed_file};
 ghost use Rattle.problem_files.specs.posing.Views.{Handed, Poses};
 
-use kinds::{Known, Shape, Sized};
+use kinds::Shape;
 use problems::Posed;
 use text::heads::HeadRead;
 use words::first_words;
@@ -79,16 +79,11 @@ pub fn pose_file(
     let HeadRead::Is(known, p, q, r, k, at) = text::heads::head_lines(file) else {
         return PosedRead::Refused(1);
     };
-    let Known::Is(kind) = known else {
+    let Some(kind) = known else {
         return PosedRead::Refused(2);
     };
-    let shape = Shape {
-        kind: kind,
-        p: p,
-        q: q,
-        r: r,
-    };
-    let Sized::Are(n, m, o) = kinds::sizes_of(shape) else {
+    let shape = Shape { kind, p, q, r };
+    let Some((n, m, o)) = kinds::sizes_of(shape) else {
         return PosedRead::Refused(3);
     };
     pose_lines(shape, k, n, m, &file[at..], gs, ts, cs, g, t)

@@ -7,10 +7,9 @@
 --   posed_list   one of kind list has the forms handed in: as many as its sizes say, of p bits, no generator zero or twice
 --   targets_length, targets_at   the list of targets has u forms, and the form of output t at t
 -- Assumes nothing.
-use Rattle.std.specs.Prelude.{◌≡◌, refl, Bool, true, false, List, ℕ, ◌<◌, ◌≤◌, length, get_or}
+use Rattle.std.specs.Prelude.{◌≡◌, refl, Bool, true, false, List, ℕ, ◌<◌, ◌≤◌, length, get_or, Some}
 use Rattle.std.proofs.Common.{sym, ◌∙◌, subst, zero-add, arith}
 use Rattle.std.proofs.Math.Path.{ap}
-use Rattle.std.proofs.Math.Option.{some}
 use Rattle.kinds.specs.Kinds.{kind_numbered, is_list}
 use Rattle.kinds.specs.Sizes.{shape_of, sizes}
 use Rattle.kinds.specs.laws.Sizes.{sizes_bounds}
@@ -43,7 +42,7 @@ pub record IsMap (shape : Shape) (gs ts others : List ℕ) (P : Problem) : Type 
   pub n : ℕ
   pub m : ℕ
   pub u : ℕ
-  pub sized : sizes shape ≡ some (n, m, u)
+  pub sized : sizes shape ≡ Some (n, m, u)
   pub taken : MapTaken shape n m u gs ts others P
 
 module _ (shape : Shape) (gs ts others : List ℕ) (P : Problem) (e : shaped shape gs ts others ≡ accepted P) where
@@ -96,7 +95,7 @@ module _ (shape : Shape) (gs ts others : List ℕ) (P : Problem) (e : shaped sha
 
 -- ---- the kind by its number
 module _ (p q r : ℕ) (gs ts others : List ℕ) (P : Problem) (number : ℕ) (e : posed number p q r gs ts others ≡ accepted P) where
-  pub posed_shaped : (kd : Kind) → kind_numbered number ≡ some kd → shaped (shape_of kd p q r) gs ts others ≡ accepted P
+  pub posed_shaped : (kd : Kind) → kind_numbered number ≡ Some kd → shaped (shape_of kd p q r) gs ts others ≡ accepted P
   posed_shaped kd a =
       let N = posed_inv number p q r gs ts others P e in
       let k : N.0 ≡ kd = (let b = N.1 in cc) in
@@ -105,8 +104,8 @@ module _ (p q r : ℕ) (gs ts others : List ℕ) (P : Problem) (number : ℕ) (e
   pub posed_few : Few P
   posed_few = let N = posed_inv number p q r gs ts others P e in shaped_few (shape_of N.0 p q r) gs ts others P N.2
 
-  pub posed_map : (kd : Kind) → kind_numbered number ≡ some kd → is_list kd ≡ false → IsMap (shape_of kd p q r) gs ts others P
+  pub posed_map : (kd : Kind) → kind_numbered number ≡ Some kd → is_list kd ≡ false → IsMap (shape_of kd p q r) gs ts others P
   posed_map kd a d = shaped_map (shape_of kd p q r) gs ts others P (posed_shaped kd a) d
 
-  pub posed_list : (kd : Kind) → kind_numbered number ≡ some kd → is_list kd ≡ true → ListTaken p q r gs ts others P
+  pub posed_list : (kd : Kind) → kind_numbered number ≡ Some kd → is_list kd ≡ true → ListTaken p q r gs ts others P
   posed_list kd a d = shaped_list (shape_of kd p q r) gs ts others P (posed_shaped kd a) d

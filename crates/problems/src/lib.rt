@@ -9,8 +9,7 @@ ghost use Rattle.problems.specs.Problem.{listed, mapped, shaped, posed};
 ghost use Rattle.problems.specs.Replies.{Laid, PoseAsked};
 ghost use Rattle.kinds.specs.Limits.{most_generators, most_targets};
 
-use kinds::{Known, Shape, Sized};
-use maps::Count;
+use kinds::Shape;
 
 pub mod prices;
 
@@ -59,7 +58,7 @@ fn pose_map(
     requires { (most_generators ≤ length g.old) × Mapping shape n m u t.old }
     ensures { Laid (mapped shape n m u gs.now ts.now others.now) result g.new t.new }
 {
-    let Count::Is(c) = maps::generator_count(n, m) else {
+    let Some(c) = maps::generator_count(n, m) else {
         return Posed::Refused(4);
     };
     let e = words::lists::map_refusal(n * m, gs, ts, others);
@@ -84,7 +83,7 @@ pub fn pose_shape(
     requires { (most_generators ≤ length g.old) × (most_targets ≤ length t.old) }
     ensures { Laid (shaped shape gs.now ts.now others.now) result g.new t.new }
 {
-    let Sized::Are(n, m, u) = kinds::sizes_of(shape) else {
+    let Some((n, m, u)) = kinds::sizes_of(shape) else {
         return Posed::Refused(3);
     };
     let kind = shape.kind;
@@ -109,14 +108,9 @@ pub fn pose(
     requires { (most_generators ≤ length g.old) × (most_targets ≤ length t.old) }
     ensures { Laid (posed number p q r gs.now ts.now others.now) result g.new t.new }
 {
-    let Known::Is(kind) = kinds::kind_numbered(number) else {
+    let Some(kind) = kinds::kind_numbered(number) else {
         return Posed::Refused(2);
     };
-    let shape = Shape {
-        kind: kind,
-        p: p,
-        q: q,
-        r: r,
-    };
+    let shape = Shape { kind, p, q, r };
     pose_shape(shape, gs, ts, others, g, t)
 }

@@ -4,7 +4,7 @@ ghost use Rattle.problems.specs.prices.Prices.{unpriced, prices, priced_shape, p
 ghost use Rattle.problems.specs.prices.Replies.{PricedLaid, PricesAsked, Lent, also_refused};
 
 use super::Posed;
-use kinds::{Known, Shape, Sized};
+use kinds::Shape;
 
 // Whether the costs handed in are too few, too many or too large, refusal 5.
 pub fn unpriced(shape: Shape, costs: &[u64]) -> bool
@@ -27,7 +27,7 @@ pub fn fill_prices(shape: Shape, costs: &[u64], c: usize, v: &mut [u64])
         maps::form_lists::copy_forms(costs, v);
         return;
     }
-    let Sized::Are(n, m, _) = kinds::sizes_of(shape) else {
+    let Some((n, m, _)) = kinds::sizes_of(shape) else {
         return;
     };
     maps::form_lists::fill_costs(n, m, c as u64, v);
@@ -90,14 +90,9 @@ pub fn pose_priced(
     ensures { PricedLaid (priced number p q r gs.now ts.now costs.now) result
         g.new t.new v.new }
 {
-    let Known::Is(kind) = kinds::kind_numbered(number) else {
+    let Some(kind) = kinds::kind_numbered(number) else {
         return Posed::Refused(2);
     };
-    let shape = Shape {
-        kind: kind,
-        p: p,
-        q: q,
-        r: r,
-    };
+    let shape = Shape { kind, p, q, r };
     pose_priced_shape(shape, gs, ts, costs, g, t, v)
 }

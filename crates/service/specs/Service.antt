@@ -4,8 +4,7 @@
 -- The reply of `gijpsando_check` and the second string's final content, `reply_of` and `bytes_of`, are in crate check_text.
 -- Document 01: "one byte string holds a file as below, a second takes what the Check program would print, and the reply is the count of bytes
 -- written (always above 35) or a refusal's number. Too short a second string is refused by 9." Assumes nothing.
-use Rattle.std.specs.Prelude.{cond, List, ℕ, length, ltb}
-use Rattle.std.proofs.Math.Option.{Option}
+use Rattle.std.specs.Prelude.{cond, List, ℕ, length, ltb, Option}
 use Rattle.kinds.specs.Refusal.{Answer, refused, accepted, follow}
 use Rattle.words.specs.Buffers.{filled}
 use Rattle.formula_check.specs.Replies.{check_values}

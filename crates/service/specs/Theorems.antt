@@ -4,9 +4,8 @@
 --   check_read_enough               what the Check program reads of an input, at most 65,537 bytes, is answered as the whole input
 -- The definitions: formula_file (formula_files), verdict (formula_check), RightFormula and FormulaDiffers (formula_check, meaning), check_file (Service),
 -- admitted_text, reply_of and bytes_of (check_text). Assumes nothing.
-use Rattle.std.specs.Prelude.{◌≡◌, refl, Bool, true, false, List, ◌++◌, ◌⊎◌, ◌↔◌, ℕ, ◌<◌, ◌≤◌, length, take, drop, ltb}
+use Rattle.std.specs.Prelude.{◌≡◌, refl, Bool, true, false, List, ◌++◌, ◌⊎◌, ◌↔◌, ℕ, ◌<◌, ◌≤◌, length, take, drop, ltb, Option, None, Some}
 use Rattle.std.proofs.Common.{ap, inl, inr, arith}
-use Rattle.std.proofs.Math.Option.{Option, none, some}
 use Rattle.kinds.specs.Limits.{most_products, most_targets}
 use Rattle.kinds.specs.laws.Sizes.{sizes_bounds}
 use Rattle.kinds.specs.Refusal.{Answer, refused, accepted, follow}
@@ -41,8 +40,8 @@ pub record CheckAnswered (s : List ℕ) (f : Admitted) : Type 0 where
   -- it is answered, never refused, with the text of its verdict
   pub answered : check_file s ≡ accepted (admitted_text f)
   -- the verdict is right exactly if every output is the textbook's at every input, and wrong t exactly if t is the least that differs at some input
-  pub right : ((verdict f).0 ≡ none) ↔ RightFormula f
-  pub wrong : (t : ℕ) → ((verdict f).0 ≡ some t) ↔ FormulaDiffers f t
+  pub right : ((verdict f).0 ≡ None) ↔ RightFormula f
+  pub wrong : (t : ℕ) → ((verdict f).0 ≡ Some t) ↔ FormulaDiffers f t
   -- and so the text says, byte by byte
   pub says_right : (admitted_text f ≡ text_saying f said.Right) ↔ RightFormula f
   pub says_wrong : (t : ℕ) → t < most_targets → (admitted_text f ≡ text_saying f (said.Wrong t)) ↔ FormulaDiffers f t
@@ -53,8 +52,8 @@ module _ (f : Admitted) (S : Sound f) where
   outputs_few = (sizes_bounds f.shape (f.n, f.m, length f.rows) S.fits).most_outputs
 
   named : (o : Option ℕ) → (verdict f).0 ≡ o → Named (verdict_of o)
-  named none e = tt
-  named (some t) e = let d = (((verdict_means f S.fits S.not_list).1 t).0 e).there in omega (arith, d, outputs_few)
+  named None e = tt
+  named (Some t) e = let d = (((verdict_means f S.fits S.not_list).1 t).0 e).there in omega (arith, d, outputs_few)
 
   -- the text says a verdict exactly if that is the verdict
   text_says : (v : Option ℕ) → Named (verdict_of v) → (admitted_text f ≡ text_saying f (verdict_of v)) ↔ ((verdict f).0 ≡ v)
@@ -65,10 +64,10 @@ module _ (f : Admitted) (S : Sound f) where
   )
     where
       back : (a b : Option ℕ) → verdict_of a ≡ verdict_of b → a ≡ b
-      back none none e = refl
-      back none (some t) e = absurd (let z : ◌≡◌ {A = ℕ} 0 1 = cc in omega arith)
-      back (some t) none e = absurd (let z : ◌≡◌ {A = ℕ} 0 1 = cc in omega arith)
-      back (some t) (some s) e = cc
+      back None None e = refl
+      back None (Some t) e = absurd (let z : ◌≡◌ {A = ℕ} 0 1 = cc in omega arith)
+      back (Some t) None e = absurd (let z : ◌≡◌ {A = ℕ} 0 1 = cc in omega arith)
+      back (Some t) (Some s) e = cc
 
 pub check_answered : (s : List ℕ) (f : Admitted) → formula_file s most_products most_products most_targets ≡ accepted f → CheckAnswered s f
 unfolding check_file
@@ -80,8 +79,8 @@ check_answered s f e =
       answered = ap (λ (o : Answer Admitted). follow o (λ g. accepted (admitted_text g))) e;
       right = M.0;
       wrong = M.1;
-      says_right = (let q = text_says f S none tt in (λ x. M.0.0 (q.0 x), λ x. q.1 (M.0.1 x)));
-      says_wrong = λ t h. (let q = text_says f S (some t) (omega (arith, h)) in (λ x. (M.1 t).0 (q.0 x), λ x. q.1 ((M.1 t).1 x)));
+      says_right = (let q = text_says f S None tt in (λ x. M.0.0 (q.0 x), λ x. q.1 (M.0.1 x)));
+      says_wrong = λ t h. (let q = text_says f S (Some t) (omega (arith, h)) in (λ x. (M.1 t).0 (q.0 x), λ x. q.1 ((M.1 t).1 x)));
     }
 
 -- ---- the exported call, on a file s and a second string d

@@ -5,8 +5,7 @@
 --   field base most c s             == a numeral that the byte c ends, and the text after it
 --   count_field, mask_line, mask_field == a count that a comma ends; a mask that LF ends, and one that a comma ends
 -- Document 01: "lines ended by LF, a line of names and then lines of values in that order". Assumes nothing.
-use Rattle.std.specs.Prelude.{ℕ, suc, List, [], ◌∷◌, cond, eqb}
-use Rattle.std.proofs.Math.Option.{Option, none, some}
+use Rattle.std.specs.Prelude.{ℕ, suc, List, [], ◌∷◌, cond, eqb, Option, None, Some}
 use Rattle.kinds.specs.Kinds.{same}
 use Rattle.kinds.specs.Sizes.{given}
 use Rattle.text.specs.Reading.{◌>>=◌}
@@ -23,8 +22,8 @@ till c [] = 0
 till c (b ∷ s) = cond (eqb b c) 0 (suc (till c s))
 
 unfoldable pub cut : ℕ → List ℕ → Option (List ℕ × List ℕ)
-cut c [] = none
-cut c (b ∷ s) = cond (eqb b c) (some ([], s)) (cut c s >>= λ p. some (b ∷ p.0, p.1))
+cut c [] = None
+cut c (b ∷ s) = cond (eqb b c) (Some ([], s)) (cut c s >>= λ p. Some (b ∷ p.0, p.1))
 
 unfoldable pub name_line : List ℕ → List ℕ → Option (List ℕ)
 name_line name s = do
@@ -35,7 +34,7 @@ unfoldable pub field : ℕ → ℕ → ℕ → List ℕ → Option (ℕ × List 
 field base most c s = do
   f ← cut c s
   v ← numeral base most f.0
-  some (v, f.1)
+  Some (v, f.1)
 
 abbrev pub count_field : List ℕ → Option (ℕ × List ℕ)
 count_field s = field 10 4 comma s

@@ -2,41 +2,28 @@
 --   seenX s r == the reading of s that the answer r stands for
 --   bytesX r  == the bytes used, 0 where there is no reading
 -- Assumes nothing.
-use Rattle.std.specs.Prelude.{ℕ, ◌+◌, List, take, drop}
-use Rattle.std.proofs.Math.Option.{Option, none, some}
-use Rattle.text.specs.declared.Number.{Number}
-use Rattle.text.specs.declared.Number.TheVariants as number
-use Rattle.text.specs.declared.Cut.{Cut}
-use Rattle.text.specs.declared.Cut.TheVariants as cut_at
-use Rattle.text.specs.declared.Used.{Used}
-use Rattle.text.specs.declared.Used.TheVariants as used
-use Rattle.text.specs.declared.FieldRead.{FieldRead}
-use Rattle.text.specs.declared.FieldRead.TheVariants as field
+use Rattle.std.specs.Prelude.{ℕ, ◌+◌, List, take, drop, Option, None, Some}
 
-abbrev pub seen_number : Number → Option ℕ
-seen_number (number.Is v) = some v
-seen_number number.No = none
+abbrev pub seen_cut : List ℕ → Option ℕ → Option (List ℕ × List ℕ)
+seen_cut s (Some e) = Some (take e s, drop (e + 1) s)
+seen_cut s None = None
 
-abbrev pub seen_cut : List ℕ → Cut → Option (List ℕ × List ℕ)
-seen_cut s (cut_at.At e) = some (take e s, drop (e + 1) s)
-seen_cut s cut_at.No = none
+abbrev pub bytes_cut : Option ℕ → ℕ
+bytes_cut (Some e) = e + 1
+bytes_cut None = 0
 
-abbrev pub bytes_cut : Cut → ℕ
-bytes_cut (cut_at.At e) = e + 1
-bytes_cut cut_at.No = 0
+abbrev pub seen_used : List ℕ → Option ℕ → Option (List ℕ)
+seen_used s (Some u) = Some (drop u s)
+seen_used s None = None
 
-abbrev pub seen_used : List ℕ → Used → Option (List ℕ)
-seen_used s (used.Is u) = some (drop u s)
-seen_used s used.No = none
+abbrev pub bytes_used : Option ℕ → ℕ
+bytes_used (Some u) = u
+bytes_used None = 0
 
-abbrev pub bytes_used : Used → ℕ
-bytes_used (used.Is u) = u
-bytes_used used.No = 0
+abbrev pub seen_field : List ℕ → Option (ℕ × ℕ) → Option (ℕ × List ℕ)
+seen_field s (Some f) = Some (f.0, drop f.1 s)
+seen_field s None = None
 
-abbrev pub seen_field : List ℕ → FieldRead → Option (ℕ × List ℕ)
-seen_field s (field.Is v u) = some (v, drop u s)
-seen_field s field.No = none
-
-abbrev pub bytes_field : FieldRead → ℕ
-bytes_field (field.Is v u) = u
-bytes_field field.No = 0
+abbrev pub bytes_field : Option (ℕ × ℕ) → ℕ
+bytes_field (Some f) = f.1
+bytes_field None = 0

@@ -14,7 +14,7 @@ ghost use Rattle.turn_program.specs.TurnFile.{turn_file, FullHeld};
 ghost use Rattle.turn_program.specs.TurnProgram.{turn_program};
 
 use formula_files::Read;
-use kinds::{Shape, Sized};
+use kinds::Shape;
 use printing::pages::Printed;
 use text::heads::HeadRead;
 use words::first_words;
@@ -37,7 +37,7 @@ fn turn_read(
         (formula_in shape k a.now b.now rows.now)) u.old v.old w.old
         u.new v.new w.new }
 {
-    let Sized::Are(n, _, outputs) = kinds::sizes_of(shape) else {
+    let Some((n, _, outputs)) = kinds::sizes_of(shape) else {
         return Read::Refused(3);
     };
     let firsts = first_words(a, k as usize);

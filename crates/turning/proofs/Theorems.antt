@@ -9,8 +9,7 @@
 --   turning_refused      the turning is refused by 2, 3, 5 to 8, 12 or 9 and by no other number
 --   turn_numbers_told    two replies of the call, to whatever it is handed, are the same if their numbers are
 -- Worked: Examples. Assumes nothing.
-use Rattle.std.specs.Prelude.{◌≡◌, refl, true, ◌↔◌, List, [], ◌∷◌, ℕ, ◌-◌, ◌*◌, ◌<◌, length, get_or, eqb}
-use Rattle.std.proofs.Math.Option.{none}
+use Rattle.std.specs.Prelude.{◌≡◌, refl, true, ◌↔◌, List, [], ◌∷◌, ℕ, ◌-◌, ◌*◌, ◌<◌, length, get_or, eqb, None}
 use Rattle.linear.specs.Bit.{bit}
 use Rattle.linear.specs.Select.{any_of}
 use Rattle.kinds.specs.Kinds.{kind_numbered}
@@ -44,8 +43,8 @@ module _ (number p q r k : ℕ) (xs ys rows : List ℕ) (u v w : ℕ) (g : Admit
   pub turned_right : (f : Admitted) → admit (kind_numbered number) p q r k (lists_handed k xs ys rows) ≡ accepted f → RightFormula f ↔ RightFormula g
   turned_right = laws.turned_right number p q r k xs ys rows u v w g T
 
-  pub turned_check : ((x : ℕ) × (check number p q r k xs ys rows ≡ accepted (none, x)))
-      ↔ ((x : ℕ) × (check 5 p (2 * p - 1) 0 k g.firsts g.seconds g.rows ≡ accepted (none, x)))
+  pub turned_check : ((x : ℕ) × (check number p q r k xs ys rows ≡ accepted (None, x)))
+      ↔ ((x : ℕ) × (check 5 p (2 * p - 1) 0 k g.firsts g.seconds g.rows ≡ accepted (None, x)))
   turned_check = laws.turned_check number p q r k xs ys rows u v w g T
 
 pub turning_refused : (number p q r k : ℕ) (xs ys rows : List ℕ) (u v w e : ℕ) → turning number p q r k xs ys rows u v w ≡ refused e

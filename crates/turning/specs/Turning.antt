@@ -10,8 +10,7 @@
 --   turning ..          == the reply on numbers
 -- Document 02: "They also want a full product formula for n,n turned into a middle product formula. Its products keep their order". What it means: Theorems.
 -- Assumes nothing.
-use Rattle.std.specs.Prelude.{Bool, false, not, List, map, ℕ, ◌-◌, ◌*◌, length, get_or, eqb}
-use Rattle.std.proofs.Math.Option.{Option, none, some}
+use Rattle.std.specs.Prelude.{Bool, false, not, List, map, ℕ, ◌-◌, ◌*◌, length, get_or, eqb, Option, None, Some}
 use Rattle.linear.specs.Bit.{bit}
 use Rattle.kinds.specs.Kinds.{number_of, kind_numbered}
 use Rattle.kinds.specs.Sizes.{shape_of, sizes}
@@ -46,8 +45,8 @@ turned f =
 
 -- ---- refusals
 abbrev pub is_poly : Option Kind → Bool
-is_poly none = false
-is_poly (some k) = eqb (number_of k) (number_of kind.Poly)
+is_poly None = false
+is_poly (Some k) = eqb (number_of k) (number_of kind.Poly)
 
 -- "The turning refuses a kind other than poly by 2, and p unlike q or mid sizes over the limit by 3", and poly's sizes by 3 as Check does
 unfoldable pub turnable : Option Kind → (p q r : ℕ) → Answer (Unit {0})

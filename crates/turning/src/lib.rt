@@ -6,7 +6,6 @@
 #![tactic(auto)]
 
 ghost use Rattle.std.specs.Prelude.{◌≡◌, map, ◌≤◌, length};
-ghost use Rattle.kinds.specs.Kinds.{seen_kind};
 ghost use Rattle.kinds.specs.Refusal.{refused_by};
 ghost use Rattle.kinds.specs.Numbers.{reply_numbers};
 ghost use Rattle.words.specs.Masks.{zero_in};
@@ -16,7 +15,7 @@ ghost use Rattle.turning.specs.Turning.{reversed, column, columns, middle_of, tu
 ghost use Rattle.turning.specs.Lent.{turned_reply, turned_numbers, full_of, Words, Lent};
 
 use formula_check::Admission;
-use kinds::{Kind, Known, Shape, Sized};
+use kinds::{Kind, Shape};
 
 // The middle product of n variables a.
 pub fn middle(n: u64) -> Shape
@@ -32,28 +31,25 @@ pub fn middle(n: u64) -> Shape
 }
 
 // The refusal of a formula of that kind and those sizes, whatever its products: 2, 3, or 0.
-pub fn turn_refusal(known: Known, p: u64, q: u64, r: u64) -> u64
-    ensures { turnable (seen_kind known) p q r ≡ refused_by result tt }
+pub fn turn_refusal(known: Option<Kind>, p: u64, q: u64, r: u64) -> u64
+    ensures { turnable known p q r ≡ refused_by result tt }
 {
-    let Known::Is(kind) = known else {
-        return 2;
-    };
-    if kinds::number_of(kind) != 0 {
+    if known != Some(Kind::Poly) {
         return 2;
     }
     let full = Shape {
         kind: Kind::Poly,
-        p: p,
-        q: q,
-        r: r,
+        p,
+        q,
+        r,
     };
-    let Sized::Are(_, _, _) = kinds::sizes_of(full) else {
+    let Some(_) = kinds::sizes_of(full) else {
         return 3;
     };
     if p != q {
         return 3;
     }
-    let Sized::Are(_, _, _) = kinds::sizes_of(middle(p)) else {
+    let Some(_) = kinds::sizes_of(middle(p)) else {
         return 3;
     };
     0

@@ -4,8 +4,7 @@
 --   CheapestAsked      == what is asked of the generators, of the targets' basis, of k and of the buffer
 --   CheapestFrom       == the promise: the formula held is that, of all targets that have the basis
 -- That this is the cheapest of all formulae with k products: linear, Theorems. Assumes nothing.
-use Rattle.std.specs.Prelude.{◌≡◌, Bool, true, false, List, map, ℕ, ◌+◌, ◌≤◌, length, take, drop}
-use Rattle.std.proofs.Math.Option.{Option, none, some}
+use Rattle.std.specs.Prelude.{◌≡◌, Bool, true, false, List, map, ℕ, ◌+◌, ◌≤◌, length, take, drop, Option, None, Some}
 use Rattle.linear.specs.Basis.{basis_of}
 use Rattle.linear.specs.Entry.{entries, space}
 use Rattle.linear.specs.Prices.{cheapest, cheapest_in, by_price}
@@ -17,8 +16,8 @@ use Rattle.catalogue.specs.noting.Noting.{PricedMenu, formula_room}
 use Rattle.kinds.specs.Limits.{most_generators}
 
 abbrev pub held : ℕ → Bool → List ℕ → Option (List ℕ)
-held k true buffer = some (take k (drop 1 buffer))
-held k false buffer = none
+held k true buffer = Some (take k (drop 1 buffer))
+held k false buffer = None
 
 abbrev pub cheapest_for : (gens order prices targets : List ℕ) → ℕ → Option (List ℕ)
 cheapest_for gens order prices targets k = cheapest prices (map (λ es. cheapest_in word gens order (space word gens targets es)) (entries word gens targets k))

@@ -1,9 +1,9 @@
 -- `check_text::check_reply` meets its contract. Assumes nothing.
 use mathlib.Core.Path.{◌≡◌, ap, ◌∙◌}
-use mathlib.Core.Option.{none}
+use Rattle.std.specs.Prelude.{None}
 use Prim.Native.Nat.{ℕ}
 use native.Mathlib.Omega.{arith}
-use Rattle.kinds.specs.Sizes.{sizes, seen_sizes}
+use Rattle.kinds.specs.Sizes.{sizes}
 use Rattle.formula_check.proofs.laws.Buffers.{in_fits}
 use Rattle.check_text.specs.laws.Replying.{in_text, answer_short, answer_whole}
 use Rattle.check_text.proofs.check_reply.Goals as goal
@@ -12,7 +12,7 @@ pub returns-in_default : goal.returns-in_default
 returns-in_default c =
     let args = c.args in
     let e = c.requires.sized in
-    let f : sizes args.shape ≡ none = c.sizes_of.ensures ∙ ap seen_sizes c.in_default.is in
+    let f : sizes args.shape ≡ None = c.sizes_of.ensures ∙ c.in_default.is in
     absurd (let z : ◌≡◌ {A = ℕ} 0 1 = cc in omega arith)
 
 pub judge-said-requires : goal.judge-said-requires
@@ -20,11 +20,11 @@ judge-said-requires c =
     let args = c.args in
     in_fits args.shape args.k args.a.now args.b.now args.rows.now
     c.requires
-    c.in-Are.n c.in-Are.m c.in-Are.outputs (c.sizes_of.ensures ∙ ap seen_sizes c.in-Are.is) _ _ _
+    c.in-Are.n c.in-Are.m c.in-Are.outputs (c.sizes_of.ensures ∙ c.in-Are.is) _ _ _
     c.first_words-firsts.ensures c.first_words-seconds.ensures c.first_words.ensures
 
 pub returns-then-n-eq0 : goal.returns-then-n-eq0
-returns-then-n-eq0 c = answer_short _ _ _ _ _ _ _ _ ((let args = c.args in in_text args.shape args.k args.a.now args.b.now args.rows.now c.requires c.in-Are.n c.in-Are.m c.in-Are.outputs (c.sizes_of.ensures ∙ ap seen_sizes c.in-Are.is) _ _ _ c.first_words-firsts.ensures c.first_words-seconds.ensures c.first_words.ensures _ _ c.judge-said.ensures)) c.check_text-n.ensures c.if-n-eq0.true
+returns-then-n-eq0 c = answer_short _ _ _ _ _ _ _ _ ((let args = c.args in in_text args.shape args.k args.a.now args.b.now args.rows.now c.requires c.in-Are.n c.in-Are.m c.in-Are.outputs (c.sizes_of.ensures ∙ c.in-Are.is) _ _ _ c.first_words-firsts.ensures c.first_words-seconds.ensures c.first_words.ensures _ _ c.judge-said.ensures)) c.check_text-n.ensures c.if-n-eq0.true
 
 pub returns-else-n-eq0 : goal.returns-else-n-eq0
-returns-else-n-eq0 c = answer_whole _ _ _ _ _ _ _ _ ((let args = c.args in in_text args.shape args.k args.a.now args.b.now args.rows.now c.requires c.in-Are.n c.in-Are.m c.in-Are.outputs (c.sizes_of.ensures ∙ ap seen_sizes c.in-Are.is) _ _ _ c.first_words-firsts.ensures c.first_words-seconds.ensures c.first_words.ensures _ _ c.judge-said.ensures)) c.check_text-n.ensures c.if-n-eq0.false
+returns-else-n-eq0 c = answer_whole _ _ _ _ _ _ _ _ ((let args = c.args in in_text args.shape args.k args.a.now args.b.now args.rows.now c.requires c.in-Are.n c.in-Are.m c.in-Are.outputs (c.sizes_of.ensures ∙ c.in-Are.is) _ _ _ c.first_words-firsts.ensures c.first_words-seconds.ensures c.first_words.ensures _ _ c.judge-said.ensures)) c.check_text-n.ensures c.if-n-eq0.false

@@ -1,9 +1,8 @@
 -- From a verdict to the reply and the bytes that tell it. Assumes nothing.
 use Rattle.std.proofs.Math.Path.{◌≡◌, refl}
 use Rattle.std.proofs.Common.{sym, ap, ap₂, ◌∙◌, arith}
-use Rattle.std.specs.Prelude.{Bool, cond, List, ℕ, length, take, ltb}
+use Rattle.std.specs.Prelude.{Bool, cond, List, ℕ, length, take, ltb, Option, Some}
 use Rattle.std.proofs.Math.Bool.{true, false}
-use Rattle.std.proofs.Math.Option.{Option, some}
 use Rattle.kinds.specs.declared.Shape.{Shape}
 use Rattle.kinds.specs.Sizes.{sizes}
 use Rattle.kinds.specs.Refusal.{Answer, accepted}
@@ -23,7 +22,7 @@ verdict_same said.Right = refl
 verdict_same (said.Wrong t) = refl
 
 -- ---- the text of the formula in the buffers, whose parts are xs, ys and zs, by the judgement that was found
-module _ (shape : Shape) (k : ℕ) (a b rows : List ℕ) (B : FormulaBuffers shape k a b rows) (n m u : ℕ) (S : sizes shape ≡ some (n, m, u))
+module _ (shape : Shape) (k : ℕ) (a b rows : List ℕ) (B : FormulaBuffers shape k a b rows) (n m u : ℕ) (S : sizes shape ≡ Some (n, m, u))
     (xs ys zs : List ℕ) (X : xs ≡ take k a) (Y : ys ≡ take k b) (Z : zs ≡ take u rows) where
   pub in_text : (v : Verdict) (w : ℕ) → verdict (formula_of shape n m xs ys zs) ≡ (seen_verdict v, w)
       → ◌≡◌ {A = Answer (List ℕ)} (accepted (admitted_text (formula_in shape k a b rows))) (accepted (check_text shape k v w))

@@ -1,6 +1,6 @@
 -- `formula_check::judge` meets its contract. Assumes nothing.
 use mathlib.Core.Path.{ap₂}
-use mathlib.Core.Option.{Option}
+use Rattle.std.specs.Prelude.{Option}
 use Prim.Native.Nat.{ℕ}
 use native.Mathlib.Omega.{arith}
 use lib.ListN.{length}

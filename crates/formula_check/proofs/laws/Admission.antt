@@ -1,14 +1,13 @@
 -- The steps of an admission, one after the other, in the definition's terms.
 --   unlike_a, unlike_b, unlike_rows   5: a list has the wrong length; alike: none has
 --   passed_not, passed_is             6 to 8, by their number
---   admit_2, admit_3, admit_5         those refusals; admit-passed: what is left
+--   admit_2, admit_3, admit_5         those refusals; admit_passed, admit_alike: what is left
 --   check_as                          Check judges what is admitted
 -- Assumes nothing.
-use Rattle.std.specs.Prelude.{◌≡◌, refl, Bool, true, false, ◌||◌, cond, List, ℕ, ◌≤◌, length, eqb, ltb}
+use Rattle.std.specs.Prelude.{◌≡◌, refl, Bool, true, false, ◌||◌, cond, List, ℕ, ◌≤◌, length, eqb, ltb, Option, None, Some}
 use Rattle.std.proofs.Common.{sym, ◌∙◌, arith}
 use Rattle.std.proofs.Math.Path.{ap, ap₂}
 use Rattle.std.proofs.Math.Bool.{not}
-use Rattle.std.proofs.Math.Option.{Option, none, some}
 use borrow.Author.Tests.{eq-eqb, ne_eqb, ltb-false}
 use Rattle.kinds.specs.Kinds.{kind_numbered, known_map}
 use Rattle.kinds.specs.Limits.{most_products}
@@ -99,22 +98,26 @@ module _ (number p q r k : ℕ) (xs ys rows : List ℕ) where
   unfolding check
   check_as e = ap (λ (o : Answer Admitted). follow o judged_by) e
 
-  pub admit_2 : known_map (kind_numbered number) ≡ none → answer ≡ refused 2
-  admit_2 = admit_known none
+  pub admit_2 : known_map (kind_numbered number) ≡ None → answer ≡ refused 2
+  admit_2 = admit_known None
 
-  module _ (kd : Kind) (K : known_map (kind_numbered number) ≡ some kd) where
+  module _ (kd : Kind) (K : known_map (kind_numbered number) ≡ Some kd) where
     admit_sized : (o : Option (ℕ × ℕ × ℕ)) → sizes (shape_of kd p q r) ≡ o → answer ≡ sized kd o
-    admit_sized o e = admit_known (some kd) K ∙ ap (sized kd) e
+    admit_sized o e = admit_known (Some kd) K ∙ ap (sized kd) e
 
-    pub admit_3 : sizes (shape_of kd p q r) ≡ none → answer ≡ refused 3
-    admit_3 = admit_sized none
+    pub admit_3 : sizes (shape_of kd p q r) ≡ None → answer ≡ refused 3
+    admit_3 = admit_sized None
 
-    module _ (n m u : ℕ) (S : sizes (shape_of kd p q r) ≡ some (n, m, u)) where
-      admit_lists : (b : Bool) → lengths k u xs ys rows ≡ b → answer ≡ after kd (n, m, u) (cond b none (some (xs, ys, rows)))
-      admit_lists b e = admit_sized (some (n, m, u)) S ∙ ap (λ (b : Bool). after kd (n, m, u) (cond b none (some (xs, ys, rows)))) e
+    module _ (n m u : ℕ) (S : sizes (shape_of kd p q r) ≡ Some (n, m, u)) where
+      admit_lists : (b : Bool) → lengths k u xs ys rows ≡ b → answer ≡ after kd (n, m, u) (cond b None (Some (xs, ys, rows)))
+      admit_lists b e = admit_sized (Some (n, m, u)) S ∙ ap (λ (b : Bool). after kd (n, m, u) (cond b None (Some (xs, ys, rows)))) e
 
       pub admit_5 : lengths k u xs ys rows ≡ true → answer ≡ refused 5
       admit_5 = admit_lists true
 
       pub admit_passed : lengths k u xs ys rows ≡ false → answer ≡ passed (shape_of kd p q r) n m k xs ys rows
       admit_passed = admit_lists false
+
+      -- with lists of the right lengths
+      pub admit_alike : length xs ≡ k → length ys ≡ k → length rows ≡ u → answer ≡ passed (shape_of kd p q r) n m (length xs) xs ys rows
+      admit_alike a b c = admit_passed (alike k u xs ys rows a b c) ∙ ap (λ (k : ℕ). passed (shape_of kd p q r) n m k xs ys rows) (sym a)

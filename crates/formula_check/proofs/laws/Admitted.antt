@@ -4,11 +4,10 @@
 --   handed_is                lists that pass the tests are admitted
 --   handed_fitting           what is admitted can be judged
 -- Assumes nothing.
-use Rattle.std.specs.Prelude.{◌≡◌, refl, Bool, true, false, not, ◌||◌, List, ℕ, length, eqb, ltb}
+use Rattle.std.specs.Prelude.{◌≡◌, refl, Bool, true, false, not, ◌||◌, List, ℕ, length, eqb, ltb, Option, None, Some}
 use Rattle.std.proofs.Common.{sym, ◌∙◌, subst, arith, eqb-true, ltb-false}
 use Rattle.std.proofs.Math.Path.{ap}
 use Rattle.std.proofs.Math.Bool.{cond}
-use Rattle.std.proofs.Math.Option.{Option, none, some}
 use Rattle.std.proofs.lemmas.Bool.{not-false}
 use Rattle.kinds.specs.Kinds.{kind_numbered, is_list, known_map}
 use Rattle.kinds.specs.Limits.{most_products}
@@ -22,11 +21,11 @@ use Rattle.formula_check.specs.Replies.{Fitting}
 use Rattle.formula_check.proofs.laws.Admission.{alike, admit_passed}
 
 -- a kind that has formulae is the one named, and not list
-known_inv : (o : Option Kind) (kd : Kind) → known_map o ≡ some kd → (o ≡ some kd) × (is_list kd ≡ false)
-known_inv none kd e = absurd (let z : ◌≡◌ {A = ℕ} 0 1 = cc in omega arith)
-known_inv (some k) kd e = go (is_list k) refl e
+known_inv : (o : Option Kind) (kd : Kind) → known_map o ≡ Some kd → (o ≡ Some kd) × (is_list kd ≡ false)
+known_inv None kd e = absurd (let z : ◌≡◌ {A = ℕ} 0 1 = cc in omega arith)
+known_inv (Some k) kd e = go (is_list k) refl e
   where
-    go : (b : Bool) → is_list k ≡ b → cond b none (some k) ≡ some kd → (some k ≡ some kd) × (is_list kd ≡ false)
+    go : (b : Bool) → is_list k ≡ b → cond b None (Some k) ≡ Some kd → (Some k ≡ Some kd) × (is_list kd ≡ false)
     go true q h = absurd (let z : ◌≡◌ {A = ℕ} 0 1 = cc in omega arith)
     go false q h = (h, subst (λ (x : Kind). is_list x ≡ false) (let z : k ≡ kd = cc in z) q)
 
@@ -37,10 +36,10 @@ pub record AdmittedSo (named : Option Kind) (p q r k : ℕ) (lists : ℕ → Opt
   pub m : ℕ
   pub u : ℕ
   pub l : Lists
-  pub is_named : named ≡ some kd
+  pub is_named : named ≡ Some kd
   pub is_map : is_list kd ≡ false
-  pub sized : sizes (shape_of kd p q r) ≡ some (n, m, u)
-  pub listed : lists u ≡ some l
+  pub sized : sizes (shape_of kd p q r) ≡ Some (n, m, u)
+  pub listed : lists u ≡ Some l
   pub narrow : (wide n l.0 || (wide m l.1 || wide k l.2)) ≡ false
   pub nonzero : (zero_in l.0 || zero_in l.1) ≡ false
   pub few : ltb most_products k ≡ false
@@ -84,10 +83,10 @@ lengths_inv k u xs ys rows e =
     (is (length xs) k a.0, is (length ys) k b.0, is (length rows) u b.1)
 
 -- the lists that are handed in, where they have the right lengths
-lists_inv : (k u : ℕ) (xs ys rows : List ℕ) (l : Lists) → lists_handed k xs ys rows u ≡ some l → (lengths k u xs ys rows ≡ false) × ((xs, ys, rows) ≡ l)
+lists_inv : (k u : ℕ) (xs ys rows : List ℕ) (l : Lists) → lists_handed k xs ys rows u ≡ Some l → (lengths k u xs ys rows ≡ false) × ((xs, ys, rows) ≡ l)
 lists_inv k u xs ys rows l e = go (lengths k u xs ys rows) refl e
   where
-    go : (b : Bool) → lengths k u xs ys rows ≡ b → cond b none (some (xs, ys, rows)) ≡ some l → (lengths k u xs ys rows ≡ false) × ((xs, ys, rows) ≡ l)
+    go : (b : Bool) → lengths k u xs ys rows ≡ b → cond b None (Some (xs, ys, rows)) ≡ Some l → (lengths k u xs ys rows ≡ false) × ((xs, ys, rows) ≡ l)
     go true q h = absurd (let z : ◌≡◌ {A = ℕ} 0 1 = cc in omega arith)
     go false q h = (q, cc)
 
@@ -95,9 +94,9 @@ pub record HandedSo (number p q r k : ℕ) (xs ys rows : List ℕ) (f : Admitted
   pub kd : Kind
   pub n : ℕ
   pub m : ℕ
-  pub named : kind_numbered number ≡ some kd
+  pub named : kind_numbered number ≡ Some kd
   pub map : is_list kd ≡ false
-  pub sized : sizes (shape_of kd p q r) ≡ some (n, m, length rows)
+  pub sized : sizes (shape_of kd p q r) ≡ Some (n, m, length rows)
   pub products : length xs ≡ k
   pub pairs : length ys ≡ k
   pub narrow : (wide n xs || (wide m ys || wide k rows)) ≡ false
@@ -120,7 +119,7 @@ module _ (number p q r k : ℕ) (xs ys rows : List ℕ) (f : Admitted) where
         m = A.m;
         named = A.is_named;
         map = A.is_map;
-        sized = A.sized ∙ ap (λ (u : ℕ). some (A.n, A.m, u)) (sym l.2);
+        sized = A.sized ∙ ap (λ (u : ℕ). Some (A.n, A.m, u)) (sym l.2);
         products = l.0;
         pairs = l.1;
         narrow = T.0;
@@ -132,7 +131,7 @@ module _ (number p q r k : ℕ) (xs ys rows : List ℕ) (f : Admitted) where
   pub handed_is : HandedSo number p q r k xs ys rows f → admit (kind_numbered number) p q r k (lists_handed k xs ys rows) ≡ accepted f
   unfolding passed
   handed_is H =
-      admit_passed number p q r k xs ys rows H.kd (ap known_map H.named ∙ ap (λ (b : Bool). cond b none (some H.kd)) H.map)
+      admit_passed number p q r k xs ys rows H.kd (ap known_map H.named ∙ ap (λ (b : Bool). cond b None (Some H.kd)) H.map)
       H.n H.m (length rows) H.sized
       (alike k (length rows) xs ys rows H.products H.pairs refl)
       ∙ rw (H.narrow, H.nonzero, H.few) (ap accepted H.is)

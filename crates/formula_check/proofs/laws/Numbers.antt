@@ -5,9 +5,8 @@
 --   admit_numbered, check_numbered  and never by 0
 --   outlines_differ                 formulae put into buffers with the same numbers have the same kind, sizes and k
 -- Assumes nothing.
-use Rattle.std.specs.Prelude.{◌≡◌, refl, ◌||◌, List, [], ◌∷◌, ℕ, zero, suc, ◌≤◌, length, ltb}
+use Rattle.std.specs.Prelude.{◌≡◌, refl, ◌||◌, List, [], ◌∷◌, ℕ, zero, suc, ◌≤◌, length, ltb, Option, None, Some}
 use Rattle.std.proofs.Common.{ap, arith}
-use Rattle.std.proofs.Math.Option.{Option, none, some}
 use Rattle.kinds.specs.Kinds.{kind_numbered, kind_numbered_law, known_map}
 use Rattle.kinds.specs.Sizes.{shape_of, sizes}
 use Rattle.kinds.specs.Limits.{most_products}
@@ -76,8 +75,8 @@ check_numbered number p q r k xs ys rows =
 
 -- ---- a formula that is put into lent buffers: its outline from its numbers
 named : Option Kind → (p q r k : ℕ) → Answer (Shape × ℕ)
-named none p q r k = refused 0
-named (some kd) p q r k = accepted (shape_of kd p q r, k)
+named None p q r k = refused 0
+named (Some kd) p q r k = accepted (shape_of kd p q r, k)
 
 outlined : List ℕ → Answer (Shape × ℕ)
 outlined (suc e ∷ v) = refused (suc e)

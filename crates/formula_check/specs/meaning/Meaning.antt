@@ -6,8 +6,7 @@
 --   Means .. v w              == the formula's kind and sizes are accepted, `right` is said exactly if it is Right, `wrong t` exactly if t FirstDiffers
 -- The theorem is `check_means` (Theorems). Document 01: "The reply is right, or wrong with the first output that differs for some input."
 -- Assumes nothing.
-use Rattle.std.specs.Prelude.{◌≡◌, ◌≢◌, ◌↔◌, Bool, false, List, ℕ, ◌^◌, ◌<◌, length, get_or}
-use Rattle.std.proofs.Math.Option.{Option, none, some}
+use Rattle.std.specs.Prelude.{◌≡◌, ◌≢◌, ◌↔◌, Bool, false, List, ℕ, ◌^◌, ◌<◌, length, get_or, Option, None, Some}
 use Rattle.linear.specs.Bit.{bit}
 use Rattle.kinds.specs.Kinds.{kind_numbered, is_list}
 use Rattle.kinds.specs.Sizes.{shape_of, sizes}
@@ -42,11 +41,11 @@ pub record Means (number p q r k : ℕ) (xs ys rows : List ℕ) (v : Option ℕ)
   pub kd : Kind
   pub n : ℕ
   pub m : ℕ
-  pub named : kind_numbered number ≡ some kd
+  pub named : kind_numbered number ≡ Some kd
   pub map : is_list kd ≡ false
-  pub sized : sizes (shape_of kd p q r) ≡ some (n, m, length rows)
+  pub sized : sizes (shape_of kd p q r) ≡ Some (n, m, length rows)
   pub products : length xs ≡ k
   pub pairs : length ys ≡ k
-  pub right : (v ≡ none) ↔ Right (shape_of kd p q r) n m xs ys rows
-  pub wrong : (t : ℕ) → (v ≡ some t) ↔ FirstDiffers (shape_of kd p q r) n m xs ys rows t
+  pub right : (v ≡ None) ↔ Right (shape_of kd p q r) n m xs ys rows
+  pub wrong : (t : ℕ) → (v ≡ Some t) ↔ FirstDiffers (shape_of kd p q r) n m xs ys rows t
   pub cost : w ≡ adders xs ys rows

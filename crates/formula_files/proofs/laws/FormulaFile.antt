@@ -3,14 +3,12 @@
 --   judged_not, judged_is   refusals 6 to 9 by one number, and the formula
 --   under_none, under_told  what the reading of the lines says; final_refused, final-formula: the whole call
 -- Assumes nothing.
-use Rattle.std.specs.Prelude.{ℕ, ◌-◌, ◌≤◌, ◌≡◌, refl, List, Bool, true, false, ◌||◌, ltb, length, take, drop}
+use Rattle.std.specs.Prelude.{ℕ, ◌-◌, ◌≤◌, ◌≡◌, refl, List, Bool, true, false, ◌||◌, ltb, length, take, drop, Option, None, Some}
 use Rattle.std.proofs.Math.Path.{sym, ap₂}
 use Rattle.std.proofs.Common.{ap, ◌∙◌, arith, ltb-false}
-use Rattle.std.proofs.Math.Option.{Option, none, some}
 use borrow.Author.Rules.{part_to_end}
 use Rattle.kinds.specs.declared.Kind.{Kind}
 use Rattle.kinds.specs.declared.Shape.{Shape}
-use Rattle.kinds.specs.declared.Known.{Known}
 use Rattle.kinds.specs.Kinds.{known_map}
 use Rattle.kinds.specs.Limits.{most_products}
 use Rattle.kinds.specs.Refusal.{Answer, refused, accepted, refuse, follow}
@@ -33,11 +31,11 @@ use Rattle.formula_files.specs.declared.Read.TheVariants as read
 
 -- ---- the first two lines
 module _ (s : List ℕ) (la lb lr : ℕ) where
-  pub file_1 : head_lines s ≡ none → formula_file s la lb lr ≡ refused 1
+  pub file_1 : head_lines s ≡ None → formula_file s la lb lr ≡ refused 1
   unfolding formula_file
   file_1 e = rw e
 
-  pub file_rest : (h : Head) (t : List ℕ) → head_lines s ≡ some (h, t) → formula_file s la lb lr ≡ rest h t la lb lr
+  pub file_rest : (h : Head) (t : List ℕ) → head_lines s ≡ Some (h, t) → formula_file s la lb lr ≡ rest h t la lb lr
   unfolding formula_file
   file_rest h t e = rw e
 
@@ -46,20 +44,20 @@ module _ (kd : Option Kind) (p q r k : ℕ) (t : List ℕ) (la lb lr : ℕ) wher
   abbrev rest_of : Answer Admitted
   rest_of = rest (record { kind = kd; p = p; q = q; r = r; k = k }) t la lb lr
 
-  pub rest_2 : known_map kd ≡ none → rest_of ≡ refused 2
+  pub rest_2 : known_map kd ≡ None → rest_of ≡ refused 2
   unfolding rest admit
   rest_2 e = rw e
 
-  module _ (kind : Kind) (K : known_map kd ≡ some kind) where
-    pub rest_3 : sizes (shape_of kind p q r) ≡ none → rest_of ≡ refused 3
+  module _ (kind : Kind) (K : known_map kd ≡ Some kind) where
+    pub rest_3 : sizes (shape_of kind p q r) ≡ None → rest_of ≡ refused 3
     unfolding rest admit
     rest_3 g = rw (K, g)
 
-    pub rest_under : (n m o : ℕ) → sizes (shape_of kind p q r) ≡ some (n, m, o) → rest_of ≡ under (shape_of kind p q r) k n m o la lb lr t
+    pub rest_under : (n m o : ℕ) → sizes (shape_of kind p q r) ≡ Some (n, m, o) → rest_of ≡ under (shape_of kind p q r) k n m o la lb lr t
     unfolding rest admit
     rest_under n m o g = rw (K, g)
 
-    pub rest_judged : (n m o : ℕ) (xs ys zs : List ℕ) → sizes (shape_of kind p q r) ≡ some (n, m, o) → body k o t ≡ some (xs, ys, zs)
+    pub rest_judged : (n m o : ℕ) (xs ys zs : List ℕ) → sizes (shape_of kind p q r) ≡ Some (n, m, o) → body k o t ≡ Some (xs, ys, zs)
         → rest_of ≡ follow (passed (shape_of kind p q r) n m k xs ys zs) (held_in la lb lr)
     unfolding rest admit
     rest_judged n m o xs ys zs g i = rw (K, g, i)
@@ -124,7 +122,7 @@ left_formula : (o : Answer Admitted) (f : Admitted) (a b d a₁ b₁ d₁ : List
 left_formula o f a b d a₁ b₁ d₁ h ha hb hd = rw h (refl, (ha, hb, hd))
 
 module _ (k n m t : ℕ) (s a b d a₁ b₁ d₁ : List ℕ) where
-  pub under_none : body k t s ≡ none → Under k n m t s a b d a₁ b₁ d₁ 5
+  pub under_none : body k t s ≡ None → Under k n m t s a b d a₁ b₁ d₁ 5
   under_none e = record { stopped = λ shape h. rw e; all = λ shape h. absurd (let q : ◌≡◌ {A = ℕ} 5 0 = h in omega arith) }
 
   module _ (w z : Bool) (la lb lr e : ℕ) (l : Told n m k t s a b d a₁ b₁ d₁ w z) (ha : la ≡ length a) (hb : lb ≡ length b) (hd : lr ≡ length d)
@@ -166,5 +164,5 @@ pub final_formula : (o : Answer Admitted) (shape : Shape) (k : ℕ) (r : Read) (
 final_formula (refused x) shape k r a b d a₁ b₁ d₁ h g l = absurd (let q : ◌≡◌ {A = ℕ} 0 1 = cc in omega arith)
 final_formula (accepted f) shape k r a b d a₁ b₁ d₁ h g l = (sym g ∙ h, l.0, l.1, l.2)
 
-pub head_fit : (x : HeadRead) (kind : Known) (p q r k u n : ℕ) → bytes_head x ≤ n → x ≡ hd.Is kind p q r k u → u ≤ n
+pub head_fit : (x : HeadRead) (kind : Option Kind) (p q r k u n : ℕ) → bytes_head x ≤ n → x ≡ hd.Is kind p q r k u → u ≤ n
 head_fit x kind p q r k u n e h = rw h at e

@@ -3,9 +3,8 @@
 --   formula_differ    distinct replies have distinct numbers
 --   formula_numbered  a formula's file is never refused by 0
 -- Assumes nothing.
-use Rattle.std.specs.Prelude.{◌≡◌, refl, List, ℕ}
+use Rattle.std.specs.Prelude.{◌≡◌, refl, List, ℕ, Option}
 use Rattle.std.proofs.Common.{sym, ap, ◌∙◌, arith}
-use Rattle.std.proofs.Math.Option.{Option}
 use Rattle.kinds.specs.declared.Shape.{Shape}
 use Rattle.kinds.specs.Refusal.{Answer, refused, accepted}
 use Rattle.kinds.specs.Numbers.{reply_numbers, NotByZero}

@@ -4,9 +4,8 @@
 --   file_roomy    with as many words as there may be products and targets those are all
 --   file_only     by which numbers a file is refused then
 -- Assumes nothing.
-use Rattle.std.specs.Prelude.{◌≡◌, refl, List, ℕ, length}
+use Rattle.std.specs.Prelude.{◌≡◌, refl, List, ℕ, length, Option, None, Some}
 use Rattle.std.proofs.Common.{sym, ap, ◌∙◌, subst, le_refl, le-ltb}
-use Rattle.std.proofs.Math.Option.{Option, none, some}
 use Rattle.kinds.specs.Limits.{most_products, most_targets}
 use Rattle.kinds.specs.Refusal.{Answer, refused, accepted, need, follow, RefusedOnly}
 use Rattle.kinds.specs.laws.Refusal.{need_only}
@@ -34,8 +33,8 @@ unfolding formula_file rest
 file_as s la lb lr = go (head_lines s)
   where
     go : (o : Option (Head × List ℕ)) → (need 1 o λ h. follow (head_admitted h) (held_in la lb lr)) ≡ follow (need 1 o head_admitted) (held_in la lb lr)
-    go none = refl
-    go (some h) = refl
+    go None = refl
+    go (Some h) = refl
 
 pub file_roomy : (s : List ℕ) → formula_file s most_products most_products most_targets ≡ admitted_file s
 file_roomy s = file_as s most_products most_products most_targets ∙ go (admitted_file s) refl

@@ -1,9 +1,8 @@
 -- What an accepted file has been through.
 --   file_inv   its first two lines, the tests of 2 to 8, and room in the buffers
 -- Assumes nothing.
-use Rattle.std.specs.Prelude.{ℕ, ◌≡◌, List, false}
+use Rattle.std.specs.Prelude.{ℕ, ◌≡◌, List, false, Some}
 use Rattle.std.proofs.Common.{subst}
-use Rattle.std.proofs.Math.Option.{some}
 use Rattle.kinds.specs.Refusal.{accepted}
 use Rattle.kinds.specs.laws.Refusal.{accepted_inj, need_inv, refuse_inv, follow_inv}
 use Rattle.text.specs.heads.Head.{Head, head_lines}
@@ -15,7 +14,7 @@ use Rattle.formula_files.specs.FormulaFile.{rest, formula_file}
 pub record FileAdmitted (s : List ℕ) (la lb lr : ℕ) (f : Admitted) : Type 0 where
   pub head : Head
   pub text : List ℕ
-  pub lines : head_lines s ≡ some (head, text)
+  pub lines : head_lines s ≡ Some (head, text)
   pub so : AdmittedSo head.kind head.p head.q head.r head.k (λ t. body head.k t text) f
   pub room : too_short la lb lr f ≡ false
 

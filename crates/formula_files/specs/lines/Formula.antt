@@ -4,8 +4,7 @@
 --   rows t s      == t rows
 --   body k t s    == the factors and rows of a formula with k products and t outputs: all of the text
 -- Document 01: "For Check follow `a,b`, k lines, then `row` and one line per target." Assumes nothing.
-use Rattle.std.specs.Prelude.{ℕ, zero, suc, List, [], ◌∷◌, Bool, true, false}
-use Rattle.std.proofs.Math.Option.{Option, some}
+use Rattle.std.specs.Prelude.{ℕ, zero, suc, List, [], ◌∷◌, Bool, true, false, Option, Some}
 use Rattle.kinds.specs.Sizes.{given}
 use Rattle.text.specs.Reading.{◌>>=◌}
 use Rattle.text.specs.Line.{name_line, mask_field, mask_line}
@@ -22,21 +21,21 @@ unfoldable pub product_line : List ℕ → Option (ℕ × ℕ × List ℕ)
 product_line s = do
   x ← mask_field s
   y ← mask_line x.1
-  some (x.0, y.0, y.1)
+  Some (x.0, y.0, y.1)
 
 unfoldable pub products : ℕ → List ℕ → Option (List ℕ × List ℕ × List ℕ)
-products zero s = some ([], [], s)
+products zero s = Some ([], [], s)
 products (suc k) s = do
   l ← product_line s
   m ← products k l.2
-  some (l.0 ∷ m.0, l.1 ∷ m.1, m.2)
+  Some (l.0 ∷ m.0, l.1 ∷ m.1, m.2)
 
 unfoldable pub rows : ℕ → List ℕ → Option (List ℕ × List ℕ)
-rows zero s = some ([], s)
+rows zero s = Some ([], s)
 rows (suc t) s = do
   l ← mask_line s
   m ← rows t l.1
-  some (l.0 ∷ m.0, m.1)
+  Some (l.0 ∷ m.0, m.1)
 
 -- nothing may follow
 unfoldable pub ended : List ℕ → Bool

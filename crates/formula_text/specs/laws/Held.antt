@@ -2,10 +2,9 @@
 --   held_asked   what printing it asks
 --   held_whole   the page that it is printed on
 -- Assumes nothing.
-use Rattle.std.specs.Prelude.{◌≡◌, List, ℕ, ◌≤◌, length, take}
+use Rattle.std.specs.Prelude.{◌≡◌, List, ℕ, ◌≤◌, length, take, Some}
 use Rattle.std.proofs.Math.Path.{sym}
 use Rattle.std.proofs.Common.{ap, ◌∙◌, arith}
-use Rattle.std.proofs.Math.Option.{some}
 use Rattle.kinds.specs.declared.Shape.{Shape}
 use Rattle.kinds.specs.Sizes.{sizes}
 use Rattle.kinds.specs.laws.Sizes.{sizes_bounds}
@@ -16,7 +15,7 @@ use Rattle.printing.specs.fields.laws.Pieces.{whole}
 use Rattle.printing.specs.refusals.Pages.{formula_page}
 use Rattle.formula_text.specs.FileText.{formula_text, file_text, FormulaAsked}
 
-module _ (shape : Shape) (k : ℕ) (a b rows : List ℕ) (B : FormulaBuffers shape k a b rows) (n m u : ℕ) (S : sizes shape ≡ some (n, m, u))
+module _ (shape : Shape) (k : ℕ) (a b rows : List ℕ) (B : FormulaBuffers shape k a b rows) (n m u : ℕ) (S : sizes shape ≡ Some (n, m, u))
     (xs ys zs : List ℕ) (X : xs ≡ take k a) (Y : ys ≡ take k b) (Z : zs ≡ take u rows) where
   pub held_asked : FormulaAsked xs ys zs 0
   held_asked =

@@ -1,14 +1,14 @@
 -- `kinds::kind_numbered` meets its contract. Assumes nothing.
 use borrow.Author.Tests.{ne_eqb}
 use mathlib.Core.Path.{◌≡◌, sym, ap, ◌∙◌}
-use mathlib.Core.Option.{some}
+use Rattle.std.specs.Prelude.{Some}
 use Prim.Native.Nat.{ℕ}
 use Rattle.kinds.specs.Kinds.{number_of, kind_numbered, kind_numbered_law}
 use Rattle.kinds.specs.declared.Kind.{Kind}
 use Rattle.kinds.specs.declared.Kind.TheVariants as kind
 use Rattle.kinds.proofs.kind_numbered.Goals as goal
 
-numbered : {x : ℕ} (kd : Kind) → x ≡ number_of kd → kind_numbered x ≡ some kd
+numbered : {x : ℕ} (kd : Kind) → x ≡ number_of kd → kind_numbered x ≡ Some kd
 numbered kd e = ap kind_numbered e ∙ kind_numbered_law kd
 
 pub returns-in-0 : goal.returns-in-0

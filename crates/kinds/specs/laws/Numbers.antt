@@ -5,9 +5,8 @@
 --   numbers_differ                                    replies that can be told from their numbers are the same where those are
 --   refusal_zeros                                     every number of a refusal but the first is 0
 -- Assumes nothing.
-use Rattle.std.specs.Prelude.{◌≡◌, refl, Bool, List, ℕ, zero, suc, ◌≤◌, replicate, get_or}
+use Rattle.std.specs.Prelude.{◌≡◌, refl, Bool, List, ℕ, zero, suc, ◌≤◌, replicate, get_or, Option}
 use Rattle.std.proofs.Common.{sym, ap, ◌∙◌, subst}
-use Rattle.std.proofs.Math.Option.{Option}
 use Rattle.kinds.specs.Refusal.{Answer, need, refuse, follow, also}
 use Rattle.kinds.specs.laws.Refusal.{need_only, refuse_only, follow_only, also_only}
 use Rattle.kinds.specs.Numbers.{refusal_numbers, reply_numbers, NotByZero}

@@ -8,18 +8,17 @@
 --   by_some, by_none   a refusal's number that is not 0, and 0
 --   neither      of two tests joined in one refusal that did not apply, neither holds
 -- Assumes nothing.
-use Rattle.std.specs.Prelude.{◌≡◌, refl, Bool, true, false, ◌||◌, ℕ, zero, suc, ◌≤◌, min}
+use Rattle.std.specs.Prelude.{◌≡◌, refl, Bool, true, false, ◌||◌, ℕ, zero, suc, ◌≤◌, min, Option, None, Some}
 use Rattle.std.proofs.Common.{subst, true≢false, arith}
-use Rattle.std.proofs.Math.Option.{Option, none, some}
 use Rattle.std.proofs.Math.Decide.{dec_le}
 use Rattle.kinds.specs.Refusal.{Answer, refused, accepted, need, refuse, follow, also, refused_by, RefusedOnly}
 
 pub accepted_inj : {A : Type 0} (x y : A) → accepted x ≡ accepted y → x ≡ y
 accepted_inj x y e = cc
 
-pub need_inv : {A B : Type 0} (e : ℕ) (o : Option A) (f : A → Answer B) (x : B) → need e o f ≡ accepted x → (a : A) × (o ≡ some a) × (f a ≡ accepted x)
-need_inv e none f x q = absurd (let z : ◌≡◌ {A = ℕ} 0 1 = cc in omega arith)
-need_inv e (some a) f x q = (a, refl, q)
+pub need_inv : {A B : Type 0} (e : ℕ) (o : Option A) (f : A → Answer B) (x : B) → need e o f ≡ accepted x → (a : A) × (o ≡ Some a) × (f a ≡ accepted x)
+need_inv e None f x q = absurd (let z : ◌≡◌ {A = ℕ} 0 1 = cc in omega arith)
+need_inv e (Some a) f x q = (a, refl, q)
 
 pub refuse_inv : {A : Type 0} (e : ℕ) (b : Bool) (o : Answer A) (x : A) → refuse e b o ≡ accepted x → (b ≡ false) × (o ≡ accepted x)
 refuse_inv e true o x q = absurd (let z : ◌≡◌ {A = ℕ} 0 1 = cc in omega arith)
@@ -37,8 +36,8 @@ also_inv e false o x q = (refl, q)
 -- ---- by which numbers
 module _ (P : ℕ → Type 0) where
   pub need_only : {A B : Type 0} (e : ℕ) (o : Option A) (f : A → Answer B) → P e → ((a : A) → RefusedOnly P (f a)) → RefusedOnly P (need e o f)
-  need_only e none f h g = h
-  need_only e (some a) f h g = g a
+  need_only e None f h g = h
+  need_only e (Some a) f h g = g a
 
   pub refuse_only : {A : Type 0} (e : ℕ) (b : Bool) (o : Answer A) → P e → RefusedOnly P o → RefusedOnly P (refuse e b o)
   refuse_only e true o h g = h

@@ -5,11 +5,10 @@
 --   map_few        p, q and r are at most 64, but for list
 --   poly_some, square_some, mid_some   what sizes of poly, of short and circ, and of mid, say of p, q and r
 -- Assumes nothing.
-use Rattle.std.specs.Prelude.{◌≡◌, refl, Bool, true, false, ℕ, zero, suc, ◌+◌, ◌-◌, ◌*◌, ◌/◌, ◌≤◌, leb, eqb}
+use Rattle.std.specs.Prelude.{◌≡◌, refl, Bool, true, false, ℕ, zero, suc, ◌+◌, ◌-◌, ◌*◌, ◌/◌, ◌≤◌, leb, eqb, Option, None, Some}
 use Rattle.std.proofs.Common.{sym, ap, ap₂, ◌∙◌, subst, true≢false, le-mul_of_pos_right, mul_comm, mul-le-mul, suc-mul, le-div_iff_mul-le, arith, leb-true, le-leb, eqb-true, eq-eqb}
 use Rattle.std.proofs.Math.Bool.{◌&&◌, and-eq-true_iff}
 use Rattle.std.proofs.lemmas.Bool.{false≢true, lt-leb}
-use Rattle.std.proofs.Math.Option.{Option, none, some}
 use Rattle.std.proofs.Math.Nat.{one-le-mul}
 use Rattle.std.proofs.Math.Decide.{dec_le}
 use Rattle.kinds.specs.Kinds.{is_list}
@@ -27,13 +26,13 @@ pub is_not : (t : Bool) → (t ≡ true → ⊥) → t ≡ false
 is_not true h = absurd (h refl)
 is_not false h = refl
 
-pub given_yes : {A : Type 0} (t : Bool) (x : A) → t ≡ true → given t x ≡ some x
+pub given_yes : {A : Type 0} (t : Bool) (x : A) → t ≡ true → given t x ≡ Some x
 given_yes t x e = ap (λ (b : Bool). given b x) e
 
-pub given_no : {A : Type 0} (t : Bool) (x : A) → (t ≡ true → ⊥) → given t x ≡ none
+pub given_no : {A : Type 0} (t : Bool) (x : A) → (t ≡ true → ⊥) → given t x ≡ None
 given_no t x h = ap (λ (b : Bool). given b x) (is_not t h)
 
-pub given_some : {A : Type 0} (t : Bool) (x y : A) → given t x ≡ some y → (t ≡ true) × (x ≡ y)
+pub given_some : {A : Type 0} (t : Bool) (x y : A) → given t x ≡ Some y → (t ≡ true) × (x ≡ y)
 given_some true x y e = (refl, cc)
 given_some false x y e = absurd (let z : ◌≡◌ {A = ℕ} 0 1 = cc in omega arith)
 
@@ -123,71 +122,71 @@ module _ (x y p q r : ℕ) where
       let u = both (eqb x y) (within p q) t.1 in
       record { third = eqb-true r 0 t.0; tie = eqb-true x y u.0; fits = within_yes p q u.1 }
 
-  tied_is : Tied x y p q r → tied ≡ some (p, q, p)
+  tied_is : Tied x y p q r → tied ≡ Some (p, q, p)
   tied_is T =
       given_yes (eqb r 0 && (eqb x y && within p q)) (p, q, p)
       (ap₂ ◌&&◌ (eq-eqb r 0 T.third) (ap₂ ◌&&◌ (eq-eqb x y T.tie) (within_of p q T.fits)))
 
-  tied_not : (Tied x y p q r → ⊥) → tied ≡ none
+  tied_not : (Tied x y p q r → ⊥) → tied ≡ None
   tied_not h = given_no (eqb r 0 && (eqb x y && within p q)) (p, q, p) (λ e. h (tied_yes e))
 
-  tied_some : (z : ℕ × ℕ × ℕ) → tied ≡ some z → Tied x y p q r × ((p, q, p) ≡ z)
+  tied_some : (z : ℕ × ℕ × ℕ) → tied ≡ Some z → Tied x y p q r × ((p, q, p) ≡ z)
   tied_some z e = let g = given_some (eqb r 0 && (eqb x y && within p q)) (p, q, p) z e in (tied_yes g.0, g.1)
 
 -- ---- each kind, from its tests
 module _ (p q r : ℕ) where
-  pub poly_is : r ≡ 0 → within p q ≡ true → poly_sizes p q r ≡ some (p, q, p + q - 1)
+  pub poly_is : r ≡ 0 → within p q ≡ true → poly_sizes p q r ≡ Some (p, q, p + q - 1)
   unfolding poly_sizes
   poly_is a b = given_yes (eqb r 0 && within p q) (p, q, p + q - 1) (ap₂ ◌&&◌ (eq-eqb r 0 a) b)
 
-  pub poly_not : (r ≡ 0 → within p q ≡ true → ⊥) → poly_sizes p q r ≡ none
+  pub poly_not : (r ≡ 0 → within p q ≡ true → ⊥) → poly_sizes p q r ≡ None
   unfolding poly_sizes
   poly_not h = given_no (eqb r 0 && within p q) (p, q, p + q - 1) (λ e. let t = both (eqb r 0) (within p q) e in h (eqb-true r 0 t.0) t.1)
 
-  pub poly_some : (z : ℕ × ℕ × ℕ) → poly_sizes p q r ≡ some z → (r ≡ 0) × Within p q × ((p, q, p + q - 1) ≡ z)
+  pub poly_some : (z : ℕ × ℕ × ℕ) → poly_sizes p q r ≡ Some z → (r ≡ 0) × Within p q × ((p, q, p + q - 1) ≡ z)
   unfolding poly_sizes
   poly_some z e =
       let g = given_some (eqb r 0 && within p q) (p, q, p + q - 1) z e in
       let t = both (eqb r 0) (within p q) g.0 in
       (eqb-true r 0 t.0, within_yes p q t.1, g.1)
 
-  pub square_is : Tied p q p q r → square_sizes p q r ≡ some (p, q, p)
+  pub square_is : Tied p q p q r → square_sizes p q r ≡ Some (p, q, p)
   unfolding square_sizes
   square_is T = tied_is p q p q r T
 
-  pub square_not : (Tied p q p q r → ⊥) → square_sizes p q r ≡ none
+  pub square_not : (Tied p q p q r → ⊥) → square_sizes p q r ≡ None
   unfolding square_sizes
   square_not h = tied_not p q p q r h
 
-  pub square_some : (z : ℕ × ℕ × ℕ) → square_sizes p q r ≡ some z → Tied p q p q r × ((p, q, p) ≡ z)
+  pub square_some : (z : ℕ × ℕ × ℕ) → square_sizes p q r ≡ Some z → Tied p q p q r × ((p, q, p) ≡ z)
   unfolding square_sizes
   square_some z e = tied_some p q p q r z e
 
-  pub mid_is : Tied q (2 * p - 1) p q r → mid_sizes p q r ≡ some (p, q, p)
+  pub mid_is : Tied q (2 * p - 1) p q r → mid_sizes p q r ≡ Some (p, q, p)
   unfolding mid_sizes
   mid_is T = tied_is q (2 * p - 1) p q r T
 
-  pub mid_not : (Tied q (2 * p - 1) p q r → ⊥) → mid_sizes p q r ≡ none
+  pub mid_not : (Tied q (2 * p - 1) p q r → ⊥) → mid_sizes p q r ≡ None
   unfolding mid_sizes
   mid_not h = tied_not q (2 * p - 1) p q r h
 
-  pub mid_some : (z : ℕ × ℕ × ℕ) → mid_sizes p q r ≡ some z → Tied q (2 * p - 1) p q r × ((p, q, p) ≡ z)
+  pub mid_some : (z : ℕ × ℕ × ℕ) → mid_sizes p q r ≡ Some z → Tied q (2 * p - 1) p q r × ((p, q, p) ≡ z)
   unfolding mid_sizes
   mid_some z e = tied_some q (2 * p - 1) p q r z e
 
-  pub mat_is : within (p * q) (q * r) ≡ true → mat_sizes p q r ≡ some (p * q, q * r, p * r)
+  pub mat_is : within (p * q) (q * r) ≡ true → mat_sizes p q r ≡ Some (p * q, q * r, p * r)
   unfolding mat_sizes
   mat_is a = given_yes (within (p * q) (q * r)) (p * q, q * r, p * r) a
 
-  pub mat_not : (MatWithin p q r → ⊥) → mat_sizes p q r ≡ none
+  pub mat_not : (MatWithin p q r → ⊥) → mat_sizes p q r ≡ None
   unfolding mat_sizes
   mat_not h = given_no (within (p * q) (q * r)) (p * q, q * r, p * r) (λ e. h (mat_within p q r e))
 
-  pub list_is : 1 ≤ q → within p 1 ≡ true → within r 1 ≡ true → list_sizes p q r ≡ some (p, 1, r)
+  pub list_is : 1 ≤ q → within p 1 ≡ true → within r 1 ≡ true → list_sizes p q r ≡ Some (p, 1, r)
   unfolding list_sizes
   list_is a b c = given_yes (leb 1 q && (within p 1 && within r 1)) (p, 1, r) (ap₂ ◌&&◌ (le-leb 1 q a) (ap₂ ◌&&◌ b c))
 
-  pub list_not : (1 ≤ q → within p 1 ≡ true → within r 1 ≡ true → ⊥) → list_sizes p q r ≡ none
+  pub list_not : (1 ≤ q → within p 1 ≡ true → within r 1 ≡ true → ⊥) → list_sizes p q r ≡ None
   unfolding list_sizes
   list_not h =
       given_no (leb 1 q && (within p 1 && within r 1)) (p, 1, r)
@@ -202,7 +201,7 @@ pub record Bounds (n m t : ℕ) : Type 0 where
 abbrev Bounded : ℕ × ℕ × ℕ → Type 0
 Bounded z = Bounds z.0 z.1 z.2
 
-poly_bounds : (p q r : ℕ) (z : ℕ × ℕ × ℕ) → poly_sizes p q r ≡ some z → Bounded z
+poly_bounds : (p q r : ℕ) (z : ℕ × ℕ × ℕ) → poly_sizes p q r ≡ Some z → Bounded z
 poly_bounds p q r z e =
     let g = poly_some p q r z e in
     let W = g.1 in
@@ -217,14 +216,14 @@ tied_bounds : {x y p q r : ℕ} {z : ℕ × ℕ × ℕ} → Tied x y p q r × ((
 tied_bounds g =
     let W = g.0.fits in subst Bounded g.1 (record { fits = W; some_output = W.first; most_outputs = W.first_most })
 
-mat_bounds : (p q r : ℕ) (z : ℕ × ℕ × ℕ) → mat_sizes p q r ≡ some z → Bounded z
+mat_bounds : (p q r : ℕ) (z : ℕ × ℕ × ℕ) → mat_sizes p q r ≡ Some z → Bounded z
 unfolding mat_sizes
 mat_bounds p q r z e =
     let g = given_some (within (p * q) (q * r)) (p * q, q * r, p * r) z e in
     let M : MatWithin p q r = mat_within p q r g.0 in
     subst Bounded g.1 (record { fits = M.whole; some_output = one-le-mul M.outputs.first M.outputs.second; most_outputs = M.outputs.product })
 
-list_bounds : (p q r : ℕ) (z : ℕ × ℕ × ℕ) → list_sizes p q r ≡ some z → Bounded z
+list_bounds : (p q r : ℕ) (z : ℕ × ℕ × ℕ) → list_sizes p q r ≡ Some z → Bounded z
 unfolding list_sizes
 list_bounds p q r z e =
     let g = given_some (leb 1 q && (within p 1 && within r 1)) (p, 1, r) z e in
@@ -232,7 +231,7 @@ list_bounds p q r z e =
     let R : Within r 1 = within_yes r 1 t.1 in
     subst Bounded g.1 (record { fits = within_yes p 1 t.0; some_output = R.first; most_outputs = R.first_most })
 
-each_bounds : (k : Kind) (p q r : ℕ) (z : ℕ × ℕ × ℕ) → sizes_for k p q r ≡ some z → Bounded z
+each_bounds : (k : Kind) (p q r : ℕ) (z : ℕ × ℕ × ℕ) → sizes_for k p q r ≡ Some z → Bounded z
 each_bounds kind.Poly p q r z e = poly_bounds p q r z e
 each_bounds kind.Short p q r z e = tied_bounds (square_some p q r z e)
 each_bounds kind.Circ p q r z e = tied_bounds (square_some p q r z e)
@@ -240,11 +239,11 @@ each_bounds kind.Mat p q r z e = mat_bounds p q r z e
 each_bounds kind.List p q r z e = list_bounds p q r z e
 each_bounds kind.Mid p q r z e = tied_bounds (mid_some p q r z e)
 
-pub sizes_bounds : (shape : Shape) (z : ℕ × ℕ × ℕ) → sizes shape ≡ some z → Bounds z.0 z.1 z.2
+pub sizes_bounds : (shape : Shape) (z : ℕ × ℕ × ℕ) → sizes shape ≡ Some z → Bounds z.0 z.1 z.2
 sizes_bounds shape z e = each_bounds shape.kind shape.p shape.q shape.r z e
 
 -- of a list n is p, and the outputs are its r targets
-each_list : (k : Kind) (p q r : ℕ) (z : ℕ × ℕ × ℕ) → is_list k ≡ true → sizes_for k p q r ≡ some z → (p, 1, r) ≡ z
+each_list : (k : Kind) (p q r : ℕ) (z : ℕ × ℕ × ℕ) → is_list k ≡ true → sizes_for k p q r ≡ Some z → (p, 1, r) ≡ z
 unfolding list_sizes
 each_list kind.Poly p q r z k e = absurd (false≢true k)
 each_list kind.Short p q r z k e = absurd (false≢true k)
@@ -253,10 +252,10 @@ each_list kind.Mat p q r z k e = absurd (false≢true k)
 each_list kind.List p q r z k e = (given_some (leb 1 q && (within p 1 && within r 1)) (p, 1, r) z e).1
 each_list kind.Mid p q r z k e = absurd (false≢true k)
 
-pub list_bits : (shape : Shape) (z : ℕ × ℕ × ℕ) → is_list shape.kind ≡ true → sizes shape ≡ some z → shape.p ≡ z.0
+pub list_bits : (shape : Shape) (z : ℕ × ℕ × ℕ) → is_list shape.kind ≡ true → sizes shape ≡ Some z → shape.p ≡ z.0
 list_bits shape z k e = ap (λ (x : ℕ × ℕ × ℕ). x.0) (each_list shape.kind shape.p shape.q shape.r z k e)
 
-pub list_outputs : (shape : Shape) (z : ℕ × ℕ × ℕ) → is_list shape.kind ≡ true → sizes shape ≡ some z → shape.r ≡ z.2
+pub list_outputs : (shape : Shape) (z : ℕ × ℕ × ℕ) → is_list shape.kind ≡ true → sizes shape ≡ Some z → shape.r ≡ z.2
 list_outputs shape z k e = ap (λ (x : ℕ × ℕ × ℕ). x.2) (each_list shape.kind shape.p shape.q shape.r z k e)
 
 -- ---- p, q and r of a map
@@ -268,7 +267,7 @@ pub record FewSizes (p q r : ℕ) : Type 0 where
 few_within : {p q r : ℕ} → Within p q → r ≡ 0 → FewSizes p q r
 few_within W z = record { first = W.first_most; second = W.second_most; third = omega arith }
 
-each_few : (k : Kind) (p q r : ℕ) (z : ℕ × ℕ × ℕ) → is_list k ≡ false → sizes_for k p q r ≡ some z → FewSizes p q r
+each_few : (k : Kind) (p q r : ℕ) (z : ℕ × ℕ × ℕ) → is_list k ≡ false → sizes_for k p q r ≡ Some z → FewSizes p q r
 unfolding mat_sizes
 each_few kind.Poly p q r z k e = let g = poly_some p q r z e in few_within g.1 g.0
 each_few kind.Short p q r z k e = let T = (square_some p q r z e).0 in few_within T.fits T.third
@@ -279,5 +278,5 @@ each_few kind.Mat p q r z k e =
 each_few kind.List p q r z k e = absurd (true≢false k)
 each_few kind.Mid p q r z k e = let T = (mid_some p q r z e).0 in few_within T.fits T.third
 
-pub map_few : (shape : Shape) (z : ℕ × ℕ × ℕ) → is_list shape.kind ≡ false → sizes shape ≡ some z → FewSizes shape.p shape.q shape.r
+pub map_few : (shape : Shape) (z : ℕ × ℕ × ℕ) → is_list shape.kind ≡ false → sizes shape ≡ Some z → FewSizes shape.p shape.q shape.r
 map_few shape z k e = each_few shape.kind shape.p shape.q shape.r z k e

@@ -7,7 +7,7 @@
 --   cheapest_in_first           which no other precedes:
 --   cheapest_formula, cheapest_found   it is the cheapest of the formulae
 -- Assumes nothing.
-use Rattle.std.specs.Prelude.{◌≡◌, ◌⊎◌, ◌↔◌, Bool, false, ℕ, ◌+◌, ◌<◌, ◌≤◌, length}
+use Rattle.std.specs.Prelude.{◌≡◌, ◌⊎◌, ◌↔◌, Bool, false, ℕ, ◌+◌, ◌<◌, ◌≤◌, length, Some}
 use Rattle.std.proofs.Math.Path.{refl, sym, subst}
 use Rattle.std.proofs.Common.{ap, ◌∙◌, inl, inr}
 use Rattle.std.proofs.Math.Bool.{true}
@@ -15,7 +15,6 @@ use mathlib.Core.List.Memᴰ
 use mathlib.Core.List.{List, [], ◌∷◌, Memᴰ}
 use mathlib.Core.List.Permᴰ
 use mathlib.Core.List.{Permᴰ}
-use Rattle.std.proofs.Math.Option.{some}
 use native.Mathlib.Omega.{arith}
 use Rattle.linear.specs.Space.{Space}
 use Rattle.linear.specs.Span.{Span, Within, SameSpan}
@@ -245,5 +244,5 @@ module _ (S : Space) (gens : List S.Vec) where
           first = λ fs m. cheapest_in_first fs ((formulae_are S gens W ρ fs).0 m);
         }
 
-    pub cheapest_found : cheapest prices (formulae S gens W) ≡ some (cheapest_in S gens js W)
+    pub cheapest_found : cheapest prices (formulae S gens W) ≡ Some (cheapest_in S gens js W)
     cheapest_found = cheapest_only prices (formulae S gens W) (cheapest_in S gens js W) cheapest_formula

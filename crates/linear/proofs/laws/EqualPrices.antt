@@ -5,12 +5,11 @@
 --   total_even           as many generators cost as much
 --   equal_prices         what Rank says is the first formula of the first entry
 -- Assumes nothing.
-use Rattle.std.specs.Prelude.{◌≡◌, ◌⊎◌, Bool, true, false, cond, length, get_or}
+use Rattle.std.specs.Prelude.{◌≡◌, ◌⊎◌, Bool, true, false, cond, length, get_or, Some}
 use Rattle.std.proofs.Math.Path.{refl}
 use Rattle.std.proofs.Common.{sym, ap, ap₂, ◌∙◌, subst, inl, inr, ⊎_elim, arith}
 use mathlib.Core.List.Memᴰ
 use mathlib.Core.List.{List, [], ◌∷◌, Memᴰ}
-use Rattle.std.proofs.Math.Option.{some}
 use Prim.Native.Nat.{ℕ, zero, suc, ◌+◌, ◌<◌}
 use Rattle.std.proofs.Math.Nat.{suc_inj}
 use Rattle.linear.specs.Space.{Space}
@@ -176,7 +175,7 @@ total_even prices n c (e ∷ es) (f ∷ fs) l h k =
 module _ (S : Space) (gens targets : List S.Vec) (prices : List ℕ)
     (even : (i j : ℕ) → i < length gens → j < length gens → get_or prices i 0 ≡ get_or prices j 0) where
   pub equal_prices : (fs : List ℕ) → fewest S gens targets prices ≡ formula fs
-      → (es : List ℕ) × (first (entries S gens targets (length fs)) ≡ some es) × (first (formulae S gens (space S gens targets es)) ≡ some fs)
+      → (es : List ℕ) × (first (entries S gens targets (length fs)) ≡ Some es) × (first (formulae S gens (space S gens targets es)) ≡ Some fs)
   equal_prices fs q = at (entries S gens targets (length fs)) refl
     where
       R : RankFormula S gens targets prices fs
@@ -209,13 +208,13 @@ module _ (S : Space) (gens targets : List S.Vec) (prices : List ℕ)
           clash {x} (inr b) (inr m) o = absurd (before_asym fs x b (o m))
 
       at : (l : List (List ℕ)) → entries S gens targets (length fs) ≡ l
-          → (es : List ℕ) × (first (entries S gens targets (length fs)) ≡ some es) × (first (formulae S gens (space S gens targets es)) ≡ some fs)
+          → (es : List ℕ) × (first (entries S gens targets (length fs)) ≡ Some es) × (first (formulae S gens (space S gens targets es)) ≡ Some fs)
       at [] e = absurd (Memᴰ.not-nil (subst (Memᴰ R.entry) e R.an_entry))
       at (es ∷ l) e = (
         es,
         ap first e,
         first_formula_law S gens targets (length fs) (space S gens targets es) (entries_sound S gens targets (length fs) es m)
-            ∙ ap some (ap (first_of S gens targets) same ∙ sym own),
+            ∙ ap Some (ap (first_of S gens targets) same ∙ sym own),
       )
         where
           m : Memᴰ es (entries S gens targets (length fs))

@@ -9,10 +9,9 @@
 -- Assumes nothing.
 use Rattle.std.proofs.Math.Path.{◌≡◌, refl, ap}
 use Rattle.std.proofs.Common.{sym, ◌∙◌, subst, inl, inr, true≢false, arith}
-use Rattle.std.specs.Prelude.{◌⊎◌, ◌↔◌, Bool, cond, length}
+use Rattle.std.specs.Prelude.{◌⊎◌, ◌↔◌, Bool, cond, length, Option, None, Some}
 use Rattle.std.proofs.Math.Bool.{true, false, not}
 use mathlib.Core.List.{List, [], Memᴰ}
-use Rattle.std.proofs.Math.Option.{Option, none, some}
 use Prim.Native.Nat.{ℕ, zero, suc, ◌+◌, ◌<◌, ◌≤◌}
 use Rattle.std.proofs.Math.Decide.{dec_lt, dec_le, ℕ_discrete}
 use Rattle.linear.specs.Space.{Space}
@@ -95,22 +94,22 @@ module _ (S : Space) (gens targets : List S.Vec) (prices : List ℕ) where
     pub dims : ℕ
     pub from : k ≤ dims
     pub below : dims < k + n
-    pub is : cheapest prices (all_formulae S gens targets dims) ≡ some fs
+    pub is : cheapest prices (all_formulae S gens targets dims) ≡ Some fs
     pub none : (j : ℕ) → k ≤ j → j < dims → entries S gens targets j ≡ []
 
   -- no cheapest formula: no entry
-  no_entries : (k : ℕ) → cheapest prices (all_formulae S gens targets k) ≡ none → entries S gens targets k ≡ []
+  no_entries : (k : ℕ) → cheapest prices (all_formulae S gens targets k) ≡ None → entries S gens targets k ≡ []
   no_entries k q = (all_formulae_none S gens targets k).0 ((cheapest_none prices (all_formulae S gens targets k)).0 q)
 
-  pub least_some : (n k : ℕ) (fs : List ℕ) → least_from S gens targets prices n k ≡ some fs → Least n k fs
+  pub least_some : (n k : ℕ) (fs : List ℕ) → least_from S gens targets prices n k ≡ Some fs → Least n k fs
   unfolding least_from
   least_some zero k fs e = absurd (let z : ◌≡◌ {A = ℕ} 0 1 = cc in omega arith)
   least_some (suc n) k fs e = go (cheapest prices (all_formulae S gens targets k)) refl e (least_some n (suc k) fs)
     where
-      go : (o : Option (List ℕ)) → cheapest prices (all_formulae S gens targets k) ≡ o → or_else o (found n (suc k)) ≡ some fs
-          → (found n (suc k) ≡ some fs → Least n (suc k) fs) → Least (suc n) k fs
-      go (some x) q e ih = record { dims = k; from = omega arith; below = omega arith; is = q ∙ e; none = λ j a b. absurd (omega arith) }
-      go none q e ih =
+      go : (o : Option (List ℕ)) → cheapest prices (all_formulae S gens targets k) ≡ o → or_else o (found n (suc k)) ≡ Some fs
+          → (found n (suc k) ≡ Some fs → Least n (suc k) fs) → Least (suc n) k fs
+      go (Some x) q e ih = record { dims = k; from = omega arith; below = omega arith; is = q ∙ e; none = λ j a b. absurd (omega arith) }
+      go None q e ih =
           let L = ih e in
           record {
             dims = L.dims;
@@ -124,27 +123,27 @@ module _ (S : Space) (gens targets : List S.Vec) (prices : List ℕ) where
           at j a L b (yes d) = ap (entries S gens targets) d ∙ no_entries k q
           at j a L b (no d) = L.none j (omega arith) b
 
-  pub least_none : (n k : ℕ) → least_from S gens targets prices n k ≡ none → (j : ℕ) → k ≤ j → j < k + n → entries S gens targets j ≡ []
+  pub least_none : (n k : ℕ) → least_from S gens targets prices n k ≡ None → (j : ℕ) → k ≤ j → j < k + n → entries S gens targets j ≡ []
   unfolding least_from
   least_none zero k e j a b = absurd (omega arith)
   least_none (suc n) k e j a b = go (cheapest prices (all_formulae S gens targets k)) refl e (ℕ_discrete j k) (λ d. least_none n (suc k) d j)
     where
-      go : (o : Option (List ℕ)) → cheapest prices (all_formulae S gens targets k) ≡ o → or_else o (found n (suc k)) ≡ none → Dec (j ≡ k)
-          → (found n (suc k) ≡ none → suc k ≤ j → j < suc k + n → entries S gens targets j ≡ []) → entries S gens targets j ≡ []
-      go (some x) q e d ih = absurd (let z : ◌≡◌ {A = ℕ} 0 1 = cc in omega arith)
-      go none q e (yes d) ih = ap (entries S gens targets) d ∙ no_entries k q
-      go none q e (no d) ih = ih e (omega arith) (omega arith)
+      go : (o : Option (List ℕ)) → cheapest prices (all_formulae S gens targets k) ≡ o → or_else o (found n (suc k)) ≡ None → Dec (j ≡ k)
+          → (found n (suc k) ≡ None → suc k ≤ j → j < suc k + n → entries S gens targets j ≡ []) → entries S gens targets j ≡ []
+      go (Some x) q e d ih = absurd (let z : ◌≡◌ {A = ℕ} 0 1 = cc in omega arith)
+      go None q e (yes d) ih = ap (entries S gens targets) d ∙ no_entries k q
+      go None q e (no d) ih = ih e (omega arith) (omega arith)
 
   -- ---- Rank
   abbrev says : Bool → Fewest
   says b = cond b beyond (first_formula (found 7 (dim S targets)))
 
-  pub fewest_some : (fs : List ℕ) → missed S gens targets ≡ false → least_from S gens targets prices 7 (dim S targets) ≡ some fs
+  pub fewest_some : (fs : List ℕ) → missed S gens targets ≡ false → least_from S gens targets prices 7 (dim S targets) ≡ Some fs
       → fewest S gens targets prices ≡ formula fs
   unfolding fewest
   fewest_some fs b e = ap says b ∙ ap first_formula e
 
-  pub fewest_none : missed S gens targets ≡ false → least_from S gens targets prices 7 (dim S targets) ≡ none → fewest S gens targets prices ≡ above
+  pub fewest_none : missed S gens targets ≡ false → least_from S gens targets prices 7 (dim S targets) ≡ None → fewest S gens targets prices ≡ above
   unfolding fewest
   fewest_none b e = ap says b ∙ ap first_formula e
 
@@ -155,16 +154,16 @@ module _ (S : Space) (gens targets : List S.Vec) (prices : List ℕ) where
   -- the three answers, with what they come from
   pub data Came : Fewest → Type 0 where
     far : missed S gens targets ≡ true → Came beyond
-    high : missed S gens targets ≡ false → least_from S gens targets prices 7 (dim S targets) ≡ none → Came above
-    here : (fs : List ℕ) → missed S gens targets ≡ false → least_from S gens targets prices 7 (dim S targets) ≡ some fs → Came (formula fs)
+    high : missed S gens targets ≡ false → least_from S gens targets prices 7 (dim S targets) ≡ None → Came above
+    here : (fs : List ℕ) → missed S gens targets ≡ false → least_from S gens targets prices 7 (dim S targets) ≡ Some fs → Came (formula fs)
 
   pub came : Came (fewest S gens targets prices)
   came = go (missed S gens targets) refl (found 7 (dim S targets)) refl
     where
       go : (b : Bool) → missed S gens targets ≡ b → (o : Option (List ℕ)) → found 7 (dim S targets) ≡ o → Came (fewest S gens targets prices)
       go true q o e = subst Came (sym (fewest_missed q)) (far q)
-      go false q none e = subst Came (sym (fewest_none q e)) (high q e)
-      go false q (some fs) e = subst Came (sym (fewest_some fs q e)) (here fs q e)
+      go false q None e = subst Came (sym (fewest_none q e)) (high q e)
+      go false q (Some fs) e = subst Came (sym (fewest_some fs q e)) (here fs q e)
 
   pub fewest_beyond : (fewest S gens targets prices ≡ beyond) ↔ (Computes S targets gens → ⊥)
   fewest_beyond = (λ e h. from (fewest S gens targets prices) came e h, λ n. to n (missed S gens targets) refl)
@@ -179,7 +178,7 @@ module _ (S : Space) (gens targets : List S.Vec) (prices : List ℕ) where
       to n false q = absurd (n (missed_no S gens targets q))
 
   -- ---- what is said
-  rank_formula : (fs : List ℕ) → found 7 (dim S targets) ≡ some fs → RankFormula S gens targets prices fs
+  rank_formula : (fs : List ℕ) → found 7 (dim S targets) ≡ Some fs → RankFormula S gens targets prices fs
   rank_formula fs e =
       record {
         entry = m.0;
@@ -255,8 +254,8 @@ module _ (S : Space) (gens targets : List S.Vec) (prices : List ℕ) where
           q = no_missed S gens targets (λ t m. span_mono S h (c t m))
 
           go : (o : Option (List ℕ)) → found 7 (dim S targets) ≡ o → (fs : List ℕ) × (fewest S gens targets prices ≡ formula fs)
-          go (some fs) e = (fs, fewest_some fs q e)
-          go none e =
+          go (Some fs) e = (fs, fewest_some fs q e)
+          go None e =
               let s = some_entry S gens targets xs h c in
               let m = entries_complete S gens targets s.0 s.3 s.4 in
               absurd (mathlib.Core.List.Memᴰ.not-nil (subst (Memᴰ m.0) (least_none 7 (dim S targets) e s.0 s.1
@@ -274,8 +273,8 @@ module _ (S : Space) (gens targets : List S.Vec) (prices : List ℕ) where
 
       to : Computes S targets gens → ((k : ℕ) → dim S targets ≤ k → k ≤ dim S targets + 6 → entries S gens targets k ≡ []) → (o : Option (List ℕ))
           → found 7 (dim S targets) ≡ o → fewest S gens targets prices ≡ above
-      to h n none e = fewest_none (no_missed S gens targets h) e
-      to h n (some fs) e =
+      to h n None e = fewest_none (no_missed S gens targets h) e
+      to h n (Some fs) e =
           let L = least_some 7 (dim S targets) fs e in
           let m = all_formulae_mem S gens targets L.dims fs (cheapest_is prices (all_formulae S gens targets L.dims) fs L.is).member in
           absurd (mathlib.Core.List.Memᴰ.not-nil (subst (Memᴰ m.0) (n L.dims L.from (let a = L.below in omega arith)) m.1))

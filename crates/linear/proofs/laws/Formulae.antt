@@ -3,13 +3,12 @@
 --   formulae_ordered   they stand in dictionary order
 --   first_formula_law      the first formula of a solution space is the greedy choice of generators inside it
 -- Assumes nothing.
-use Rattle.std.specs.Prelude.{◌≡◌, ◌⊎◌, ◌↔◌, true, false, cond}
+use Rattle.std.specs.Prelude.{◌≡◌, ◌⊎◌, ◌↔◌, true, false, cond, Option, None, Some}
 use Rattle.std.proofs.Math.Path.{refl, ap}
 use Rattle.std.proofs.Common.{sym, ◌∙◌, subst, inl, inr, arith}
 use Rattle.std.proofs.Math.Bool.{Bool}
 use mathlib.Core.List.Memᴰ
 use mathlib.Core.List.{List, [], ◌∷◌, Memᴰ}
-use Rattle.std.proofs.Math.Option.{Option, none, some}
 use Prim.Native.Nat.{ℕ, ◌-◌}
 use Rattle.std.proofs.Math.ListN.{length}
 use Rattle.linear.specs.Space.{Space}
@@ -29,22 +28,22 @@ use Rattle.linear.specs.Extension.{extension}
 use Rattle.linear.proofs.laws.Extension.{chosen_length, extension_space, extension_rising, extension_length, entries_first, greedy_listed}
 
 -- ---- the first of a list
-pub first_none : {A : Type 0} (l : List A) → first l ≡ none → l ≡ []
+pub first_none : {A : Type 0} (l : List A) → first l ≡ None → l ≡ []
 first_none [] e = refl
 first_none (x ∷ l) e = absurd (let z : ◌≡◌ {A = ℕ} 0 1 = cc in omega arith)
 
-pub first_some : {A : Type 0} (l : List A) (x : A) → first l ≡ some x → (r : List A) × (l ≡ x ∷ r)
+pub first_some : {A : Type 0} (l : List A) (x : A) → first l ≡ Some x → (r : List A) × (l ≡ x ∷ r)
 first_some [] x e = absurd (let z : ◌≡◌ {A = ℕ} 0 1 = cc in omega arith)
 first_some (y ∷ l) x e = (l, cc)
 
 -- in a list in order, a member before which none stands is the first
-first_least : (l : List (List ℕ)) → Ordered Before l → (x : List ℕ) → Memᴰ x l → ((y : List ℕ) → Memᴰ y l → (x ≡ y) ⊎ Before x y) → first l ≡ some x
+first_least : (l : List (List ℕ)) → Ordered Before l → (x : List ℕ) → Memᴰ x l → ((y : List ℕ) → Memᴰ y l → (x ≡ y) ⊎ Before x y) → first l ≡ Some x
 first_least [] o x m h = absurd (Memᴰ.not-nil m)
 first_least (y ∷ l) o x m h = go (Memᴰ.cases_cons m) (h y (Memᴰ.head refl))
   where
-    go : (x ≡ y) ⊎ Memᴰ x l → (x ≡ y) ⊎ Before x y → ◌≡◌ {A = Option (List ℕ)} (some y) (some x)
-    go (inl e) b = ap some (sym e)
-    go (inr k) (inl e) = ap some (sym e)
+    go : (x ≡ y) ⊎ Memᴰ x l → (x ≡ y) ⊎ Before x y → ◌≡◌ {A = Option (List ℕ)} (Some y) (Some x)
+    go (inl e) b = ap Some (sym e)
+    go (inr k) (inl e) = ap Some (sym e)
     go (inr k) (inr b) = absurd (before_asym x y b (o.0 x k))
 
 only_ordered : (p : List ℕ → Bool) (l : List (List ℕ)) → Ordered Before l → Ordered Before (only p l)
@@ -103,7 +102,7 @@ module _ (S : Space) (gens : List S.Vec) where
     pub free : (k : ℕ) (W : List Vec) → Solution S gens targets k W → Solution S gens [] k W
     free k W E = record { reduced = E.reduced; size = E.size; holds = (λ t m. absurd (Memᴰ.not-nil m)); spanned = E.spanned }
 
-    pub first_formula_law : (k : ℕ) (W : List Vec) → Solution S gens targets k W → first (formulae S gens W) ≡ some (extension S gens [] W)
+    pub first_formula_law : (k : ℕ) (W : List Vec) → Solution S gens targets k W → first (formulae S gens W) ≡ Some (extension S gens [] W)
     unfolding formulae
     first_formula_law k W E =
         first_least (formulae S gens W) (formulae_ordered W) x ((formulae_are W E.reduced x).1 here) least

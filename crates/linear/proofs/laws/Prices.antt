@@ -15,7 +15,7 @@
 -- Assumes nothing.
 use Rattle.std.proofs.Math.Path.{◌≡◌, refl, sym, ap, subst}
 use Rattle.std.proofs.Common.{ap₂, ◌∙◌, suc-mul, mul-le-mul_right, ltb-true, lt-ltb, eqb-true, eq-eqb}
-use Rattle.std.specs.Prelude.{◌≢◌, ◌⊎◌, ◌↔◌, Bool, true, false, cond, ◌&&◌, ◌||◌, eqb, ltb}
+use Rattle.std.specs.Prelude.{◌≢◌, ◌⊎◌, ◌↔◌, Bool, true, false, cond, ◌&&◌, ◌||◌, eqb, ltb, Option, None, Some}
 use Rattle.std.proofs.Math.Logic.{inl, inr}
 use Rattle.std.proofs.lemmas.Bool.{false≢true}
 use mathlib.Core.List.{List, [], ◌∷◌, ◌++◌, map, cons≢nil}
@@ -23,7 +23,6 @@ use mathlib.Core.List.Memᴰ
 use mathlib.Core.List.{Memᴰ}
 use mathlib.Core.List.Permᴰ
 use mathlib.Core.List.{Permᴰ}
-use Rattle.std.proofs.Math.Option.{Option, none, some}
 use Prim.Native.Nat.{ℕ, zero, suc, ◌+◌, ◌*◌, ◌%◌, ◌<◌, ◌≤◌}
 use native.Mathlib.Omega.{arith}
 use Rattle.std.proofs.Math.Decide.{dec_lt}
@@ -193,14 +192,14 @@ module _ (prices : List ℕ) where
       go (inr (inr p)) = absurd (c.first fs d.member p)
 
   -- from one that is held
-  held_cheapest : (l : List (List ℕ)) (h : List ℕ) → (es : List ℕ) × (cheapest_from prices (some h) l ≡ some es) × Cheapest (h ∷ l) es
+  held_cheapest : (l : List (List ℕ)) (h : List ℕ) → (es : List ℕ) × (cheapest_from prices (Some h) l ≡ Some es) × Cheapest (h ∷ l) es
   unfolding cheapest_from cheaper
   held_cheapest [] h =
       (h, refl, record { member = Memᴰ.head refl; first = mem_cons {P = λ fs. ¬ Precedes fs h} (precedes_self h) (λ fs m. absurd (Memᴰ.not-nil m)) })
   held_cheapest (x ∷ l) h = go (precedes prices x h) refl (held_cheapest l x) (held_cheapest l h)
     where
       Found : List ℕ → List (List ℕ) → Type 0
-      Found k m = (es : List ℕ) × (cheapest_from prices (some k) l ≡ some es) × Cheapest m es
+      Found k m = (es : List ℕ) × (cheapest_from prices (Some k) l ≡ Some es) × Cheapest m es
 
       behind : (es : List ℕ) → Memᴰ es (x ∷ l) → Memᴰ es (h ∷ x ∷ l)
       behind es m = Memᴰ.tail m
@@ -229,20 +228,20 @@ module _ (prices : List ℕ) where
         },
       )
 
-  pub cheapest_is : (l : List (List ℕ)) (es : List ℕ) → cheapest prices l ≡ some es → Cheapest l es
+  pub cheapest_is : (l : List (List ℕ)) (es : List ℕ) → cheapest prices l ≡ Some es → Cheapest l es
   unfolding cheapest_from cheaper
   cheapest_is [] es e = absurd (let z : ◌≡◌ {A = ℕ} 0 1 = cc in omega arith)
   cheapest_is (x ∷ l) es e =
       let r = held_cheapest l x in
-      let s : ◌≡◌ {A = Option (List ℕ)} (some r.0) (some es) = sym r.1 ∙ e in
+      let s : ◌≡◌ {A = Option (List ℕ)} (Some r.0) (Some es) = sym r.1 ∙ e in
       subst (Cheapest (x ∷ l)) (let z : r.0 ≡ es = cc in z) r.2
 
-  pub cheapest_only : (l : List (List ℕ)) (es : List ℕ) → Cheapest l es → cheapest prices l ≡ some es
+  pub cheapest_only : (l : List (List ℕ)) (es : List ℕ) → Cheapest l es → cheapest prices l ≡ Some es
   unfolding cheapest_from cheaper
   cheapest_only [] es c = absurd (Memᴰ.not-nil c.member)
-  cheapest_only (x ∷ l) es c = let r = held_cheapest l x in r.1 ∙ ap some (cheapest_unique (x ∷ l) r.0 es r.2 c)
+  cheapest_only (x ∷ l) es c = let r = held_cheapest l x in r.1 ∙ ap Some (cheapest_unique (x ∷ l) r.0 es r.2 c)
 
-  pub cheapest_none : (l : List (List ℕ)) → (cheapest prices l ≡ none) ↔ (l ≡ [])
+  pub cheapest_none : (l : List (List ℕ)) → (cheapest prices l ≡ None) ↔ (l ≡ [])
   unfolding cheapest_from cheaper
   cheapest_none [] = (λ e. refl, λ e. refl)
   cheapest_none (x ∷ l) =
@@ -263,7 +262,7 @@ module _ (prices : List ℕ) where
   cheapest_parts f g [] h = refl
   cheapest_parts {A} f g (a ∷ l) h = cheapest_only (gather f (a ∷ l)) r.0 best ∙ sym r.1
     where
-      r : (es : List ℕ) × (cheapest prices (map g (a ∷ l)) ≡ some es) × Cheapest (map g (a ∷ l)) es
+      r : (es : List ℕ) × (cheapest prices (map g (a ∷ l)) ≡ Some es) × Cheapest (map g (a ∷ l)) es
       r = unfold cheapest_from cheaper in held_cheapest (map g l) (g a)
 
       es : List ℕ

@@ -2,8 +2,7 @@
 --   Made n m c g         == c is the number of generators in n and m variables, at most 4,095, and g has room for them
 --   Mapping shape .. u t == the sizes are accepted, and t has room for the u targets
 -- Assumes nothing.
-use Rattle.std.specs.Prelude.{◌≡◌, List, ℕ, ◌≤◌, length}
-use Rattle.std.proofs.Math.Option.{some}
+use Rattle.std.specs.Prelude.{◌≡◌, List, ℕ, ◌≤◌, length, Some}
 use Rattle.kinds.specs.Sizes.{sizes}
 use Rattle.kinds.specs.declared.Shape.{Shape}
 use Rattle.maps.specs.Generators.{generator_count}
@@ -15,5 +14,5 @@ pub record Made (n m c : ℕ) (g : List ℕ) : Type 0 where
   pub room : c ≤ length g
 
 pub record Mapping (shape : Shape) (n m u : ℕ) (t : List ℕ) : Type 0 where
-  pub sized : sizes shape ≡ some (n, m, u)
+  pub sized : sizes shape ≡ Some (n, m, u)
   pub room : most_targets ≤ length t

@@ -1,10 +1,9 @@
 -- The value of a target form is the output of the map, kind by kind. Of a matrix product only the pairs i = (t / r) q + z and
 -- j = z r + t % r count, so that the double sum is one over z.
 -- Assumes nothing.
-use Rattle.std.specs.Prelude.{◌≡◌, refl, ◌≢◌, Bool, true, false, ◌&&◌, ℕ, ◌+◌, ◌-◌, ◌*◌, ◌/◌, ◌%◌, ◌^◌, ◌<◌, ◌≤◌}
+use Rattle.std.specs.Prelude.{◌≡◌, refl, ◌≢◌, Bool, true, false, ◌&&◌, ℕ, ◌+◌, ◌-◌, ◌*◌, ◌/◌, ◌%◌, ◌^◌, ◌<◌, ◌≤◌, Some}
 use Rattle.std.proofs.Common.{sym, ap₂, ◌∙◌, true≢false, div-add-mod', div-lt_iff_lt-mul, mod-lt, arith, eqb-true, eq-eqb, ne_eqb}
 use Rattle.std.proofs.Math.Path.{ap}
-use Rattle.std.proofs.Math.Option.{some}
 use Rattle.std.proofs.Math.Arith.{digits_lt, digits_div, digits_mod}
 use Rattle.std.proofs.Math.Dec.{eqb}
 use Rattle.linear.specs.Bit.{bit}
@@ -101,7 +100,7 @@ resized : (c : ℕ → ℕ → Bool) (a b : ℕ → Bool) (x y w n m u : ℕ) �
 resized c a b x y w n m u e =
     ap₂ (λ (x y : ℕ). sum_over x y c a b) (sym (ap (λ (z : ℕ × ℕ × ℕ). z.0) e)) (sym (ap (λ (z : ℕ × ℕ × ℕ). z.1) e))
 
-each_value : (k : Kind) (p q r n m u : ℕ) → sizes_for k p q r ≡ some (n, m, u) → (t : ℕ) → t < u → is_list k ≡ false → (a b : ℕ → Bool)
+each_value : (k : Kind) (p q r n m u : ℕ) → sizes_for k p q r ≡ Some (n, m, u) → (t : ℕ) → t < u → is_list k ≡ false → (a b : ℕ → Bool)
     → value n m (target_form (shape_of k p q r) n m t) a b ≡ output_for k p q r a b t
 unfolding poly_sizes mat_sizes pair_for output_for
 each_value kind.Poly p q r n m u e t l d a b =
@@ -122,6 +121,6 @@ each_value kind.List p q r n m u e t l d a b = absurd (true≢false d)
 each_value kind.Mid p q r n m u e t l d a b =
     target_sum (shape_of kind.Mid p q r) n m t a b ∙ resized (pair_for kind.Mid p q r t) a b p q p n m u (mid_some p q r (n, m, u) e).1
 
-pub target_value : (shape : Shape) (n m u : ℕ) → sizes shape ≡ some (n, m, u) → (t : ℕ) → t < u → is_list shape.kind ≡ false → (a b : ℕ → Bool)
+pub target_value : (shape : Shape) (n m u : ℕ) → sizes shape ≡ Some (n, m, u) → (t : ℕ) → t < u → is_list shape.kind ≡ false → (a b : ℕ → Bool)
     → value n m (target_form shape n m t) a b ≡ output shape a b t
 target_value shape n m u e t l d a b = each_value shape.kind shape.p shape.q shape.r n m u e t l d a b

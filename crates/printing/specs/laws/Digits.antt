@@ -4,11 +4,10 @@
 --   digits_back   a numeral; number_same: numbers with the same decimal text are the same
 -- Assumes nothing.
 use Prim.Native.Nat.{ℕ, zero, suc, ◌+◌, ◌*◌, ◌/◌, ◌%◌, ◌^◌, ◌<◌, ◌≤◌}
-use Rattle.std.specs.Prelude.{◌≡◌, List, [], ◌∷◌, ◌++◌, Bool, cond}
+use Rattle.std.specs.Prelude.{◌≡◌, List, [], ◌∷◌, ◌++◌, Bool, cond, None, Some}
 use Rattle.std.proofs.Math.Path.{refl, ap}
 use Rattle.std.proofs.Common.{sym, ◌∙◌, arith, pow-suc, div-add-mod', mod-lt, div-lt_iff_lt-mul, one-mul, le-leb, ltb-true, ltb-false}
 use Rattle.std.proofs.Math.Bool.{true, false}
-use Rattle.std.proofs.Math.Option.{none, some}
 use Rattle.std.proofs.Math.Nat.{pow-zero, zero-mul}
 use Rattle.std.proofs.Math.Dec.{ltb}
 use Rattle.std.proofs.lemmas.Bool.{lt-leb}
@@ -36,11 +35,11 @@ digits_append base v [] t = refl
 digits_append base v (b ∷ s) t = go (ltb (digit b) base) (digits_append base (v * base + digit b) s t)
   where
     go : (c : Bool) → digits base (v * base + digit b) (s ++ t) ≡ (digits base (v * base + digit b) s >>= λ u. digits base u t)
-        → cond c (digits base (v * base + digit b) (s ++ t)) none ≡ (cond c (digits base (v * base + digit b) s) none >>= λ u. digits base u t)
+        → cond c (digits base (v * base + digit b) (s ++ t)) None ≡ (cond c (digits base (v * base + digit b) s) None >>= λ u. digits base u t)
     go true e = e
     go false e = refl
 
-digits_last : (base v d : ℕ) → d < base → base ≤ 16 → digits base v (digit_byte d ∷ []) ≡ some (v * base + d)
+digits_last : (base v d : ℕ) → d < base → base ≤ 16 → digits base v (digit_byte d ∷ []) ≡ Some (v * base + d)
 unfolding digits
 digits_last base v d h b =
     let e = digit_back d (omega arith) in
@@ -60,21 +59,21 @@ module _ (base : ℕ) (two : 2 ≤ base) (sixteen : base ≤ 16) where
           let l : n < 1 * base = (div-lt_iff_lt-mul {k = base} (omega arith)).0 z in
           absurd (omega (arith, one-mul base))
 
-  pub digits_back : (f n : ℕ) → n < base ^ f → digits base 0 (numeral_text base f n) ≡ some n
+  pub digits_back : (f n : ℕ) → n < base ^ f → digits base 0 (numeral_text base f n) ≡ Some n
   unfolding digits numeral_text
   digits_back zero n h =
       let e : n < 1 = rw pow-zero at h in
-      ap some (omega arith)
+      ap Some (omega arith)
   digits_back (suc f) n h = go (ltb n base) refl (λ l. digits_back f (n / base) l)
     where
-      go : (t : Bool) → ltb n base ≡ t → (n / base < base ^ f → digits base 0 (numeral_text base f (n / base)) ≡ some (n / base))
-          → digits base 0 (cond t (digit_byte n ∷ []) (numeral_text base f (n / base) ++ (digit_byte (n % base) ∷ []))) ≡ some n
-      go true e ih = digits_last base 0 n (ltb-true n base e) sixteen ∙ ap some (omega (arith, zero-mul base))
+      go : (t : Bool) → ltb n base ≡ t → (n / base < base ^ f → digits base 0 (numeral_text base f (n / base)) ≡ Some (n / base))
+          → digits base 0 (cond t (digit_byte n ∷ []) (numeral_text base f (n / base) ++ (digit_byte (n % base) ∷ []))) ≡ Some n
+      go true e ih = digits_last base 0 n (ltb-true n base e) sixteen ∙ ap Some (omega (arith, zero-mul base))
       go false e ih =
           digits_append base 0 (numeral_text base f (n / base)) (digit_byte (n % base) ∷ [])
-          ∙ rw (ih (below f n h)) (digits_last base (n / base) (n % base) (mod-lt n (omega arith)) sixteen ∙ ap some (div-add-mod' n base))
+          ∙ rw (ih (below f n h)) (digits_last base (n / base) (n % base) (mod-lt n (omega arith)) sixteen ∙ ap Some (div-add-mod' n base))
 
 pub number_same : (n m : ℕ) → n < 10 ^ 20 → m < 10 ^ 20 → number_text n ≡ number_text m → n ≡ m
 number_same n m h k e =
-    let q : some n ≡ some m = sym (digits_back 10 (omega arith) (omega arith) 20 n h) ∙ ap (digits 10 0) e ∙ digits_back 10 (omega arith) (omega arith) 20 m k in
+    let q : Some n ≡ Some m = sym (digits_back 10 (omega arith) (omega arith) 20 n h) ∙ ap (digits 10 0) e ∙ digits_back 10 (omega arith) (omega arith) 20 m k in
     cc

@@ -5,10 +5,9 @@
 --   problem_inv       an accepted file poses its problem, and neither 8 nor 9 applies
 --   final_refused, final_problem   the reply and the three buffers at exit
 -- Assumes nothing.
-use Rattle.std.specs.Prelude.{ℕ, ◌≤◌, ◌≡◌, refl, List, [], false, ◌||◌, length, take, ltb}
+use Rattle.std.specs.Prelude.{ℕ, ◌≤◌, ◌≡◌, refl, List, [], false, ◌||◌, length, take, ltb, Some}
 use Rattle.std.proofs.Common.{sym, ◌∙◌, subst, arith, ltb-false}
 use Rattle.std.proofs.Math.Path.{ap}
-use Rattle.std.proofs.Math.Option.{some}
 use Rattle.std.proofs.Math.Seq.{paste}
 use Rattle.kinds.specs.declared.Kind.{Kind}
 use Rattle.kinds.specs.declared.Shape.{Shape}
@@ -38,11 +37,11 @@ use Rattle.problem_files.specs.declared.posing.PosedRead.TheVariants as posed
 pub record ProblemWent (s : List ℕ) (P : ProblemFile) : Type 0 where
   pub head : Head
   pub text : List ℕ
-  pub lines : head_lines s ≡ some (head, text)
+  pub lines : head_lines s ≡ Some (head, text)
   pub kd : Kind
-  pub named : head.kind ≡ some kd
+  pub named : head.kind ≡ Some kd
   pub z : ℕ × ℕ × ℕ
-  pub sized : sizes (shape_of kd head.p head.q head.r) ≡ some z
+  pub sized : sizes (shape_of kd head.p head.q head.r) ≡ Some z
   pub forms : List ℕ × List ℕ × List ℕ
   pub body : body_of (shape_of kd head.p head.q head.r) z.0 z.1 text ≡ accepted forms
   pub problem : Problem

@@ -3,9 +3,8 @@
 --   problem_differ                    distinct replies have distinct numbers
 --   problem_numbered, input_numbered  a problem's file is never refused by 0
 -- Assumes nothing.
-use Rattle.std.specs.Prelude.{◌≡◌, refl, Bool, true, false, not, cond, List, [], ◌∷◌, ℕ, zero, suc, length, ltb}
+use Rattle.std.specs.Prelude.{◌≡◌, refl, Bool, true, false, not, cond, List, [], ◌∷◌, ℕ, zero, suc, length, ltb, Option, None, Some}
 use Rattle.std.proofs.Common.{sym, ap, ◌∙◌, arith}
-use Rattle.std.proofs.Math.Option.{Option, none, some}
 use Rattle.kinds.specs.Kinds.{is_list, kind_numbered, kind_numbered_law}
 use Rattle.kinds.specs.Sizes.{shape_of, sizes}
 use Rattle.kinds.specs.Limits.{most_generators}
@@ -42,8 +41,8 @@ problem_told o x P = (P.0, P.1, P.2, P.3, ap problem_read_numbers P.0 ∙ proble
 
 -- the reply with those numbers
 named : Option Kind → (p q r k : ℕ) → ProblemRead
-named none p q r k = read.Refused 0
-named (some kd) p q r k = read.Problem (shape_of kd p q r) k
+named None p q r k = read.Refused 0
+named (Some kd) p q r k = read.Problem (shape_of kd p q r) k
 
 from : List ℕ → ProblemRead
 from (suc e ∷ v) = read.Refused (suc e)

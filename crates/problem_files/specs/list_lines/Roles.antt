@@ -10,8 +10,7 @@
 -- Document 01: "For list follow `role,form`, then q lines `g,..` and r lines `t,..`." Document 02: "a list file's second names line becomes
 -- `role,form,cost`; targets have cost 0 [..] A cost has up to five digits; a missing, misshapen or larger one, or a target's other than 0, is refused by 5."
 -- Assumes nothing.
-use Rattle.std.specs.Prelude.{ℕ, zero, suc, List, [], ◌∷◌, ◌&&◌, not, cond, eqb, ltb}
-use Rattle.std.proofs.Math.Option.{Option, none, some}
+use Rattle.std.specs.Prelude.{ℕ, zero, suc, List, [], ◌∷◌, ◌&&◌, not, cond, eqb, ltb, Option, None, Some}
 use Rattle.kinds.specs.Limits.{most_cost}
 use Rattle.kinds.specs.Sizes.{given}
 use Rattle.text.specs.Reading.{◌>>=◌}
@@ -40,16 +39,16 @@ form_and_cost most s = do
   given (not (ltb most y.0)) ((x.0, y.0), y.1)
 
 unfoldable pub role_line : (c most : ℕ) → List ℕ → Option ((ℕ × ℕ) × List ℕ)
-role_line c most [] = none
-role_line c most (a ∷ []) = none
-role_line c most (a ∷ b ∷ s) = cond (eqb a c && eqb b comma) (form_and_cost most s) none
+role_line c most [] = None
+role_line c most (a ∷ []) = None
+role_line c most (a ∷ b ∷ s) = cond (eqb a c && eqb b comma) (form_and_cost most s) None
 
 unfoldable pub role_lines : (c most n : ℕ) → List ℕ → Option ((List ℕ × List ℕ) × List ℕ)
-role_lines c most zero s = some (([], []), s)
+role_lines c most zero s = Some (([], []), s)
 role_lines c most (suc n) s = do
   l ← role_line c most s
   m ← role_lines c most n l.1
-  some ((l.0.0 ∷ m.0.0, l.0.1 ∷ m.0.1), m.1)
+  Some ((l.0.0 ∷ m.0.0, l.0.1 ∷ m.0.1), m.1)
 
 unfoldable pub list_body : ℕ → ℕ → List ℕ → Option (List ℕ × List ℕ × List ℕ)
 list_body q r s = do

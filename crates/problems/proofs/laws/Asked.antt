@@ -2,12 +2,11 @@
 --   wide_member, target_fits             a member of forms that fit a width fits it, and so does a target of a map
 --   listed_target, mapped_target, shaped_target, posed_target   of a list, of a map, of a kind with its sizes, of a kind by its number
 -- Assumes nothing.
-use Rattle.std.specs.Prelude.{◌≡◌, Bool, not, ℕ, ◌+◌, ◌*◌, ◌^◌, ◌<◌, ltb}
+use Rattle.std.specs.Prelude.{◌≡◌, Bool, not, ℕ, ◌+◌, ◌*◌, ◌^◌, ◌<◌, ltb, Option}
 use Rattle.std.proofs.Math.Path.{refl, ap, subst}
 use Rattle.std.proofs.Common.{sym, ap₂, ◌∙◌, lt-ltb}
 use Rattle.std.proofs.Math.Bool.{true, false, ◌||◌}
 use mathlib.Core.List.{List, [], ◌∷◌, Memᴰ}
-use Rattle.std.proofs.Math.Option.{Option}
 use Rattle.kinds.specs.Kinds.{is_list}
 use Rattle.kinds.specs.Sizes.{shape_of}
 use Rattle.kinds.specs.Refusal.{Answer, accepted, need, refuse}

@@ -6,11 +6,10 @@
 --   list_targets                                 a list has between 1 and 64 targets
 --   sorted_list, sorted_map                      a list is sorted as a list, another kind as a map
 -- Assumes nothing.
-use Rattle.std.specs.Prelude.{◌≡◌, Bool, true, false, cond, length, take}
+use Rattle.std.specs.Prelude.{◌≡◌, Bool, true, false, cond, length, take, Option, None, Some}
 use Rattle.std.proofs.Common.{sym, ◌∙◌, arith}
 use Rattle.std.proofs.Math.Path.{ap, ap₂}
 use mathlib.Core.List.{List}
-use Rattle.std.proofs.Math.Option.{Option, none, some}
 use Prim.Native.Nat.{ℕ, ◌*◌, ◌≤◌}
 use Rattle.kinds.specs.Kinds.{kind_numbered, is_list}
 use Rattle.kinds.specs.Sizes.{shape_of, sizes}
@@ -34,17 +33,17 @@ module _ (shape : Shape) (n m u : ℕ) (gs ts others g t : List ℕ) where
   abbrev made : Problem
   made = problem (generator_forms n m) (target_forms shape n m u)
 
-  pub mapped_4_laid : count_of n m ≡ none → Laid (mapped shape n m u gs ts others) (reply.Refused 4) g t
+  pub mapped_4_laid : count_of n m ≡ None → Laid (mapped shape n m u gs ts others) (reply.Refused 4) g t
   mapped_4_laid e = record { answer = mapped_4 shape n m u gs ts others e; room = tt }
 
-  module _ (c e : ℕ) (C : count_of n m ≡ some c) (B : map_refusal (n * m) gs ts others ≡ e) where
+  module _ (c e : ℕ) (C : count_of n m ≡ Some c) (B : map_refusal (n * m) gs ts others ≡ e) where
     by : mapped shape n m u gs ts others ≡ refused_by e made
     by = mapped_counted shape n m u gs ts others c C ∙ mapped_by (n * m) gs ts others made e B
 
     pub mapped_by_laid : (e ≡ 0 → ⊥) → Laid (mapped shape n m u gs ts others) (reply.Refused e) g t
     mapped_by_laid d = record { answer = by ∙ by_some e made d; room = tt }
 
-    pub mapped_laid : e ≡ 0 → sizes shape ≡ some (n, m, u) → take c g ≡ generator_forms n m → take u t ≡ list_of (target_form shape n m) 0 u
+    pub mapped_laid : e ≡ 0 → sizes shape ≡ Some (n, m, u) → take c g ≡ generator_forms n m → take u t ≡ list_of (target_form shape n m) 0 u
         → Laid (mapped shape n m u gs ts others) (reply.Are c u) g t
     unfolding target_forms
     mapped_laid d s G T =
@@ -85,7 +84,7 @@ module _ (p q r : ℕ) (gs ts others : List ℕ) (e : ℕ) (R : list_refusal p q
 
 -- ---- 2 and 3
 -- of a list r is the number of targets, between 1 and 64
-pub list_targets : (shape : Shape) (z : ℕ × ℕ × ℕ) → is_list shape.kind ≡ true → sizes shape ≡ some z → (1 ≤ shape.r) × (shape.r ≤ 64)
+pub list_targets : (shape : Shape) (z : ℕ × ℕ × ℕ) → is_list shape.kind ≡ true → sizes shape ≡ Some z → (1 ≤ shape.r) × (shape.r ≤ 64)
 list_targets shape z k e =
     let b = sizes_bounds shape z e in
     let u : shape.r ≡ z.2 = list_outputs shape z k e in
@@ -106,11 +105,11 @@ module _ (shape : Shape) (gs ts others g t : List ℕ) where
   abbrev after : ℕ × ℕ × ℕ → Answer Problem
   after z = sorted shape z.0 z.1 z.2 gs ts others
 
-  pub shaped_3_laid : sizes shape ≡ none → Laid (shaped shape gs ts others) (reply.Refused 3) g t
+  pub shaped_3_laid : sizes shape ≡ None → Laid (shaped shape gs ts others) (reply.Refused 3) g t
   unfolding shaped
   shaped_3_laid e = record { answer = ap (λ (o : Option (ℕ × ℕ × ℕ)). need 3 o after) e; room = tt }
 
-  module _ (n m u : ℕ) (S : sizes shape ≡ some (n, m, u)) (x : Posed) where
+  module _ (n m u : ℕ) (S : sizes shape ≡ Some (n, m, u)) (x : Posed) where
     of_sizes : shaped shape gs ts others ≡ sorted shape n m u gs ts others
     unfolding shaped
     of_sizes = ap (λ (o : Option (ℕ × ℕ × ℕ)). need 3 o after) S
@@ -126,9 +125,9 @@ module _ (number p q r : ℕ) (gs ts others g t : List ℕ) where
   unfolding posed
   posed_of o e = ap (λ (o : Option Kind). need 2 o λ kd. shaped (shape_of kd p q r) gs ts others) e
 
-  pub posed_2_laid : kind_numbered number ≡ none → Laid (posed number p q r gs ts others) (reply.Refused 2) g t
-  posed_2_laid e = record { answer = posed_of none e; room = tt }
+  pub posed_2_laid : kind_numbered number ≡ None → Laid (posed number p q r gs ts others) (reply.Refused 2) g t
+  posed_2_laid e = record { answer = posed_of None e; room = tt }
 
-  pub posed_kind_laid : (kd : Kind) (x : Posed) → kind_numbered number ≡ some kd → Laid (shaped (shape_of kd p q r) gs ts others) x g t
+  pub posed_kind_laid : (kd : Kind) (x : Posed) → kind_numbered number ≡ Some kd → Laid (shaped (shape_of kd p q r) gs ts others) x g t
       → Laid (posed number p q r gs ts others) x g t
-  posed_kind_laid kd x K L = record { answer = posed_of (some kd) K ∙ L.answer; room = L.room }
+  posed_kind_laid kd x K L = record { answer = posed_of (Some kd) K ∙ L.answer; room = L.room }

@@ -2,11 +2,10 @@
 --   listed_by, mapped_by     the refusals by their number
 --   mapped_4, mapped_counted a map with too many generators, and with at most 4,095
 -- Assumes nothing.
-use Rattle.std.specs.Prelude.{◌≡◌, Bool, ◌||◌, cond, List, ℕ, ◌*◌, ◌≤◌, ltb, leb}
+use Rattle.std.specs.Prelude.{◌≡◌, Bool, ◌||◌, cond, List, ℕ, ◌*◌, ◌≤◌, ltb, leb, Option, None, Some}
 use Rattle.std.proofs.Math.Path.{refl, ap}
 use Rattle.std.proofs.Common.{◌∙◌, arith, leb-true}
 use Rattle.std.proofs.Math.Bool.{true, false}
-use Rattle.std.proofs.Math.Option.{Option, none, some}
 use Rattle.kinds.specs.laws.Sizes.{given_some}
 use Rattle.kinds.specs.Refusal.{refused, accepted, need, refuse, refused_by}
 use Rattle.kinds.specs.declared.Shape.{Shape}
@@ -38,18 +37,18 @@ mapped_by w gs ts others P e h = go (unlike 0 0 gs ts) (wide w others) ∙ ap (�
     go false false = refl
 
 module _ (shape : Shape) (n m u : ℕ) (gs ts others : List ℕ) where
-  pub mapped_4 : count_of n m ≡ none → mapped shape n m u gs ts others ≡ refused 4
+  pub mapped_4 : count_of n m ≡ None → mapped shape n m u gs ts others ≡ refused 4
   unfolding mapped
   mapped_4 e =
       ap (λ (o : Option ℕ). need 4 o λ c. refuse 5 (unlike 0 0 gs ts) (refuse 6 (wide (n * m) others) (accepted (problem (generator_forms n m) (target_forms shape n m u))))) e
 
-  pub mapped_counted : (c : ℕ) → count_of n m ≡ some c
+  pub mapped_counted : (c : ℕ) → count_of n m ≡ Some c
       → mapped shape n m u gs ts others ≡ refuse 5 (unlike 0 0 gs ts) (refuse 6 (wide (n * m) others) (accepted (problem (generator_forms n m) (target_forms shape n m u))))
   unfolding mapped
   mapped_counted c e =
       ap (λ (o : Option ℕ). need 4 o λ c. refuse 5 (unlike 0 0 gs ts) (refuse 6 (wide (n * m) others) (accepted (problem (generator_forms n m) (target_forms shape n m u))))) e
 
-pub counted : (n m c : ℕ) → count_of n m ≡ some c → (generator_count n m ≡ c) × (c ≤ most_generators)
+pub counted : (n m c : ℕ) → count_of n m ≡ Some c → (generator_count n m ≡ c) × (c ≤ most_generators)
 unfolding count_of
 counted n m c e =
     let g = given_some (leb (generator_count n m) most_generators) (generator_count n m) c e in

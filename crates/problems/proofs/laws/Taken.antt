@@ -5,9 +5,8 @@
 --   shaped_inv       an accepted problem of a kind and sizes has sizes that fit
 --   posed_inv        an accepted problem has a kind
 -- Assumes nothing.
-use Rattle.std.specs.Prelude.{◌≡◌, false, not, ◌||◌, List, ℕ, ◌*◌, length, eqb, ltb}
+use Rattle.std.specs.Prelude.{◌≡◌, false, not, ◌||◌, List, ℕ, ◌*◌, length, eqb, ltb, Some}
 use Rattle.std.proofs.Common.{sym, arith, ltb-false, eqb-true}
-use Rattle.std.proofs.Math.Option.{some}
 use Rattle.std.proofs.lemmas.Bool.{not-false}
 use Rattle.kinds.specs.Kinds.{kind_numbered}
 use Rattle.kinds.specs.Sizes.{shape_of, sizes}
@@ -76,7 +75,7 @@ pub record Kinded (shape : Shape) (gs ts others : List ℕ) (P : Problem) : Type
   pub n : ℕ
   pub m : ℕ
   pub u : ℕ
-  pub sized : sizes shape ≡ some (n, m, u)
+  pub sized : sizes shape ≡ Some (n, m, u)
   pub rest : sorted shape n m u gs ts others ≡ accepted P
 
 pub shaped_inv : (shape : Shape) (gs ts others : List ℕ) (P : Problem) → shaped shape gs ts others ≡ accepted P → Kinded shape gs ts others P
@@ -86,6 +85,6 @@ shaped_inv shape gs ts others P e =
     record { n = b.0.0; m = b.0.1; u = b.0.2; sized = b.1; rest = b.2 }
 
 pub posed_inv : (number p q r : ℕ) (gs ts others : List ℕ) (P : Problem) → posed number p q r gs ts others ≡ accepted P
-    → (kd : Kind) × (kind_numbered number ≡ some kd) × (shaped (shape_of kd p q r) gs ts others ≡ accepted P)
+    → (kd : Kind) × (kind_numbered number ≡ Some kd) × (shaped (shape_of kd p q r) gs ts others ≡ accepted P)
 unfolding posed
 posed_inv number p q r gs ts others P e = need_inv 2 (kind_numbered number) (λ kd. shaped (shape_of kd p q r) gs ts others) P e

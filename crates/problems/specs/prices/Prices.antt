@@ -8,8 +8,7 @@
 --   priced number p q r gs ts costs == the problem of the kind with that number, likewise: refusals 2 to 7, or what it is
 -- Document 02: "Every menu form now carries a cost from 0 to 65,535"; "Elsewhere the cost is the ones in both factors less 2." Costs of the wrong number, and
 -- a larger cost, are refused by 5, as a list of forms of the wrong length is. Theorems: Theorems. Assumes nothing.
-use Rattle.std.specs.Prelude.{Bool, not, ◌||◌, cond, List, [], ℕ, length, eqb}
-use Rattle.std.proofs.Math.Option.{Option, none, some}
+use Rattle.std.specs.Prelude.{Bool, not, ◌||◌, cond, List, [], ℕ, length, eqb, Option, None, Some}
 use Rattle.kinds.specs.Kinds.{kind_numbered, is_list, handed}
 use Rattle.kinds.specs.Limits.{cost_bits}
 use Rattle.kinds.specs.Sizes.{shape_of, sizes}
@@ -25,8 +24,8 @@ unpriced shape costs = not (eqb (length costs) (handed shape.kind shape.q)) || w
 
 -- of the generators in n and m variables; none where a size misfits
 abbrev pub map_prices : Option (ℕ × ℕ × ℕ) → List ℕ
-map_prices none = []
-map_prices (some z) = generator_costs z.0 z.1
+map_prices None = []
+map_prices (Some z) = generator_costs z.0 z.1
 
 unfoldable pub prices : Shape → List ℕ → List ℕ
 prices shape costs = cond (is_list shape.kind) costs (map_prices (sizes shape))

@@ -8,8 +8,7 @@
 -- refusal 9: "in a
 -- Rank, too short for the very formula it would reply".
 -- What `fewest` is and that it is the rank: linear's `Theorems` (rank_formula, rank_exactly, rank_above, rank_beyond). Assumes nothing.
-use Rattle.std.specs.Prelude.{◌≡◌, false, List, [], ◌∷◌, ℕ, ◌+◌, ◌≤◌, length, take, drop, ltb}
-use Rattle.std.proofs.Math.Option.{none, some}
+use Rattle.std.specs.Prelude.{◌≡◌, false, List, [], ◌∷◌, ℕ, ◌+◌, ◌≤◌, length, take, drop, ltb, None, Some}
 use Rattle.kinds.specs.Limits.{most_generators, most_products, cost_bits}
 use Rattle.kinds.specs.Refusal.{Answer, refused, accepted, refuse}
 use Rattle.kinds.specs.Numbers.{refusal_numbers, answer_numbers}
@@ -80,8 +79,8 @@ pub record Asking (gens : List ℕ) (b : Basis) (order prices buffer : List ℕ)
 
 -- the cheapest formula of the least number of dimensions, k, stands behind its cost
 abbrev pub LeastFound : (gens targets prices : List ℕ) → ℕ → Answered → List ℕ → Type 0
-LeastFound gens targets prices ell answered.No buffer = least_from word gens targets prices 7 ell ≡ none
-LeastFound gens targets prices ell (answered.Is k) buffer = least_from word gens targets prices 7 ell ≡ some (take k (drop 1 buffer))
+LeastFound gens targets prices ell answered.No buffer = least_from word gens targets prices 7 ell ≡ None
+LeastFound gens targets prices ell (answered.Is k) buffer = least_from word gens targets prices 7 ell ≡ Some (take k (drop 1 buffer))
 
 -- the entries are those of the targets' space: any targets that span it have them
 abbrev pub LeastFrom : (gens : List ℕ) → Basis → List ℕ → Answered → List ℕ → Type 0

@@ -1,6 +1,6 @@
 -- `service::gijpsando_check_numbers` meets its contract. Assumes nothing.
 use mathlib.Core.Path.{◌≡◌, sym, ap, ◌∙◌}
-use mathlib.Core.Option.{Option, none, some}
+use Rattle.std.specs.Prelude.{Option, None, Some}
 use Prim.Native.Nat.{ℕ}
 use native.Mathlib.Omega.{arith}
 use Rattle.kinds.specs.Refusal.{Answer, refused, accepted}
@@ -42,9 +42,9 @@ returns-in-Right c =
     let args = c.args in
     let the-check = c.check-said in
     let e : check args.kind args.p args.q args.r args.k args.a.now args.b.now args.rows.now ≡ accepted
-    (none, c.in-Judged.w) = the-check.ensures.0 ∙ ap seen_reply c.in-Judged.is ∙ ap
+    (None, c.in-Judged.w) = the-check.ensures.0 ∙ ap seen_reply c.in-Judged.is ∙ ap
     (λ (x : Option ℕ). accepted (x, c.in-Judged.w)) (ap seen_verdict c.in-Right.is) in
-    let n = numbers_whole none c.in-Judged.w args.reply.now (omega arith) in (
+    let n = numbers_whole None c.in-Judged.w args.reply.now (omega arith) in (
       n.0 ∙ ap (λ (x : Answer (Option ℕ × ℕ)). numbers_reply x args.reply.now) (sym e),
       c.put_three.ensures ∙ n.1 ∙ ap
           (λ (x : Answer (Option ℕ × ℕ)). numbers_lent x args.reply.now) (sym e),
@@ -58,9 +58,9 @@ returns-in-Wrong c =
     let args = c.args in
     let the-check = c.check-said in
     let e : check args.kind args.p args.q args.r args.k args.a.now args.b.now args.rows.now ≡ accepted
-    (some c.in-Wrong.t, c.in-Judged.w) = the-check.ensures.0 ∙ ap seen_reply c.in-Judged.is ∙ ap
+    (Some c.in-Wrong.t, c.in-Judged.w) = the-check.ensures.0 ∙ ap seen_reply c.in-Judged.is ∙ ap
     (λ (x : Option ℕ). accepted (x, c.in-Judged.w)) (ap seen_verdict c.in-Wrong.is) in
-    let n = numbers_whole (some c.in-Wrong.t) c.in-Judged.w args.reply.now (omega arith) in (
+    let n = numbers_whole (Some c.in-Wrong.t) c.in-Judged.w args.reply.now (omega arith) in (
       n.0 ∙ ap (λ (x : Answer (Option ℕ × ℕ)). numbers_reply x args.reply.now) (sym e),
       c.put_three-in-Wrong.ensures ∙ n.1 ∙ ap
           (λ (x : Answer (Option ℕ × ℕ)). numbers_lent x args.reply.now) (sym e),

@@ -2,9 +2,8 @@
 --   three                        three words are written
 --   numbers_short, numbers_whole the reply and the words, without room and with it
 -- Assumes nothing.
-use Rattle.std.specs.Prelude.{◌≡◌, refl, Bool, cond, List, [], ◌∷◌, ℕ, ◌<◌, ◌≤◌, length, set}
+use Rattle.std.specs.Prelude.{◌≡◌, refl, Bool, cond, List, [], ◌∷◌, ℕ, ◌<◌, ◌≤◌, length, set, Option}
 use Rattle.std.proofs.Common.{sym, ap, arith, lt-ltb, le-ltb}
-use Rattle.std.proofs.Math.Option.{Option}
 use Rattle.kinds.specs.Refusal.{accepted}
 use Rattle.words.specs.Buffers.{filled}
 use Rattle.formula_check.specs.Replies.{check_values}

@@ -1,20 +1,13 @@
 -- `text::cut_at` meets its contract. Assumes nothing.
-use Prim.Native.Nat.{◌<◌}
-use mathlib.Core.Path.{◌≡◌}
-use native.Mathlib.Omega.{arith}
-use lib.ListN.{length}
-use Rattle.text.specs.Line.{till}
-use Rattle.text.specs.laws.Line.{cut_some, cut_none, till_le}
+use Rattle.std.specs.Prelude.{eqb}
+use Rattle.std.proofs.Common.{rules}
+use borrow.Author.Tests.{tests}
+use Rattle.std.proofs.lemmas.Iterator.{YieldsList-from_slice}
+use Rattle.std.proofs.lemmas.Iterator.Search.{position_from_yields_List}
+use Rattle.text.specs.laws.Line.{cut_place}
 use Rattle.text.proofs.cut_at.Goals as goal
 
-pub returns-then-e-s : goal.returns-then-e-s
-returns-then-e-s c =
-    let f = c.find-e in
-    let h : till c.args.c c.args.s.now < length c.args.s.now = rw (← f.ensures) c.if-e-s.true in
-    (rw f.ensures (cut_some c.args.c c.args.s.now h), omega arith)
-
-pub returns-else-e-s : goal.returns-else-e-s
-returns-else-e-s c =
-    let f = c.find-e in
-    let h : till c.args.c c.args.s.now ≡ length c.args.s.now = omega (arith, till_le c.args.c c.args.s.now) in
-    (cut_none c.args.c c.args.s.now h, omega arith)
+pub returns : goal.returns
+returns c =
+    cut_place c.args.c c.args.s.now _
+    (position_from_yields_List (λ b. eqb b c.args.c) _ _ _ c.position.ensures.ran (YieldsList-from_slice c.args.s.now cc) (λ x b q k. search (rules, tests)))

@@ -5,8 +5,7 @@
 --   head_lines s == both lines, and the text after them; none is refusal 1: "The first two lines are not as above"
 -- Document 01: "The first line is `kind,p,q,r,k`, byte by byte"; "The kind, all that stands before the second line's first comma".
 -- Assumes nothing.
-use Rattle.std.specs.Prelude.{ℕ, List, [], ◌∷◌}
-use Rattle.std.proofs.Math.Option.{Option, some}
+use Rattle.std.specs.Prelude.{ℕ, List, [], ◌∷◌, Option, Some}
 use Rattle.kinds.specs.declared.Kind.{Kind}
 use Rattle.kinds.specs.Kinds.{kind_named}
 use Rattle.text.specs.Reading.{◌>>=◌}
@@ -30,14 +29,14 @@ count_fields s = do
   q ← count_field p.1
   r ← count_field q.1
   k ← count r.1
-  some (p.0, q.0, r.0, k)
+  Some (p.0, q.0, r.0, k)
 
 unfoldable pub head_line : List ℕ → Option (Head × List ℕ)
 head_line s = do
   l ← cut LF s
   f ← cut comma l.0
   n ← count_fields f.1
-  some (record { kind = kind_named f.0; p = n.0; q = n.1; r = n.2; k = n.3 }, l.1)
+  Some (record { kind = kind_named f.0; p = n.0; q = n.1; r = n.2; k = n.3 }, l.1)
 
 unfoldable pub head_lines : List ℕ → Option (Head × List ℕ)
 head_lines s = do

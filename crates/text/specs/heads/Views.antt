@@ -1,24 +1,14 @@
 -- What the code's answers say, in the readings' terms.
---   seen_counts r              == the four counts that the answer r stands for
 --   seen_head s r, bytes_head r == the reading of s that r stands for, and the bytes used, 0 where there is no reading
 -- Assumes nothing.
-use Rattle.std.specs.Prelude.{ℕ, List, drop}
-use Rattle.std.proofs.Math.Option.{Option, none, some}
-use Rattle.kinds.specs.Kinds.{seen_kind}
+use Rattle.std.specs.Prelude.{ℕ, List, drop, Option, None, Some}
 use Rattle.text.specs.heads.Head.{Head}
-use Rattle.text.specs.declared.heads.Counts.{Counts}
-use Rattle.text.specs.declared.heads.Counts.TheVariants as counts
-use Rattle.text.specs.declared.heads.HeadRead.{HeadRead}
-use Rattle.text.specs.declared.heads.HeadRead.TheVariants as head
+use Rattle.text.specs.declared.heads.Head as code
 
-abbrev pub seen_counts : Counts → Option (ℕ × ℕ × ℕ × ℕ)
-seen_counts (counts.Are p q r k) = some (p, q, r, k)
-seen_counts counts.No = none
+abbrev pub seen_head : List ℕ → Option code.Head → Option (Head × List ℕ)
+seen_head s (Some h) = Some (record { kind = h.kind; p = h.p; q = h.q; r = h.r; k = h.k }, drop h.used s)
+seen_head s None = None
 
-abbrev pub seen_head : List ℕ → HeadRead → Option (Head × List ℕ)
-seen_head s (head.Is kind p q r k u) = some (record { kind = seen_kind kind; p = p; q = q; r = r; k = k }, drop u s)
-seen_head s head.No = none
-
-abbrev pub bytes_head : HeadRead → ℕ
-bytes_head (head.Is kind p q r k u) = u
-bytes_head head.No = 0
+abbrev pub bytes_head : Option code.Head → ℕ
+bytes_head (Some h) = h.used
+bytes_head None = 0

@@ -3,8 +3,7 @@
 --   bound, numeral_fits                            the value so far, and that it fits 64 bits
 --   numeral_empty .. numeral_more          the cases of a numeral by its length and its first digit
 -- Assumes nothing.
-use Rattle.std.specs.Prelude.{ℕ, suc, ◌+◌, ◌*◌, ◌^◌, ◌<◌, ◌≤◌, ◌≡◌, List, ◌∷◌, true, false, length, get_or, drop, eqb}
-use Rattle.std.proofs.Math.Option.{none, some}
+use Rattle.std.specs.Prelude.{ℕ, suc, ◌+◌, ◌*◌, ◌^◌, ◌<◌, ◌≤◌, ◌≡◌, List, ◌∷◌, true, false, length, get_or, drop, eqb, None, Some}
 use Rattle.std.proofs.Common.{arith, add-one, pow-suc, mul-le-mul_right, suc-mul, drop-cons, lt-ltb, le-ltb, eq-eqb, ne_eqb}
 use Rattle.std.proofs.Math.Nat.{pow-le-pow_right}
 use Rattle.std.proofs.Math.Seq.{drop-length}
@@ -14,17 +13,17 @@ pub digits_cons : (base v b : ℕ) (s : List ℕ) → digit b < base → digits 
 unfolding digits
 digits_cons base v b s h = simp (lt-ltb (digit b) base h)
 
-pub digits_not : (base v b : ℕ) (s : List ℕ) → base ≤ digit b → digits base v (b ∷ s) ≡ none
+pub digits_not : (base v b : ℕ) (s : List ℕ) → base ≤ digit b → digits base v (b ∷ s) ≡ None
 unfolding digits
 digits_not base v b s h = simp (le-ltb (digit b) base h)
 
 pub digits_step : (base v i : ℕ) (s : List ℕ) → i < length s → digit (get_or s i 0) < base → digits base v (drop i s) ≡ digits base (v * base + digit (get_or s i 0)) (drop (i + 1) s)
 digits_step base v i s h d = rw (add-one, drop-cons s i 0 h) (digits_cons base v (get_or s i 0) (drop (suc i) s) d)
 
-pub digits_stop : (base v i : ℕ) (s : List ℕ) → i < length s → base ≤ digit (get_or s i 0) → digits base v (drop i s) ≡ none
+pub digits_stop : (base v i : ℕ) (s : List ℕ) → i < length s → base ≤ digit (get_or s i 0) → digits base v (drop i s) ≡ None
 digits_stop base v i s h d = rw (drop-cons s i 0 h) (digits_not base v (get_or s i 0) (drop (suc i) s) d)
 
-pub digits_end : (base v i : ℕ) (s : List ℕ) → i ≡ length s → digits base v (drop i s) ≡ some v
+pub digits_end : (base v i : ℕ) (s : List ℕ) → i ≡ length s → digits base v (drop i s) ≡ Some v
 unfolding digits
 digits_end base v i s h = rw (h, drop-length s)
 
@@ -39,15 +38,15 @@ numeral_fits base v i d most hv hd hi h =
     omega (arith, bound base v i d hv hd)
 
 -- the cases of a numeral
-pub numeral_empty : (base most : ℕ) (s : List ℕ) → length s ≡ 0 → numeral base most s ≡ none
+pub numeral_empty : (base most : ℕ) (s : List ℕ) → length s ≡ 0 → numeral base most s ≡ None
 unfolding numeral
 numeral_empty base most s h = simp (eq-eqb (length s) 0 h)
 
-pub numeral_long : (base most : ℕ) (s : List ℕ) → most < length s → numeral base most s ≡ none
+pub numeral_long : (base most : ℕ) (s : List ℕ) → most < length s → numeral base most s ≡ None
 unfolding numeral
 numeral_long base most s h = simp (ne_eqb (length s) 0 (omega arith), lt-ltb most (length s) h)
 
-pub numeral_zero : (base most : ℕ) (s : List ℕ) → 1 < length s → length s ≤ most → eqb (get_or s 0 0) 48 ≡ true → numeral base most s ≡ none
+pub numeral_zero : (base most : ℕ) (s : List ℕ) → 1 < length s → length s ≤ most → eqb (get_or s 0 0) 48 ≡ true → numeral base most s ≡ None
 unfolding numeral
 numeral_zero base most s h m z = simp (ne_eqb (length s) 0 (omega arith), le-ltb most (length s) m, lt-ltb 1 (length s) h, z)
 

@@ -4,10 +4,9 @@
 --   table       == the lines
 --   worked   each line of the table holds
 -- Assumes nothing.
-use Rattle.std.specs.Prelude.{◌≡◌, refl, true, ℕ}
+use Rattle.std.specs.Prelude.{◌≡◌, refl, true, ℕ, Option, None, Some}
 use mathlib.Core.List.Memᴰ
 use mathlib.Core.List.{List, [], ◌∷◌, Memᴰ}
-use Rattle.std.proofs.Math.Option.{Option, none, some}
 use Rattle.linear.specs.Bit.{bit, digits_of, top}
 use Rattle.linear.specs.Basis.{clear, reduce, norm, place, insert, inserts, basis_of, dim}
 use Rattle.linear.specs.Coefficients.{coefficient, coefficients}
@@ -78,10 +77,10 @@ five_products = catalogued 0 2 2 0 5 [] [] (0 ∷ []) (entries_of 3 0 0 (0 ∷ [
 
 -- P: "Check of poly 2,2, products (1,1), (2,2), (3,3): rows 1, 7, 2 right, 4 adders; rows 1, 3, 2 wrong at output 1."
 abbrev pub right : WorkedLine
-right = checked 0 2 2 0 3 (1 ∷ 2 ∷ 3 ∷ []) (1 ∷ 2 ∷ 3 ∷ []) (1 ∷ 7 ∷ 2 ∷ []) (accepted (none, 4))
+right = checked 0 2 2 0 3 (1 ∷ 2 ∷ 3 ∷ []) (1 ∷ 2 ∷ 3 ∷ []) (1 ∷ 7 ∷ 2 ∷ []) (accepted (None, 4))
 
 abbrev pub wrong_row : WorkedLine
-wrong_row = checked 0 2 2 0 3 (1 ∷ 2 ∷ 3 ∷ []) (1 ∷ 2 ∷ 3 ∷ []) (1 ∷ 3 ∷ 2 ∷ []) (accepted (some 1, 3))
+wrong_row = checked 0 2 2 0 3 (1 ∷ 2 ∷ 3 ∷ []) (1 ∷ 2 ∷ 3 ∷ []) (1 ∷ 3 ∷ 2 ∷ []) (accepted (Some 1, 3))
 
 -- P: "list of 2 bits, menu 1, 2, 3, target 3: k = 1 finds one, basis `3`; k = 2 finds one, extension 0"
 abbrev pub list_one : WorkedLine

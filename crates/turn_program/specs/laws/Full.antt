@@ -2,9 +2,8 @@
 --   full_is, full_words, full_some   it is `full_of`, its parts are words, and it has a variable
 --   full_refused, full_turned        the reply, where the turning refuses it and where it fills the buffers
 -- Assumes nothing.
-use Rattle.std.specs.Prelude.{◌≡◌, List, ℕ, ◌≤◌, length, take}
+use Rattle.std.specs.Prelude.{◌≡◌, List, ℕ, ◌≤◌, length, take, Some}
 use Rattle.std.proofs.Common.{sym, ap, ap₂, ◌∙◌, subst, arith}
-use Rattle.std.proofs.Math.Option.{some}
 use Rattle.std.proofs.lemmas.List.{length-map}
 use Rattle.kinds.specs.declared.Kind.TheVariants as kind
 use Rattle.kinds.specs.declared.Shape.{Shape}
@@ -27,7 +26,7 @@ lent_left : (o : Answer Admitted) (a b d a₁ b₁ d₁ : List ℕ) → Lent o a
 lent_left (refused e) a b d a₁ b₁ d₁ L = tt
 lent_left (accepted f) a b d a₁ b₁ d₁ L = (L.firsts, L.seconds, L.rows)
 
-module _ (shape : Shape) (k : ℕ) (a b rows : List ℕ) (F : FullHeld shape k a b rows) (n m t : ℕ) (S : sizes shape ≡ some (n, m, t))
+module _ (shape : Shape) (k : ℕ) (a b rows : List ℕ) (F : FullHeld shape k a b rows) (n m t : ℕ) (S : sizes shape ≡ Some (n, m, t))
     (xs ys zs : List ℕ) (X : xs ≡ take k a) (Y : ys ≡ take k b) (Z : zs ≡ take t rows) where
   bounds : Bounds n m t
   bounds = sizes_bounds shape (n, m, t) S

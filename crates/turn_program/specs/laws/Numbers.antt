@@ -4,9 +4,8 @@
 --   turned_sound   into one that is not refused, and the buffers take it
 --   turn_only      by which numbers a file is refused
 -- Assumes nothing.
-use Rattle.std.specs.Prelude.{◌≡◌, List, ℕ, length}
+use Rattle.std.specs.Prelude.{◌≡◌, List, ℕ, length, Option}
 use Rattle.std.proofs.Common.{sym, ap, ap₂, ◌∙◌, subst, arith}
-use Rattle.std.proofs.Math.Option.{Option}
 use Rattle.std.proofs.lemmas.List.{length-map}
 use Rattle.kinds.specs.Kinds.{number_of}
 use Rattle.kinds.specs.Limits.{most_products, most_targets}

@@ -6,11 +6,10 @@
 --   held_full       else a full product formula was read
 --   turn_told       and is turned
 -- Assumes nothing.
-use Rattle.std.specs.Prelude.{◌≡◌, ℕ, length}
+use Rattle.std.specs.Prelude.{◌≡◌, ℕ, length, Option, None, Some}
 use Rattle.std.proofs.Common.{sym, ap₂, ◌∙◌}
 use Rattle.std.proofs.Math.Path.{ap}
 use mathlib.Core.List.{List}
-use Rattle.std.proofs.Math.Option.{Option, none, some}
 use Rattle.kinds.specs.declared.Kind.{Kind}
 use Rattle.kinds.specs.declared.Kind.TheVariants as kind
 use Rattle.kinds.specs.declared.Shape.{Shape}
@@ -41,11 +40,11 @@ turnable_head h = turnable h.kind h.p h.q h.r
 abbrev read_then : List ℕ → Answer Admitted
 read_then s = follow (formula_file s most_products most_products most_targets) (turned_into most_products most_products most_targets)
 
-pub turn_unread : (s : List ℕ) → head_lines s ≡ none → turn_file s ≡ refused 1
+pub turn_unread : (s : List ℕ) → head_lines s ≡ None → turn_file s ≡ refused 1
 unfolding turn_file
 turn_unread s e = ap (λ (o : Option (Head × List ℕ)). need 1 o λ h. follow (turnable_head h.0) λ _. read_then s) e
 
-module _ (s : List ℕ) (h : Head) (t : List ℕ) (e : ℕ) (H : head_lines s ≡ some (h, t)) (T : turnable_head h ≡ refused_by e (tt {0})) where
+module _ (s : List ℕ) (h : Head) (t : List ℕ) (e : ℕ) (H : head_lines s ≡ Some (h, t)) (T : turnable_head h ≡ refused_by e (tt {0})) where
   turn_head : turn_file s ≡ follow (refused_by e (tt {0})) λ _. read_then s
   unfolding turn_file
   turn_head =
@@ -63,7 +62,7 @@ abbrev turnable_shape : Shape → Answer (Unit {0})
 turnable_shape x = turnable (kind_numbered (number_of x.kind)) x.p x.q x.r
 
 -- the first two lines are its shape
-pub shape_read : (s : List ℕ) (h : Head) (t : List ℕ) (f : Admitted) (la lb lr : ℕ) → head_lines s ≡ some (h, t) → formula_file s la lb lr ≡ accepted f
+pub shape_read : (s : List ℕ) (h : Head) (t : List ℕ) (f : Admitted) (la lb lr : ℕ) → head_lines s ≡ Some (h, t) → formula_file s la lb lr ≡ accepted f
     → turnable_head h ≡ turnable (kind_numbered (number_of f.shape.kind)) f.shape.p f.shape.q f.shape.r
 shape_read s h t f la lb lr H e =
     let G = file_inv s la lb lr f e in
@@ -71,7 +70,7 @@ shape_read s h t f la lb lr H e =
     let p = G.head.p in
     let q = G.head.q in
     let r = G.head.r in
-    let w : ◌≡◌ {A = Option (Head × List ℕ)} (some (h, t)) (some (G.head, G.text)) = sym H ∙ G.lines in
+    let w : ◌≡◌ {A = Option (Head × List ℕ)} (Some (h, t)) (Some (G.head, G.text)) = sym H ∙ G.lines in
     let i : ◌≡◌ {A = Head × List ℕ} (h, t) (G.head, G.text) = cc in
     ap (λ (x : Head × List ℕ). turnable_head x.0) i
     ∙ ap (λ (o : Option Kind). turnable o p q r) (A.is_named ∙ sym (kind_numbered_law A.kd)) ∙ ap (λ (g : Admitted). turnable_shape g.shape) A.is
@@ -88,7 +87,7 @@ turn_lent f u v w x y z =
     ap₂ (λ (i j : ℕ). turned_into i j most_targets f) (sym x) (sym y) ∙ ap (λ (i : ℕ). turned_into (length u) (length v) i f) (sym z)
 
 -- ---- once the file may be turned
-module _ (s : List ℕ) (h : Head) (t : List ℕ) (e : ℕ) (H : head_lines s ≡ some (h, t)) (T : turnable_head h ≡ refused_by e (tt {0})) (d : e ≡ 0) where
+module _ (s : List ℕ) (h : Head) (t : List ℕ) (e : ℕ) (H : head_lines s ≡ Some (h, t)) (T : turnable_head h ≡ refused_by e (tt {0})) (d : e ≡ 0) where
   pub turn_stopped : (i : ℕ) → read.Refused i ≡ formula_reply (formula_file s most_products most_products most_targets) → turn_file s ≡ refused i
   turn_stopped i told =
       turn_read s h t e H T d

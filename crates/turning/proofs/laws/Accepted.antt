@@ -4,9 +4,8 @@
 --   TurnedSo, turning_inv   the tests of the refusals, one by one, of the formula full_of p
 --   turned_handed           what Check asks of the turned formula
 -- Assumes nothing.
-use Rattle.std.specs.Prelude.{◌≡◌, refl, Bool, true, false, not, ◌||◌, List, [], ◌∷◌, map, ℕ, zero, suc, ◌+◌, ◌-◌, ◌*◌, ◌^◌, ◌<◌, length, eqb, ltb}
+use Rattle.std.specs.Prelude.{◌≡◌, refl, Bool, true, false, not, ◌||◌, List, [], ◌∷◌, map, ℕ, zero, suc, ◌+◌, ◌-◌, ◌*◌, ◌^◌, ◌<◌, length, eqb, ltb, Option, None, Some}
 use Rattle.std.proofs.Common.{sym, ap, ap₂, ◌∙◌, subst, arith, eqb-true, ne_eqb, lt-ltb, ltb-true}
-use Rattle.std.proofs.Math.Option.{Option, none, some}
 use Rattle.std.proofs.lemmas.List.{length-map}
 use Rattle.std.proofs.lemmas.Bool.{eqb-false, not-false}
 use Rattle.kinds.specs.Kinds.{number_of, kind_numbered, kind_numbered_law}
@@ -46,14 +45,14 @@ reversed_some n (x ∷ xs) W Z =
     (reversed_some n xs a.1 b.1)
 
 -- ---- 2 and 3
-poly_named : (o : Option Kind) → is_poly o ≡ true → o ≡ some kind.Poly
-poly_named none e = absurd (let z : ◌≡◌ {A = ℕ} 0 1 = cc in omega arith)
-poly_named (some k) e = sym (kind_numbered_law k) ∙ ap kind_numbered (eqb-true (number_of k) 0 e) ∙ kind_numbered_law kind.Poly
+poly_named : (o : Option Kind) → is_poly o ≡ true → o ≡ Some kind.Poly
+poly_named None e = absurd (let z : ◌≡◌ {A = ℕ} 0 1 = cc in omega arith)
+poly_named (Some k) e = sym (kind_numbered_law k) ∙ ap kind_numbered (eqb-true (number_of k) 0 e) ∙ kind_numbered_law kind.Poly
 
 pub record Turnable (named : Option Kind) (p q r : ℕ) : Type 0 where
-  pub is_poly_law : named ≡ some kind.Poly
+  pub is_poly_law : named ≡ Some kind.Poly
   pub square : p ≡ q
-  pub middle : sizes (middle_of p) ≡ some (p, 2 * p - 1, p)
+  pub middle : sizes (middle_of p) ≡ Some (p, 2 * p - 1, p)
 
 pub turnable_inv : (named : Option Kind) (p q r : ℕ) → turnable named p q r ≡ accepted tt → Turnable named p q r
 unfolding turnable
@@ -65,14 +64,14 @@ turnable_inv named p q r e =
     record {
       is_poly_law = poly_named named (not-false (is_poly named) a.0);
       square = eqb-true p q (not-false (eqb p q) c.0);
-      middle = d.1 ∙ ap some (sym (mid_some p (2 * p - 1) 0 d.0 d.1).1);
+      middle = d.1 ∙ ap Some (sym (mid_some p (2 * p - 1) 0 d.0 d.1).1);
     }
 
 -- ---- all of them
 pub record TurnedSo (number p q r k : ℕ) (xs ys rows : List ℕ) (g : Admitted) : Type 0 where
   pub admitted : admit (kind_numbered number) p q r k (lists_handed k xs ys rows) ≡ accepted (full_of p xs ys rows)
-  pub sized : sizes (shape_of kind.Poly p p 0) ≡ some (p, p, length rows)
-  pub middle : sizes (middle_of p) ≡ some (p, 2 * p - 1, p)
+  pub sized : sizes (shape_of kind.Poly p p 0) ≡ Some (p, p, length rows)
+  pub middle : sizes (middle_of p) ≡ Some (p, 2 * p - 1, p)
   pub outputs : length rows ≡ 2 * p - 1
   pub products : length xs ≡ k
   pub pairs : length ys ≡ k
@@ -87,8 +86,8 @@ module _ {number p q r k : ℕ} {xs ys rows : List ℕ} {f : Admitted} (H : Hand
   kind_is : H.kd ≡ kind.Poly
   kind_is = let a = H.named in let b = T.is_poly_law in cc
 
-  as_poly : poly_sizes p q r ≡ some (H.n, H.m, length rows)
-  as_poly = subst (λ (x : Kind). sizes_for x p q r ≡ some (H.n, H.m, length rows)) kind_is H.sized
+  as_poly : poly_sizes p q r ≡ Some (H.n, H.m, length rows)
+  as_poly = subst (λ (x : Kind). sizes_for x p q r ≡ Some (H.n, H.m, length rows)) kind_is H.sized
 
   facts : (r ≡ 0) × Within p q × (◌≡◌ {A = ℕ × ℕ × ℕ} (p, q, p + q - 1) (H.n, H.m, length rows))
   facts = poly_some p q r (H.n, H.m, length rows) as_poly
@@ -105,9 +104,9 @@ module _ {number p q r k : ℕ} {xs ys rows : List ℕ} {f : Admitted} (H : Hand
       ∙ ap₂ (λ (x y : ℕ). formula_of (shape_of kind.Poly p x y) H.n H.m xs ys rows) (sym T.square) facts.0
       ∙ ap₂ (λ (x y : ℕ). formula_of (shape_of kind.Poly p p 0) x y xs ys rows) n_is m_is
 
-  full_sized : sizes (shape_of kind.Poly p p 0) ≡ some (p, p, length rows)
+  full_sized : sizes (shape_of kind.Poly p p 0) ≡ Some (p, p, length rows)
   full_sized =
-      sym (ap₂ (poly_sizes p) (sym T.square) facts.0) ∙ as_poly ∙ ap₂ (λ (x y : ℕ). some (x, y, length rows)) n_is m_is
+      sym (ap₂ (poly_sizes p) (sym T.square) facts.0) ∙ as_poly ∙ ap₂ (λ (x y : ℕ). Some (x, y, length rows)) n_is m_is
 
   full_outputs : length rows ≡ 2 * p - 1
   full_outputs = let a : p + q - 1 ≡ length rows = ap (λ (z : ℕ × ℕ × ℕ). z.2) facts.2 in let b = T.square in omega arith
@@ -158,7 +157,7 @@ turned_handed {number} {p} {q} {r} {k} {xs} {ys} {rows} S =
           m = 2 * p - 1;
           named = kind_numbered_law kind.Mid;
           map = refl;
-          sized = S.middle ∙ ap (λ (u : ℕ). some (p, 2 * p - 1, u)) (sym (length_list_of (column ys) 0 p));
+          sized = S.middle ∙ ap (λ (u : ℕ). Some (p, 2 * p - 1, u)) (sym (length_list_of (column ys) 0 p));
           products = length-map xs (reversed p) ∙ S.products;
           pairs = length_list_of (column rows) 0 (length xs) ∙ S.products;
           narrow = ap₂ ◌||◌ (reversed_narrow p xs) (ap₂ ◌||◌ narrow_seconds narrow_rows);

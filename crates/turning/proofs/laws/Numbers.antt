@@ -3,9 +3,8 @@
 --   turnable_only, turning_only   by which numbers the turning is refused
 --   turning_numbered   it is never refused by 0
 -- Assumes nothing.
-use Rattle.std.specs.Prelude.{◌≡◌, refl, not, List, ℕ, ◌≤◌, length, eqb}
+use Rattle.std.specs.Prelude.{◌≡◌, refl, not, List, ℕ, ◌≤◌, length, eqb, Option}
 use Rattle.std.proofs.Common.{sym, ap, ◌∙◌, arith}
-use Rattle.std.proofs.Math.Option.{Option}
 use Rattle.kinds.specs.Kinds.{kind_numbered}
 use Rattle.kinds.specs.Sizes.{shape_of, sizes}
 use Rattle.kinds.specs.Refusal.{Answer, refused, accepted, RefusedOnly}

@@ -3,9 +3,8 @@
 --   coefficients_turned   the coefficients of the turned formula are the middle product's exactly if the old ones are the full product's
 --   right_turned          the same on bits
 -- Assumes nothing.
-use Rattle.std.specs.Prelude.{◌≡◌, refl, ◌↔◌, List, ℕ, ◌+◌, ◌-◌, ◌*◌, ◌<◌, length, get_or, eqb}
+use Rattle.std.specs.Prelude.{◌≡◌, refl, ◌↔◌, List, ℕ, ◌+◌, ◌-◌, ◌*◌, ◌<◌, length, get_or, eqb, Some}
 use Rattle.std.proofs.Common.{sym, ap, ◌∙◌, subst, arith, eq-eqb, ne_eqb}
-use Rattle.std.proofs.Math.Option.{some}
 use Rattle.std.proofs.Math.Decide.{ℕ_discrete}
 use Rattle.kinds.specs.Sizes.{shape_of}
 use Rattle.kinds.specs.declared.Kind.TheVariants as kind
@@ -76,4 +75,4 @@ right_turned {number} {p} {q} {r} {k} {xs} {ys} {rows} S =
     new =
         let g = turned (full_of p xs ys rows) in
         right_coefficients (middle_of p) p (2 * p - 1) g.firsts g.seconds g.rows
-        (S.middle ∙ ap (λ (u : ℕ). some (p, 2 * p - 1, u)) (sym (length_list_of (column ys) 0 p))) refl
+        (S.middle ∙ ap (λ (u : ℕ). Some (p, 2 * p - 1, u)) (sym (length_list_of (column ys) 0 p))) refl

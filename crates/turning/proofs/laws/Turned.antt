@@ -1,8 +1,7 @@
 -- The proofs of the theorems on an accepted turning.
 -- Assumes nothing.
-use Rattle.std.specs.Prelude.{◌≡◌, ◌↔◌, List, ℕ, ◌-◌, ◌*◌, ◌<◌, length, get_or}
+use Rattle.std.specs.Prelude.{◌≡◌, ◌↔◌, List, ℕ, ◌-◌, ◌*◌, ◌<◌, length, get_or, None}
 use Rattle.std.proofs.Common.{sym, ◌∙◌, subst, arith}
-use Rattle.std.proofs.Math.Option.{none}
 use Rattle.std.proofs.lemmas.List.{length-map}
 use Rattle.linear.specs.Bit.{bit}
 use Rattle.kinds.specs.Kinds.{kind_numbered}
@@ -56,8 +55,8 @@ module _ (number p q r k : ℕ) (xs ys rows : List ℕ) (u v w : ℕ) (g : Admit
   turned_right f A =
       subst (λ (f : Admitted). RightFormula f ↔ RightFormula g) (accepted_inj (full_of p xs ys rows) f (sym so.admitted ∙ A)) (right_turned so)
 
-  pub turned_check : ((x : ℕ) × (check number p q r k xs ys rows ≡ accepted (none, x)))
-      ↔ ((x : ℕ) × (check 5 p (2 * p - 1) 0 k g.firsts g.seconds g.rows ≡ accepted (none, x)))
+  pub turned_check : ((x : ℕ) × (check number p q r k xs ys rows ≡ accepted (None, x)))
+      ↔ ((x : ℕ) × (check 5 p (2 * p - 1) 0 k g.firsts g.seconds g.rows ≡ accepted (None, x)))
   turned_check =
       let old = check_right number p q r k xs ys rows (full_of p xs ys rows) so.admitted in
       let new = check_right 5 p (2 * p - 1) 0 k g.firsts g.seconds g.rows g turned_accepted in

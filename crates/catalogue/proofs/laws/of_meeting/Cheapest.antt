@@ -5,12 +5,11 @@
 --   formula_length    the cheapest formula of an entry for k has k numbers
 --   cheapest_met      what is held after all entries is the cheapest of their formulae
 -- Assumes nothing.
-use Rattle.std.specs.Prelude.{◌≡◌, Bool, cond, drop, eqb}
+use Rattle.std.specs.Prelude.{◌≡◌, Bool, cond, drop, eqb, Option, None, Some}
 use Rattle.std.proofs.Math.Path.{refl, sym, ap}
 use Rattle.std.proofs.Common.{◌∙◌, subst, arith}
 use Rattle.std.proofs.Math.Bool.{true, false}
 use mathlib.Core.List.{List, [], ◌∷◌, map, Memᴰ}
-use Rattle.std.proofs.Math.Option.{Option, none, some}
 use Prim.Native.Nat.{ℕ, suc, ◌≤◌}
 use Rattle.std.proofs.Math.ListN.{length, take}
 use Rattle.linear.specs.Entry.{entries, space}
@@ -29,8 +28,8 @@ use Rattle.catalogue.specs.declared.noting.Aim.TheVariants as aim
 
 module _ (gens order prices : List ℕ) (k : ℕ) where
   abbrev pub Held : Option (List ℕ) → State → Type 0
-  Held none s = s.found ≡ 0
-  Held (some es) s = (s.found ≡ 1) × (length es ≡ k) × (take (suc k) s.buf ≡ priced prices es)
+  Held None s = s.found ≡ 0
+  Held (Some es) s = (s.found ≡ 1) × (length es ≡ k) × (take (suc k) s.buf ≡ priced prices es)
 
   abbrev step : State → List ℕ × List ℕ → State
   step = met gens order prices aim.Cheapest
@@ -39,14 +38,14 @@ module _ (gens order prices : List ℕ) (k : ℕ) where
   held_more : (o : Option (List ℕ)) (s : State) (p C : List ℕ) → length (cheapest_in word gens order C) ≡ k → Held o s
       → Held (cheaper prices o (cheapest_in word gens order C)) (step s (p, C))
   unfolding cheaper
-  held_more none s p C l h = (
+  held_more None s p C l h = (
     refl,
     l,
     ap (λ (f : ℕ). take (suc k) (offered prices (eqb f 0) (cheapest_in word gens order C) s.buf)) h
         ∙ ap (λ (n : ℕ). take (suc n) (offered prices true (cheapest_in word gens order C) s.buf)) (sym l) ∙ offered_first prices
         (cheapest_in word gens order C) s.buf,
   )
-  held_more (some es) s p C l h =
+  held_more (Some es) s p C l h =
       let fs : List ℕ = cheapest_in word gens order C in
       let e : take (suc (length es)) s.buf ≡ priced prices es = ap (λ (n : ℕ). take (suc n) s.buf) h.1 ∙ h.2 in (
         refl,
@@ -74,9 +73,9 @@ module _ (gens order prices : List ℕ) (k : ℕ) where
 
     -- what the code says of the state
     held_said : (o : Option (List ℕ)) (s : State) (b : Bool) → Held o s → ((s.found ≡ 0) → b ≡ false) → ((s.found ≡ 1) → b ≡ true) → o ≡ held k b s.buf
-    held_said none s b h z t = ap (λ (x : Bool). held k x s.buf) (sym (z h))
-    held_said (some es) s b h z t =
-        ap some (behind s.buf es h.2) ∙ ap (λ (x : Bool). held k x s.buf) (sym (t h.0))
+    held_said None s b h z t = ap (λ (x : Bool). held k x s.buf) (sym (z h))
+    held_said (Some es) s b h z t =
+        ap Some (behind s.buf es h.2) ∙ ap (λ (x : Bool). held k x s.buf) (sym (t h.0))
       where
         behind : (buf es : List ℕ) → take (suc k) buf ≡ priced prices es → es ≡ take k (drop 1 buf)
         behind [] es e = absurd (let z = ap length e in omega arith)
@@ -89,7 +88,7 @@ module _ (gens order prices : List ℕ) (k : ℕ) where
         → cheapest_for gens order prices targets k ≡ held k b last.buf
     cheapest_met last buffer b n e z t =
         held_said (cheapest_for gens order prices targets k) last b
-        (subst (Held (cheapest_for gens order prices targets k)) (sym e) (held_all (entries word gens targets k) none (start buffer) n refl)) z t
+        (subst (Held (cheapest_for gens order prices targets k)) (sym e) (held_all (entries word gens targets k) None (start buffer) n refl)) z t
 
 pub formula_length : (gens order prices targets : List ℕ) (k : ℕ) → order ≡ by_price price_base prices → length prices ≡ length gens
     → length gens ≤ most_generators

@@ -1,10 +1,9 @@
 -- The proof that Check's reply means what `Meaning` says: a row's form has, at each input, the value that the row gives; forms are equal exactly if
 -- they agree at every input; and the first row whose form is not the target's is found. Assumes nothing.
-use Rattle.std.specs.Prelude.{◌≡◌, refl, ◌≢◌, ◌↔◌, Bool, true, false, ◌&&◌, cond, length, get_or, eqb}
+use Rattle.std.specs.Prelude.{◌≡◌, refl, ◌≢◌, ◌↔◌, Bool, true, false, ◌&&◌, cond, length, get_or, eqb, Option, None, Some}
 use Rattle.std.proofs.Math.Path.{sym}
 use Rattle.std.proofs.Common.{ap, ap₂, ◌∙◌, subst, add-zero, add-suc, arith, pow_pos, eq-eqb, ne_eqb}
 use mathlib.Core.List.{List, [], ◌∷◌}
-use Rattle.std.proofs.Math.Option.{Option, none, some}
 use Prim.Native.Nat.{ℕ, zero, suc, ◌+◌, ◌*◌, ◌^◌, ◌<◌, ◌≤◌}
 use Rattle.std.proofs.Math.Nat.{suc-add}
 use Rattle.std.proofs.Math.Decide.{ℕ_discrete, dec_lt}
@@ -65,8 +64,8 @@ module _ (shape : Shape) (n m : ℕ) (fs : List ℕ) where
   First rows t i = (i < length rows) × (Same rows t i → ⊥) × ((j : ℕ) → j < i → Same rows t j)
 
   abbrev Found : Option ℕ → List ℕ → ℕ → Type 0
-  Found none rows t = (i : ℕ) → i < length rows → Same rows t i
-  Found (some u) rows t = (i : ℕ) × (u ≡ t + i) × First rows t i
+  Found None rows t = (i : ℕ) → i < length rows → Same rows t i
+  Found (Some u) rows t = (i : ℕ) × (u ≡ t + i) × First rows t i
 
   shift : (rows : List ℕ) (row t i : ℕ) → Same rows (suc t) i → Same (row ∷ rows) t (suc i)
   shift rows row t i e = e ∙ ap (target_form shape n m) (suc-add t i ∙ sym (add-suc t i))
@@ -83,12 +82,12 @@ module _ (shape : Shape) (n m : ℕ) (fs : List ℕ) where
   first_found (row ∷ rows) t = go (ℕ_discrete (row_form fs row 0) (target_form shape n m t)) (first_found rows (suc t))
     where
       later : (o : Option ℕ) → row_form fs row 0 ≡ target_form shape n m t → Found o rows (suc t) → Found o (row ∷ rows) t
-      later none e f = all
+      later None e f = all
         where
           all : (i : ℕ) → i < suc (length rows) → Same (row ∷ rows) t i
           all zero h = head rows row t e
           all (suc i) h = shift rows row t i (f i (omega arith))
-      later (some u) e f = (
+      later (Some u) e f = (
         suc f.0,
         f.1 ∙ suc-add t f.0 ∙ sym (add-suc t f.0),
         ((let h = f.2.0 in omega arith), (λ s. f.2.1 (back rows row t f.0 s)), all),
@@ -99,16 +98,16 @@ module _ (shape : Shape) (n m : ℕ) (fs : List ℕ) where
           all (suc j) h = shift rows row t j (f.2.2 j (omega arith))
 
       go : Dec (row_form fs row 0 ≡ target_form shape n m t) → Found (first_wrong shape n m fs rows (suc t)) rows (suc t)
-          → Found (cond (eqb (row_form fs row 0) (target_form shape n m t)) (first_wrong shape n m fs rows (suc t)) (some t)) (row ∷ rows) t
+          → Found (cond (eqb (row_form fs row 0) (target_form shape n m t)) (first_wrong shape n m fs rows (suc t)) (Some t)) (row ∷ rows) t
       go (yes e) ih =
-          subst (λ (b : Bool). Found (cond b (first_wrong shape n m fs rows (suc t)) (some t)) (row ∷ rows) t) (sym (eq-eqb (row_form fs row 0) (target_form shape n m t) e))
+          subst (λ (b : Bool). Found (cond b (first_wrong shape n m fs rows (suc t)) (Some t)) (row ∷ rows) t) (sym (eq-eqb (row_form fs row 0) (target_form shape n m t) e))
           (later (first_wrong shape n m fs rows (suc t)) e ih)
       go (no d) ih =
-          subst (λ (b : Bool). Found (cond b (first_wrong shape n m fs rows (suc t)) (some t)) (row ∷ rows) t) (sym (ne_eqb (row_form fs row 0) (target_form shape n m t) d))
+          subst (λ (b : Bool). Found (cond b (first_wrong shape n m fs rows (suc t)) (Some t)) (row ∷ rows) t) (sym (ne_eqb (row_form fs row 0) (target_form shape n m t) d))
           (0, sym (add-zero t), (omega arith, (λ s. d (s ∙ ap (target_form shape n m) (add-zero t))), λ j h. absurd (omega arith)))
 
 -- ---- forms that are equal, and outputs that agree
-module _ (shape : Shape) (n m : ℕ) (xs ys rows : List ℕ) (sized : sizes shape ≡ some (n, m, length rows)) (map : is_list shape.kind ≡ false) where
+module _ (shape : Shape) (n m : ℕ) (xs ys rows : List ℕ) (sized : sizes shape ≡ Some (n, m, length rows)) (map : is_list shape.kind ≡ false) where
   fs : List ℕ
   fs = product_forms n m xs ys
 
@@ -147,15 +146,15 @@ module _ (shape : Shape) (n m : ℕ) (xs ys rows : List ℕ) (sized : sizes shap
 
   -- what was found, from output 0 on
   abbrev Verdict : Option ℕ → Type 0
-  Verdict none = (t : ℕ) → t < length rows → Equal t
-  Verdict (some t) = (t < length rows) × (Equal t → ⊥) × ((s : ℕ) → s < t → Equal s)
+  Verdict None = (t : ℕ) → t < length rows → Equal t
+  Verdict (Some t) = (t < length rows) × (Equal t → ⊥) × ((s : ℕ) → s < t → Equal s)
 
   zero_plus : (t : ℕ) → 0 + t ≡ t
   zero_plus t = omega arith
 
   from_zero : (o : Option ℕ) → Found shape n m (product_forms n m xs ys) o rows 0 → Verdict o
-  from_zero none f = λ t h. f t h ∙ ap (target_form shape n m) (zero_plus t)
-  from_zero (some u) f =
+  from_zero None f = λ t h. f t h ∙ ap (target_form shape n m) (zero_plus t)
+  from_zero (Some u) f =
       let e : u ≡ f.0 = f.1 ∙ zero_plus f.0 in
       subst (λ (x : ℕ). (x < length rows) × (Equal x → ⊥) × ((s : ℕ) → s < x → Equal s)) (sym e)
       (f.2.0, (λ g. f.2.1 (g ∙ ap (target_form shape n m) (sym (zero_plus f.0)))), λ s h. f.2.2 s h ∙ ap (target_form shape n m) (zero_plus s))
@@ -166,16 +165,16 @@ module _ (shape : Shape) (n m : ℕ) (xs ys rows : List ℕ) (sized : sizes shap
   differ_no : (t : ℕ) → t < length rows → Differs t → Equal t → ⊥
   differ_no t h d e = d.4 (equal_agrees t h e d.0 d.1 d.2 d.3)
 
-  none_right : (o : Option ℕ) → Verdict o → (o ≡ none) ↔ Right shape n m xs ys rows
-  none_right none f = (λ e t h. equal_agrees t h (f t h), λ g. refl)
-  none_right (some t) f = (λ e. absurd (let z : ◌≡◌ {A = ℕ} 0 1 = cc in omega arith), λ g. absurd (f.1 (agrees_equal t f.0 (g t f.0))))
+  none_right : (o : Option ℕ) → Verdict o → (o ≡ None) ↔ Right shape n m xs ys rows
+  none_right None f = (λ e t h. equal_agrees t h (f t h), λ g. refl)
+  none_right (Some t) f = (λ e. absurd (let z : ◌≡◌ {A = ℕ} 0 1 = cc in omega arith), λ g. absurd (f.1 (agrees_equal t f.0 (g t f.0))))
 
-  some_wrong : (o : Option ℕ) → Verdict o → (t : ℕ) → (o ≡ some t) ↔ FirstDiffers shape n m xs ys rows t
-  some_wrong none f t = (
+  some_wrong : (o : Option ℕ) → Verdict o → (t : ℕ) → (o ≡ Some t) ↔ FirstDiffers shape n m xs ys rows t
+  some_wrong None f t = (
     λ e. absurd (let z : ◌≡◌ {A = ℕ} 0 1 = cc in omega arith),
     λ g. absurd (differ_no t g.there g.differs (f t g.there)),
   )
-  some_wrong (some u) f t = (λ e. to (let z : u ≡ t = cc in z), λ g. ap some (same g (dec_lt u t) (dec_lt t u)))
+  some_wrong (Some u) f t = (λ e. to (let z : u ≡ t = cc in z), λ g. ap Some (same g (dec_lt u t) (dec_lt t u)))
     where
       here : FirstDiffers shape n m xs ys rows u
       here =
@@ -193,15 +192,15 @@ module _ (shape : Shape) (n m : ℕ) (xs ys rows : List ℕ) (sized : sizes shap
       same g (no l) (yes b) = absurd (differ_no t g.there g.differs (f.2 t b))
       same g (no l) (no b) = omega arith
 
-  pub right_iff : (said ≡ none) ↔ Right shape n m xs ys rows
+  pub right_iff : (said ≡ None) ↔ Right shape n m xs ys rows
   right_iff = none_right said found
 
-  pub wrong_iff : (t : ℕ) → (said ≡ some t) ↔ FirstDiffers shape n m xs ys rows t
+  pub wrong_iff : (t : ℕ) → (said ≡ Some t) ↔ FirstDiffers shape n m xs ys rows t
   wrong_iff = some_wrong said found
 
 -- ---- the verdict on an admitted formula
-pub verdict_means : (f : Admitted) → sizes f.shape ≡ some (f.n, f.m, length f.rows) → is_list f.shape.kind ≡ false
-    → (((verdict f).0 ≡ none) ↔ RightFormula f) × ((t : ℕ) → ((verdict f).0 ≡ some t) ↔ FormulaDiffers f t)
+pub verdict_means : (f : Admitted) → sizes f.shape ≡ Some (f.n, f.m, length f.rows) → is_list f.shape.kind ≡ false
+    → (((verdict f).0 ≡ None) ↔ RightFormula f) × ((t : ℕ) → ((verdict f).0 ≡ Some t) ↔ FormulaDiffers f t)
 verdict_means f S h =
     (right_iff f.shape f.n f.m f.firsts f.seconds f.rows S h, wrong_iff f.shape f.n f.m f.firsts f.seconds f.rows S h)
 
@@ -223,8 +222,8 @@ check_means number p q r k xs ys rows v w e =
       sized = H.sized;
       products = H.products;
       pairs = H.pairs;
-      right = subst (λ (o : Option ℕ). (o ≡ none) ↔ Right shape H.n H.m xs ys rows) E (right_iff shape H.n H.m xs ys rows H.sized H.map);
-      wrong = λ t. subst (λ (o : Option ℕ). (o ≡ some t) ↔ FirstDiffers shape H.n H.m xs ys rows t) E (wrong_iff shape H.n H.m xs ys rows H.sized H.map t);
+      right = subst (λ (o : Option ℕ). (o ≡ None) ↔ Right shape H.n H.m xs ys rows) E (right_iff shape H.n H.m xs ys rows H.sized H.map);
+      wrong = λ t. subst (λ (o : Option ℕ). (o ≡ Some t) ↔ FirstDiffers shape H.n H.m xs ys rows t) E (wrong_iff shape H.n H.m xs ys rows H.sized H.map t);
       cost = sym (ap (λ (x : Option ℕ × ℕ). x.1) J);
     }
 
@@ -233,14 +232,14 @@ module _ (number p q r k : ℕ) (xs ys rows : List ℕ) (f : Admitted) (A : admi
   judged : check number p q r k xs ys rows ≡ accepted (verdict f)
   judged = check_as number p q r k xs ys rows A
 
-  said_right : ((verdict f).0 ≡ none) ↔ RightFormula f
+  said_right : ((verdict f).0 ≡ None) ↔ RightFormula f
   said_right =
       let H = handed_inv number p q r k xs ys rows f A in
       let map : is_list f.shape.kind ≡ false = subst (λ (g : Admitted). is_list g.shape.kind ≡ false) H.is H.map in
       (verdict_means f (handed_fitting number p q r k xs ys rows f H).sized map).0
 
-  pub check_right : ((w : ℕ) × (check number p q r k xs ys rows ≡ accepted (none, w))) ↔ RightFormula f
+  pub check_right : ((w : ℕ) × (check number p q r k xs ys rows ≡ accepted (None, w))) ↔ RightFormula f
   check_right = (
-    λ x. said_right.0 (ap (λ (v : Option ℕ × ℕ). v.0) (accepted_inj (verdict f) (none, x.0) (sym judged ∙ x.1))),
+    λ x. said_right.0 (ap (λ (v : Option ℕ × ℕ). v.0) (accepted_inj (verdict f) (None, x.0) (sym judged ∙ x.1))),
     λ R. ((verdict f).1, judged ∙ ap (λ (v : Option ℕ). accepted (v, (verdict f).1)) (said_right.1 R)),
   )

@@ -4,11 +4,10 @@
 --   row_coordinate      coordinate i * m + j of a row's form is the coefficient of a_i b_j
 --   right_coefficients  the theorem
 -- Assumes nothing.
-use Rattle.std.specs.Prelude.{◌≡◌, refl, ◌↔◌, Bool, true, false, ◌&&◌, ℕ, zero, suc, ◌+◌, ◌*◌, ◌<◌, ◌≤◌, length, get_or}
+use Rattle.std.specs.Prelude.{◌≡◌, refl, ◌↔◌, Bool, true, false, ◌&&◌, ℕ, zero, suc, ◌+◌, ◌*◌, ◌<◌, ◌≤◌, length, get_or, Some}
 use Rattle.std.proofs.Math.Path.{sym, ap, ap₂}
 use Rattle.std.proofs.Common.{◌∙◌, add-zero, add-suc, suc-add, zero-add, arith}
 use mathlib.Core.List.{List, [], ◌∷◌}
-use Rattle.std.proofs.Math.Option.{some}
 use Rattle.linear.specs.Bit.{bit, xor_b}
 use Rattle.linear.specs.Word.{word, scale_w}
 use Rattle.linear.specs.laws.Bit.{bit_of_xor, bit_zero}
@@ -84,7 +83,7 @@ module _ (n m i j : ℕ) (h : n * m ≤ 64) (I : i < n) (J : j < m) where
       (λ l q. ap (λ (s : ℕ). bit (get_or xs l 0) i && (bit (get_or ys l 0) j && bit row s)) (zero-add l))
 
 -- ---- the theorem
-module _ (shape : Shape) (n m : ℕ) (xs ys rows : List ℕ) (sized : sizes shape ≡ some (n, m, length rows)) (map : is_list shape.kind ≡ false) where
+module _ (shape : Shape) (n m : ℕ) (xs ys rows : List ℕ) (sized : sizes shape ≡ Some (n, m, length rows)) (map : is_list shape.kind ≡ false) where
   room : n * m ≤ 64
   room = (sizes_bounds shape (n, m, length rows) sized).fits.product
 

@@ -5,8 +5,7 @@
 --   check_right   right is said of an admitted formula exactly if it is right
 --   right_coefficients   a formula is right, at every input, exactly if each coefficient of each output is the map's
 -- Assumes nothing.
-use Rattle.std.specs.Prelude.{◌≡◌, List, false, ◌↔◌, ℕ, length}
-use Rattle.std.proofs.Math.Option.{Option, none, some}
+use Rattle.std.specs.Prelude.{◌≡◌, List, false, ◌↔◌, ℕ, length, Option, None, Some}
 use Rattle.kinds.specs.declared.Shape.{Shape}
 use Rattle.kinds.specs.Refusal.{accepted}
 use Rattle.kinds.specs.Kinds.{kind_numbered, is_list}
@@ -17,17 +16,17 @@ use Rattle.formula_check.specs.meaning.Tensor.{Coefficients}
 use Rattle.formula_check.proofs.laws.of_meaning.Meaning as meaning
 use Rattle.formula_check.proofs.laws.of_meaning.Tensor as tensors
 
-pub verdict_means : (f : Admitted) → sizes f.shape ≡ some (f.n, f.m, length f.rows) → is_list f.shape.kind ≡ false
-    → (((verdict f).0 ≡ none) ↔ RightFormula f) × ((t : ℕ) → ((verdict f).0 ≡ some t) ↔ FormulaDiffers f t)
+pub verdict_means : (f : Admitted) → sizes f.shape ≡ Some (f.n, f.m, length f.rows) → is_list f.shape.kind ≡ false
+    → (((verdict f).0 ≡ None) ↔ RightFormula f) × ((t : ℕ) → ((verdict f).0 ≡ Some t) ↔ FormulaDiffers f t)
 verdict_means = meaning.verdict_means
 
 pub check_means : (number p q r k : ℕ) (xs ys rows : List ℕ) (v : Option ℕ) (w : ℕ) → check number p q r k xs ys rows ≡ accepted (v, w) → Means number p q r k xs ys rows v w
 check_means = meaning.check_means
 
 pub check_right : (number p q r k : ℕ) (xs ys rows : List ℕ) (f : Admitted) → admit (kind_numbered number) p q r k (lists_handed k xs ys rows) ≡ accepted f
-    → ((w : ℕ) × (check number p q r k xs ys rows ≡ accepted (none, w))) ↔ RightFormula f
+    → ((w : ℕ) × (check number p q r k xs ys rows ≡ accepted (None, w))) ↔ RightFormula f
 check_right = meaning.check_right
 
-pub right_coefficients : (shape : Shape) (n m : ℕ) (xs ys rows : List ℕ) → sizes shape ≡ some (n, m, length rows) → is_list shape.kind ≡ false
+pub right_coefficients : (shape : Shape) (n m : ℕ) (xs ys rows : List ℕ) → sizes shape ≡ Some (n, m, length rows) → is_list shape.kind ≡ false
     → Right shape n m xs ys rows ↔ Coefficients shape n m xs ys rows
 right_coefficients = tensors.right_coefficients

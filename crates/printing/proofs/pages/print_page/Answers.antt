@@ -10,4 +10,4 @@ returns-then-page-s c =
 pub returns : goal.returns
 returns c =
     let args = c.args in
-    print_all args.s.now args.page.now _ _ c.if-page-s.false c.put_bytes-n.ensures
+    print_all args.s.now args.page.now _ _ c.if-page-s.false c.put_bytes.ensures

@@ -4,9 +4,8 @@
 --   body_few, body_targets at most 4,095 generators and 64 targets are handed in
 --   body_priced            with a cost for each generator
 -- Assumes nothing.
-use Rattle.std.specs.Prelude.{ℕ, ◌<◌, ◌≤◌, ◌≡◌, refl, List, [], Bool, true, false, not, cond, length, take, ltb}
+use Rattle.std.specs.Prelude.{ℕ, ◌<◌, ◌≤◌, ◌≡◌, refl, List, [], Bool, true, false, not, cond, length, take, ltb, None, Some}
 use Rattle.std.proofs.Common.{ap, ◌∙◌, subst, arith, lt-ltb, le-ltb, ltb-false}
-use Rattle.std.proofs.Math.Option.{none, some}
 use Rattle.kinds.specs.declared.Shape.{Shape}
 use Rattle.kinds.specs.Sizes.{sizes, given}
 use Rattle.kinds.specs.Refusal.{Answer, refused, accepted, need, refuse, refused_by}
@@ -46,15 +45,15 @@ module _ (q r : ℕ) (s : List ℕ) where
   list_not gs ts cs b h e t = rw (le-ltb most_generators q h, e, t)
 
 module _ (n m : ℕ) (s : List ℕ) where
-  pub map_many : count_of n m ≡ none → map_lines n m s ≡ refused 4
+  pub map_many : count_of n m ≡ None → map_lines n m s ≡ refused 4
   unfolding map_lines
   map_many e = rw e
 
-  pub map_more : (c : ℕ) → count_of n m ≡ some c → 0 < length s → map_lines n m s ≡ refused 5
+  pub map_more : (c : ℕ) → count_of n m ≡ Some c → 0 < length s → map_lines n m s ≡ refused 5
   unfolding map_lines
   map_more c e h = rw (e, ended_not s 0 h)
 
-  pub map_none : (c : ℕ) → count_of n m ≡ some c → length s ≤ 0 → map_lines n m s ≡ accepted ([], [], [])
+  pub map_none : (c : ℕ) → count_of n m ≡ Some c → length s ≤ 0 → map_lines n m s ≡ accepted ([], [], [])
   unfolding map_lines
   map_none c e h = rw (e, ended_yes s 0 h)
 
@@ -79,7 +78,7 @@ body_few shape n m s x = go (is_list shape.kind)
     go true e = list_few shape.q shape.r s x e
     go false e = omega arith
 
-pub body_targets : (shape : Shape) (z : ℕ × ℕ × ℕ) → sizes shape ≡ some z → handed shape.kind shape.r ≤ most_targets
+pub body_targets : (shape : Shape) (z : ℕ × ℕ × ℕ) → sizes shape ≡ Some z → handed shape.kind shape.r ≤ most_targets
 body_targets shape z e = go (is_list shape.kind) refl
   where
     go : (b : Bool) → is_list shape.kind ≡ b → cond b shape.r 0 ≤ most_targets
@@ -92,7 +91,7 @@ unfolding list_lines
 list_priced q r s x e =
     let a = refuse_inv 4 (ltb most_generators q) (need 5 (list_body q r s) accepted) x e in
     let b = need_inv 5 (list_body q r s) accepted x a.1 in
-    list_costs q r s x (b.1 ∙ ap some (accepted_inj b.0 x b.2))
+    list_costs q r s x (b.1 ∙ ap Some (accepted_inj b.0 x b.2))
 
 map_priced : (n m : ℕ) (s : List ℕ) (x : List ℕ × List ℕ × List ℕ) → map_lines n m s ≡ accepted x → (length x.2 ≡ 0) × (wide cost_bits x.2 ≡ false)
 unfolding map_lines wide

@@ -3,9 +3,8 @@
 --   roles_at, roles_not   the lines of a role
 --   ended_is              a text is used up exactly if as many bytes are used as it has
 -- Assumes nothing.
-use Rattle.std.specs.Prelude.{ℕ, ◌+◌, ◌-◌, ◌≤◌, ◌≡◌, refl, List, Bool, true, false, length, take, drop, eqb}
+use Rattle.std.specs.Prelude.{ℕ, ◌+◌, ◌-◌, ◌≤◌, ◌≡◌, refl, List, Bool, true, false, length, take, drop, eqb, None, Some}
 use Rattle.std.proofs.Common.{ap, ◌∙◌, arith, drop-drop, eqb-true}
-use Rattle.std.proofs.Math.Option.{none, some}
 use Rattle.std.proofs.lemmas.Bool.{eqb-false}
 use Rattle.kinds.specs.Limits.{most_cost}
 use Rattle.kinds.specs.Sizes.{given}
@@ -19,30 +18,30 @@ use Rattle.problem_files.specs.list_lines.Roles.{role_names, generator_role, tar
 use Rattle.problem_files.specs.list_lines.Views.{seen_roles}
 
 module _ (q r : ℕ) (s : List ℕ) where
-  pub list_1 : name_line role_names s ≡ none → list_body q r s ≡ none
+  pub list_1 : name_line role_names s ≡ None → list_body q r s ≡ None
   unfolding list_body
   list_1 e = rw e
 
-  pub list_2 : (u : List ℕ) → name_line role_names s ≡ some u → role_lines generator_role most_cost q u ≡ none → list_body q r s ≡ none
+  pub list_2 : (u : List ℕ) → name_line role_names s ≡ Some u → role_lines generator_role most_cost q u ≡ None → list_body q r s ≡ None
   unfolding list_body
   list_2 u e f = rw (e, f)
 
-  pub list_3 : (u g c v : List ℕ) → name_line role_names s ≡ some u → role_lines generator_role most_cost q u ≡ some ((g, c), v)
-      → role_lines target_role target_cost r v ≡ none → list_body q r s ≡ none
+  pub list_3 : (u g c v : List ℕ) → name_line role_names s ≡ Some u → role_lines generator_role most_cost q u ≡ Some ((g, c), v)
+      → role_lines target_role target_cost r v ≡ None → list_body q r s ≡ None
   unfolding list_body
   list_3 u g c v e f h = rw (e, f, h)
 
-  pub list_is : (u g c v t d w : List ℕ) (b : Bool) → name_line role_names s ≡ some u → role_lines generator_role most_cost q u ≡ some ((g, c), v)
-      → role_lines target_role target_cost r v ≡ some ((t, d), w) → ended w ≡ b → list_body q r s ≡ given b (g, t, c)
+  pub list_is : (u g c v t d w : List ℕ) (b : Bool) → name_line role_names s ≡ Some u → role_lines generator_role most_cost q u ≡ Some ((g, c), v)
+      → role_lines target_role target_cost r v ≡ Some ((t, d), w) → ended w ≡ b → list_body q r s ≡ given b (g, t, c)
   unfolding list_body
   list_is u g c v t d w b e f h i = rw (e, f, h, i)
 
 module _ (s : List ℕ) (u c most n : ℕ) (xs ys : List ℕ) (x : Used)
     (e : role_lines c most n (take (length s - u) (drop u s)) ≡ seen_roles (take (length s - u) (drop u s)) xs ys x) where
-  pub roles_at : (v : ℕ) → x ≡ used.Is v → role_lines c most n (drop u s) ≡ some ((xs, ys), drop (u + v) s)
-  roles_at v h = read_at s u x (used.Is v) (role_lines c most n) (λ t. seen_roles t xs ys) e h ∙ ap (λ (t : List ℕ). some ((xs, ys), t)) (drop-drop v u s)
+  pub roles_at : (v : ℕ) → x ≡ used.Is v → role_lines c most n (drop u s) ≡ Some ((xs, ys), drop (u + v) s)
+  roles_at v h = read_at s u x (used.Is v) (role_lines c most n) (λ t. seen_roles t xs ys) e h ∙ ap (λ (t : List ℕ). Some ((xs, ys), t)) (drop-drop v u s)
 
-  pub roles_not : x ≡ used.No → role_lines c most n (drop u s) ≡ none
+  pub roles_not : x ≡ used.No → role_lines c most n (drop u s) ≡ None
   roles_not h = read_at s u x used.No (role_lines c most n) (λ t. seen_roles t xs ys) e h
 
 pub ended_is : (s : List ℕ) (i : ℕ) → i ≤ length s → ended (drop i s) ≡ eqb i (length s)

@@ -3,9 +3,8 @@
 --   roles_costs          such are those of n lines of a role
 --   list_costs           those of a list: one for each generator, of 16 bits each
 -- Assumes nothing.
-use Rattle.std.specs.Prelude.{ℕ, zero, suc, ◌≤◌, ◌≡◌, refl, List, [], ◌∷◌, false, length}
+use Rattle.std.specs.Prelude.{ℕ, zero, suc, ◌≤◌, ◌≡◌, refl, List, [], ◌∷◌, false, length, Some}
 use Rattle.std.proofs.Common.{ap, subst, arith}
-use Rattle.std.proofs.Math.Option.{some}
 use Rattle.kinds.specs.Limits.{most_cost, cost_bits}
 use Rattle.words.specs.Masks.{wide}
 use Rattle.words.specs.laws.Masks.{AllBelow, below_wide}
@@ -21,13 +20,13 @@ pub record Costs (most n : ℕ) (xs ys : List ℕ) : Type 0 where
 costs_more : {most n : ℕ} {xs ys : List ℕ} (x y : ℕ) → y ≤ most → Costs most n xs ys → Costs most (suc n) (x ∷ xs) (y ∷ ys)
 costs_more x y h C = record { forms = ap suc C.forms; costs = ap suc C.costs; small = (omega arith, C.small) }
 
-role_cost : (c most : ℕ) (s : List ℕ) (l : (ℕ × ℕ) × List ℕ) → role_line c most s ≡ some l → l.0.1 ≤ most
+role_cost : (c most : ℕ) (s : List ℕ) (l : (ℕ × ℕ) × List ℕ) → role_line c most s ≡ Some l → l.0.1 ≤ most
 role_cost c most s l e =
     let R = role_inv c most s l e in
     let F = form_inv most R.0 l R.2 in
     subst (λ (w : (ℕ × ℕ) × List ℕ). w.0.1 ≤ most) F.is F.allowed
 
-pub roles_costs : (c most n : ℕ) (s : List ℕ) (l : (List ℕ × List ℕ) × List ℕ) → role_lines c most n s ≡ some l → Costs most n l.0.0 l.0.1
+pub roles_costs : (c most n : ℕ) (s : List ℕ) (l : (List ℕ × List ℕ) × List ℕ) → role_lines c most n s ≡ Some l → Costs most n l.0.0 l.0.1
 unfolding role_lines
 roles_costs c most zero s l e =
     let none_read : Costs most zero [] [] = record { forms = refl; costs = refl; small = tt } in
@@ -37,7 +36,7 @@ roles_costs c most (suc n) s l e =
     subst (λ (w : (List ℕ × List ℕ) × List ℕ). Costs most (suc n) w.0.0 w.0.1) R.is
     (costs_more R.one.0.0 R.one.0.1 (role_cost c most s R.one R.first) (roles_costs c most n R.one.1 R.others R.rest))
 
-pub list_costs : (q r : ℕ) (s : List ℕ) (f : List ℕ × List ℕ × List ℕ) → list_body q r s ≡ some f → (length f.2 ≡ q) × (wide cost_bits f.2 ≡ false)
+pub list_costs : (q r : ℕ) (s : List ℕ) (f : List ℕ × List ℕ × List ℕ) → list_body q r s ≡ Some f → (length f.2 ≡ q) × (wide cost_bits f.2 ≡ false)
 list_costs q r s f e =
     let R = list_inv q r s f e in
     let C = roles_costs generator_role most_cost q R.text R.generators R.first in

@@ -4,9 +4,8 @@
 --   RolesRead, roles_inv   lines of a role: the first, and the others
 --   ListRead, list_inv     all lines: the names, the generators, the targets, and nothing behind them
 -- Assumes nothing.
-use Rattle.std.specs.Prelude.{ℕ, suc, ◌≤◌, ◌≡◌, refl, List, [], ◌∷◌, Bool, true, false, not, ◌&&◌, cond, eqb, ltb}
+use Rattle.std.specs.Prelude.{ℕ, suc, ◌≤◌, ◌≡◌, refl, List, [], ◌∷◌, Bool, true, false, not, ◌&&◌, cond, eqb, ltb, None, Some}
 use Rattle.std.proofs.Common.{ap, ◌∙◌, arith, eqb-true, ltb-false}
-use Rattle.std.proofs.Math.Option.{none, some}
 use Rattle.std.proofs.lemmas.Bool.{not-true}
 use Rattle.kinds.specs.Limits.{most_cost}
 use Rattle.kinds.specs.Sizes.{given}
@@ -19,13 +18,13 @@ use Rattle.problem_files.specs.list_lines.Roles.{role_names, generator_role, tar
 
 pub record FormRead (most : ℕ) (s : List ℕ) (l : (ℕ × ℕ) × List ℕ) : Type 0 where
   pub form : ℕ × List ℕ
-  pub first : mask_field s ≡ some form
+  pub first : mask_field s ≡ Some form
   pub cost : ℕ × List ℕ
-  pub second : cost_line form.1 ≡ some cost
+  pub second : cost_line form.1 ≡ Some cost
   pub allowed : cost.0 ≤ most
   pub is : ((form.0, cost.0), cost.1) ≡ l
 
-pub form_inv : (most : ℕ) (s : List ℕ) (l : (ℕ × ℕ) × List ℕ) → form_and_cost most s ≡ some l → FormRead most s l
+pub form_inv : (most : ℕ) (s : List ℕ) (l : (ℕ × ℕ) × List ℕ) → form_and_cost most s ≡ Some l → FormRead most s l
 unfolding form_and_cost
 form_inv most s l e =
     let i = inv (mask_field s) (λ x. cost_line x.1 >>= λ y. given (not (ltb most y.0)) ((x.0, y.0), y.1)) l e in
@@ -40,15 +39,15 @@ form_inv most s l e =
       is = g.1;
     }
 
-pub role_inv : (c most : ℕ) (s : List ℕ) (l : (ℕ × ℕ) × List ℕ) → role_line c most s ≡ some l
-    → (t : List ℕ) × (s ≡ c ∷ comma ∷ t) × (form_and_cost most t ≡ some l)
+pub role_inv : (c most : ℕ) (s : List ℕ) (l : (ℕ × ℕ) × List ℕ) → role_line c most s ≡ Some l
+    → (t : List ℕ) × (s ≡ c ∷ comma ∷ t) × (form_and_cost most t ≡ Some l)
 unfolding role_line
 role_inv c most [] l e = absurd (let q : ◌≡◌ {A = ℕ} 0 1 = cc in omega arith)
 role_inv c most (a ∷ []) l e = absurd (let q : ◌≡◌ {A = ℕ} 0 1 = cc in omega arith)
 role_inv c most (a ∷ b ∷ s) l e = go (eqb a c && eqb b comma) refl e
   where
-    go : (t : Bool) → eqb a c && eqb b comma ≡ t → cond t (form_and_cost most s) none ≡ some l
-        → (t : List ℕ) × (a ∷ b ∷ s ≡ c ∷ comma ∷ t) × (form_and_cost most t ≡ some l)
+    go : (t : Bool) → eqb a c && eqb b comma ≡ t → cond t (form_and_cost most s) None ≡ Some l
+        → (t : List ℕ) × (a ∷ b ∷ s ≡ c ∷ comma ∷ t) × (form_and_cost most t ≡ Some l)
     go true h f =
         let k = both (eqb a c) (eqb b comma) h in
         let x : a ≡ c = eqb-true a c k.0 in
@@ -58,29 +57,29 @@ role_inv c most (a ∷ b ∷ s) l e = go (eqb a c && eqb b comma) refl e
 
 pub record RolesRead (c most n : ℕ) (s : List ℕ) (l : (List ℕ × List ℕ) × List ℕ) : Type 0 where
   pub one : (ℕ × ℕ) × List ℕ
-  pub first : role_line c most s ≡ some one
+  pub first : role_line c most s ≡ Some one
   pub others : (List ℕ × List ℕ) × List ℕ
-  pub rest : role_lines c most n one.1 ≡ some others
+  pub rest : role_lines c most n one.1 ≡ Some others
   pub is : ((one.0.0 ∷ others.0.0, one.0.1 ∷ others.0.1), others.1) ≡ l
 
-pub roles_inv : (c most n : ℕ) (s : List ℕ) (l : (List ℕ × List ℕ) × List ℕ) → role_lines c most (suc n) s ≡ some l → RolesRead c most n s l
+pub roles_inv : (c most n : ℕ) (s : List ℕ) (l : (List ℕ × List ℕ) × List ℕ) → role_lines c most (suc n) s ≡ Some l → RolesRead c most n s l
 unfolding role_lines
 roles_inv c most n s l e =
-    let i = inv (role_line c most s) (λ x. role_lines c most n x.1 >>= λ m. some ((x.0.0 ∷ m.0.0, x.0.1 ∷ m.0.1), m.1)) l e in
-    let j = inv (role_lines c most n i.0.1) (λ m. some ((i.0.0.0 ∷ m.0.0, i.0.0.1 ∷ m.0.1), m.1)) l i.2 in
+    let i = inv (role_line c most s) (λ x. role_lines c most n x.1 >>= λ m. Some ((x.0.0 ∷ m.0.0, x.0.1 ∷ m.0.1), m.1)) l e in
+    let j = inv (role_lines c most n i.0.1) (λ m. Some ((i.0.0.0 ∷ m.0.0, i.0.0.1 ∷ m.0.1), m.1)) l i.2 in
     record { one = i.0; first = i.1; others = j.0; rest = j.1; is = inj _ l j.2 }
 
 pub record ListRead (q r : ℕ) (s : List ℕ) (f : List ℕ × List ℕ × List ℕ) : Type 0 where
   pub text : List ℕ
-  pub names : name_line role_names s ≡ some text
+  pub names : name_line role_names s ≡ Some text
   pub generators : (List ℕ × List ℕ) × List ℕ
-  pub first : role_lines generator_role most_cost q text ≡ some generators
+  pub first : role_lines generator_role most_cost q text ≡ Some generators
   pub targets : (List ℕ × List ℕ) × List ℕ
-  pub second : role_lines target_role target_cost r generators.1 ≡ some targets
+  pub second : role_lines target_role target_cost r generators.1 ≡ Some targets
   pub whole : ended targets.1 ≡ true
   pub is : (generators.0.0, targets.0.0, generators.0.1) ≡ f
 
-pub list_inv : (q r : ℕ) (s : List ℕ) (f : List ℕ × List ℕ × List ℕ) → list_body q r s ≡ some f → ListRead q r s f
+pub list_inv : (q r : ℕ) (s : List ℕ) (f : List ℕ × List ℕ × List ℕ) → list_body q r s ≡ Some f → ListRead q r s f
 unfolding list_body
 list_inv q r s f e =
     let i = inv (name_line role_names s) (λ u. role_lines generator_role most_cost q u >>= λ g.

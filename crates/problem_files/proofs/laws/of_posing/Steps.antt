@@ -4,11 +4,10 @@
 --   file_1, file_2, file_3, file_is, file_read   refusals 1 to 7
 -- Assumes nothing.
 use Prim.Native.Nat.{ℕ, ◌-◌, ◌≤◌}
-use Rattle.std.specs.Prelude.{◌≡◌, refl, length, take, drop}
+use Rattle.std.specs.Prelude.{◌≡◌, refl, length, take, drop, None, Some}
 use Rattle.std.proofs.Common.{sym, ap₂, ◌∙◌, subst}
 use Rattle.std.proofs.Math.Path.{ap}
 use mathlib.Core.List.{List, []}
-use Rattle.std.proofs.Math.Option.{none, some}
 use Rattle.kinds.specs.declared.Kind.{Kind}
 use Rattle.kinds.specs.declared.Shape.{Shape}
 use Rattle.kinds.specs.Sizes.{shape_of, sizes}
@@ -84,28 +83,28 @@ module _ (shape : Shape) (k n m : ℕ) (s gs ts cs g t : List ℕ) (e : ℕ)
 
 -- ---- 1 to 7
 module _ (s : List ℕ) where
-  pub file_1 : head_lines s ≡ none → posed_file s ≡ refused 1
+  pub file_1 : head_lines s ≡ None → posed_file s ≡ refused 1
   unfolding posed_file
   file_1 e = rw e
 
-  module _ (h : Head) (t : List ℕ) (e : head_lines s ≡ some (h, t)) where
-    pub file_2 : h.kind ≡ none → posed_file s ≡ refused 2
+  module _ (h : Head) (t : List ℕ) (e : head_lines s ≡ Some (h, t)) where
+    pub file_2 : h.kind ≡ None → posed_file s ≡ refused 2
     unfolding posed_file
     file_2 f = rw (e, f)
 
-    module _ (kd : Kind) (f : h.kind ≡ some kd) where
-      pub file_3 : sizes (shape_of kd h.p h.q h.r) ≡ none → posed_file s ≡ refused 3
+    module _ (kd : Kind) (f : h.kind ≡ Some kd) where
+      pub file_3 : sizes (shape_of kd h.p h.q h.r) ≡ None → posed_file s ≡ refused 3
       unfolding posed_file
       file_3 z = rw (e, f, z)
 
-      pub file_is : (n m o : ℕ) → sizes (shape_of kd h.p h.q h.r) ≡ some (n, m, o) → posed_file s ≡ posed_lines (shape_of kd h.p h.q h.r) h.k n m t
+      pub file_is : (n m o : ℕ) → sizes (shape_of kd h.p h.q h.r) ≡ Some (n, m, o) → posed_file s ≡ posed_lines (shape_of kd h.p h.q h.r) h.k n m t
       unfolding posed_file
       file_is n m o z = rw (e, f, z)
 
 -- the lines under the first two are read at the part of s from i on
 pub file_read : (s : List ℕ) (h : Head) (kd : Kind) (n m o i : ℕ) (gs ts cs g t : List ℕ) (x : PosedRead)
-    → head_lines s ≡ some (h, drop i s) → h.kind ≡ some kd
-    → sizes (shape_of kd h.p h.q h.r) ≡ some (n, m, o)
+    → head_lines s ≡ Some (h, drop i s) → h.kind ≡ Some kd
+    → sizes (shape_of kd h.p h.q h.r) ≡ Some (n, m, o)
     → Poses (posed_lines (shape_of kd h.p h.q h.r) h.k n m (take (length s - i) (drop i s))) gs ts cs g t x
     → Poses (posed_file s) gs ts cs g t x
 file_read s h kd n m o i gs ts cs g t x e f z P =

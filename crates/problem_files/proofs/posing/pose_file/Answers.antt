@@ -1,7 +1,6 @@
 -- `problem_files::posing::pose_file` meets its contract. Assumes nothing.
 use mathlib.Core.Path.{ap, ◌∙◌}
-use Rattle.kinds.specs.Kinds.{seen_kind}
-use Rattle.kinds.specs.Sizes.{shape_of, seen_sizes}
+use Rattle.kinds.specs.Sizes.{shape_of}
 use Rattle.text.specs.heads.Views.{seen_head}
 use Rattle.formula_files.proofs.laws.FormulaFile.{head_fit}
 use Rattle.problem_files.proofs.laws.of_handed_forms.Lines.{body_targets}
@@ -18,7 +17,7 @@ returns-in_default-known c =
     let args = c.args in
     let head = c.head_lines.ensures.0 ∙ ap (seen_head args.file.now) c.in-Is.is in
     record {
-      answer = file_2 _ _ _ head (ap seen_kind c.in_default-known.is);
+      answer = file_2 _ _ _ head c.in_default-known.is;
       fits = tt;
     }
 
@@ -29,8 +28,8 @@ returns-in_default-sizes_of c =
     let head = head-lines.ensures.0 ∙ ap (seen_head args.file.now) c.in-Is.is in
     record {
       answer =
-          file_3 _ _ _ head _ (ap seen_kind c.in-Is-known.is)
-          (c.sizes_of.ensures ∙ ap seen_sizes c.in_default-sizes_of.is);
+          file_3 _ _ _ head _ c.in-Is-known.is
+          (c.sizes_of.ensures ∙ c.in_default-sizes_of.is);
       fits = tt;
     }
 
@@ -43,7 +42,7 @@ pub pose_lines-requires : goal.pose_lines-requires
 pose_lines-requires c =
     let pre = c.requires in
     let sizes-of = c.sizes_of in
-    let few = body_targets (shape_of c.in-Is-known.kind c.in-Is.p c.in-Is.q c.in-Is.r) _ (sizes-of.ensures ∙ ap seen_sizes c.in-Are.is) in (
+    let few = body_targets (shape_of c.in-Is-known.kind c.in-Is.p c.in-Is.q c.in-Is.r) _ (sizes-of.ensures ∙ c.in-Are.is) in (
       record { generators = pre.0; targets = pre.1; costs = pre.2; few = few },
       pre.3,
       pre.4,
@@ -71,5 +70,5 @@ returns c =
     let sizes-of = c.sizes_of in
     let pose-lines = c.pose_lines in
     file_read args.file.now _ _ _ _ _ c.in-Is.at _ _ _ _ _ pose-lines.result
-    (head-lines.ensures.0 ∙ ap (seen_head args.file.now) c.in-Is.is) (ap seen_kind c.in-Is-known.is)
-    (sizes-of.ensures ∙ ap seen_sizes c.in-Are.is) pose-lines.ensures
+    (head-lines.ensures.0 ∙ ap (seen_head args.file.now) c.in-Is.is) c.in-Is-known.is
+    (sizes-of.ensures ∙ c.in-Are.is) pose-lines.ensures

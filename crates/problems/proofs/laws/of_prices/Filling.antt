@@ -3,9 +3,8 @@
 --   map_made, map_filled        of a map: the costs of its generators are made
 --   none_filled                 of sizes that misfit there are none
 -- Assumes nothing.
-use Rattle.std.specs.Prelude.{◌≡◌, true, false, List, ℕ, length, take}
+use Rattle.std.specs.Prelude.{◌≡◌, true, false, List, ℕ, length, take, None, Some}
 use Rattle.std.proofs.Common.{sym, ap, ◌∙◌}
-use Rattle.std.proofs.Math.Option.{none, some}
 use Rattle.kinds.specs.Kinds.{is_list}
 use Rattle.kinds.specs.Sizes.{sizes}
 use Rattle.kinds.specs.declared.Shape.{Shape}
@@ -24,7 +23,7 @@ module _ (shape : Shape) (costs : List ℕ) (c : ℕ) {v : List ℕ} (A : Prices
     list_filled w e = ap (λ (k : ℕ). take k w) (sym list_count) ∙ e ∙ sym (prices_list shape costs d)
 
   module _ (d : is_list shape.kind ≡ false) where
-    module _ (n m u : ℕ) (s : sizes shape ≡ some (n, m, u)) where
+    module _ (n m u : ℕ) (s : sizes shape ≡ Some (n, m, u)) where
       pub map_made : Made n m c v
       map_made =
           record { count = sym (costs_length n m) ∙ sym (ap length (prices_sized shape costs d s)) ∙ A.each; few = A.few; room = A.room }
@@ -32,7 +31,7 @@ module _ (shape : Shape) (costs : List ℕ) (c : ℕ) {v : List ℕ} (A : Prices
       pub map_filled : (w : List ℕ) → take c w ≡ generator_costs n m → take c w ≡ prices shape costs
       map_filled w e = e ∙ sym (prices_sized shape costs d s)
 
-    pub none_filled : (w : List ℕ) → sizes shape ≡ none → take c w ≡ prices shape costs
+    pub none_filled : (w : List ℕ) → sizes shape ≡ None → take c w ≡ prices shape costs
     none_filled w s =
         let z : 0 ≡ c = sym (ap length (prices_sized shape costs d s)) ∙ A.each in
         ap (λ (k : ℕ). take k w) (sym z) ∙ sym (prices_sized shape costs d s)

@@ -5,10 +5,9 @@
 --   prices_asked, laid_asked   what the writing of the prices asks, of an accepted problem, and of one that is laid
 --   priced_2_laid, priced_kind_laid   of a problem by its kind's number: no such kind, what is said of its kind and sizes
 -- Assumes nothing.
-use Rattle.std.specs.Prelude.{◌≡◌, Bool, true, false, List, [], ℕ, ◌≤◌, length, take}
+use Rattle.std.specs.Prelude.{◌≡◌, Bool, true, false, List, [], ℕ, ◌≤◌, length, take, Option, None, Some}
 use Rattle.std.proofs.Common.{sym, ◌∙◌, subst, arith, length-take-le}
 use Rattle.std.proofs.Math.Path.{ap}
-use Rattle.std.proofs.Math.Option.{Option, none, some}
 use Rattle.kinds.specs.Kinds.{kind_numbered}
 use Rattle.kinds.specs.Limits.{most_generators, cost_bits}
 use Rattle.kinds.specs.Sizes.{shape_of}
@@ -85,9 +84,9 @@ module _ (number p q r : ℕ) (gs ts costs g t v : List ℕ) where
   unfolding priced
   priced_of o e = ap (λ (o : Option Kind). need 2 o λ kd. priced_shape (shape_of kd p q r) gs ts costs) e
 
-  pub priced_2_laid : kind_numbered number ≡ none → PricedLaid (priced number p q r gs ts costs) (reply.Refused 2) g t v
-  priced_2_laid e = record { answer = priced_of none e; room = tt; fit = tt }
+  pub priced_2_laid : kind_numbered number ≡ None → PricedLaid (priced number p q r gs ts costs) (reply.Refused 2) g t v
+  priced_2_laid e = record { answer = priced_of None e; room = tt; fit = tt }
 
-  pub priced_kind_laid : (kd : Kind) (x : Posed) → kind_numbered number ≡ some kd → PricedLaid (priced_shape (shape_of kd p q r) gs ts costs) x g t v
+  pub priced_kind_laid : (kd : Kind) (x : Posed) → kind_numbered number ≡ Some kd → PricedLaid (priced_shape (shape_of kd p q r) gs ts costs) x g t v
       → PricedLaid (priced number p q r gs ts costs) x g t v
-  priced_kind_laid kd x K L = record { answer = priced_of (some kd) K ∙ L.answer; room = L.room; fit = L.fit }
+  priced_kind_laid kd x K L = record { answer = priced_of (Some kd) K ∙ L.answer; room = L.room; fit = L.fit }

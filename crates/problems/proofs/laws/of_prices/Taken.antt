@@ -8,11 +8,10 @@
 --   priced_shape_inv, priced_inv     an accepted problem with prices is such, and has a kind
 --   priced_shape_made                and such a one is accepted
 -- Assumes nothing.
-use Rattle.std.specs.Prelude.{◌≡◌, refl, Bool, true, false, ◌||◌, List, [], length, eqb}
+use Rattle.std.specs.Prelude.{◌≡◌, refl, Bool, true, false, ◌||◌, List, [], length, eqb, Option, Some}
 use Rattle.std.proofs.Common.{sym, ◌∙◌, eqb-true, eq-eqb, ne_eqb}
 use Rattle.std.proofs.Math.Path.{ap}
 use Rattle.std.proofs.Math.Bool.{not, cond}
-use Rattle.std.proofs.Math.Option.{Option, some}
 use Prim.Native.Nat.{ℕ}
 use Rattle.std.proofs.lemmas.Bool.{not-false}
 use Rattle.kinds.specs.Kinds.{kind_numbered, is_list, handed}
@@ -114,7 +113,7 @@ priced_shape_made shape gs ts costs P e h =
     ap (λ (b : Bool). follow (also 5 b (shaped shape gs ts [])) made) h ∙ ap (λ (o : Answer Problem). follow o made) e
 
 pub priced_inv : (number p q r : ℕ) (gs ts costs : List ℕ) (Q : PricedProblem) → priced number p q r gs ts costs ≡ accepted Q
-    → (kd : Kind) × (kind_numbered number ≡ some kd) × PricedShape (shape_of kd p q r) gs ts costs Q
+    → (kd : Kind) × (kind_numbered number ≡ Some kd) × PricedShape (shape_of kd p q r) gs ts costs Q
 unfolding priced
 priced_inv number p q r gs ts costs Q e =
     let N = need_inv 2 (kind_numbered number) (λ kd. priced_shape (shape_of kd p q r) gs ts costs) Q e in

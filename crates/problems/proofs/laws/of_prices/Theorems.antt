@@ -9,10 +9,9 @@
 --   priced_list     of kind list
 --   priced_taken    and it is accepted wherever its problem is and the costs are
 -- Assumes nothing.
-use Rattle.std.specs.Prelude.{◌≡◌, false, true, List, [], ℕ, ◌<◌, length, get_or}
+use Rattle.std.specs.Prelude.{◌≡◌, false, true, List, [], ℕ, ◌<◌, length, get_or, Option, Some}
 use Rattle.std.proofs.Common.{sym, ◌∙◌, subst}
 use Rattle.std.proofs.Math.Path.{ap}
-use Rattle.std.proofs.Math.Option.{Option, some}
 use Rattle.kinds.specs.Kinds.{kind_numbered, is_list}
 use Rattle.kinds.specs.Limits.{cost_bits}
 use Rattle.kinds.specs.Sizes.{shape_of, sizes}
@@ -31,7 +30,7 @@ pub record PricedMap (shape : Shape) (costs : List ℕ) (Q : PricedProblem) : Ty
   pub n : ℕ
   pub m : ℕ
   pub u : ℕ
-  pub sized : sizes shape ≡ some (n, m, u)
+  pub sized : sizes shape ≡ Some (n, m, u)
   pub no_costs : length costs ≡ 0
   pub cost : (j : ℕ) → j < length Q.problem.generators → get_or Q.prices j 0 ≡ generator_cost m j
 
@@ -71,10 +70,10 @@ module _ (shape : Shape) (gs ts costs : List ℕ) (Q : PricedProblem) (S : Price
 
 -- ---- the kind by its number
 module _ (p q r : ℕ) (gs ts costs : List ℕ) (Q : PricedProblem) (number : ℕ) (e : priced number p q r gs ts costs ≡ accepted Q) where
-  abbrev N : (kd : Kind) × (kind_numbered number ≡ some kd) × PricedShape (shape_of kd p q r) gs ts costs Q
+  abbrev N : (kd : Kind) × (kind_numbered number ≡ Some kd) × PricedShape (shape_of kd p q r) gs ts costs Q
   N = priced_inv number p q r gs ts costs Q e
 
-  pub priced_shape_law : (kd : Kind) → kind_numbered number ≡ some kd → PricedShape (shape_of kd p q r) gs ts costs Q
+  pub priced_shape_law : (kd : Kind) → kind_numbered number ≡ Some kd → PricedShape (shape_of kd p q r) gs ts costs Q
   priced_shape_law kd a =
       let k : N.0 ≡ kd = (let b = N.1 in cc) in
       subst (λ (x : Kind). PricedShape (shape_of x p q r) gs ts costs Q) k N.2
@@ -89,13 +88,13 @@ module _ (p q r : ℕ) (gs ts costs : List ℕ) (Q : PricedProblem) (number : �
   pub priced_narrow : wide cost_bits Q.prices ≡ false
   priced_narrow = narrow (shape_of N.0 p q r) gs ts costs Q N.2
 
-  pub priced_map : (kd : Kind) → kind_numbered number ≡ some kd → is_list kd ≡ false → PricedMap (shape_of kd p q r) costs Q
+  pub priced_map : (kd : Kind) → kind_numbered number ≡ Some kd → is_list kd ≡ false → PricedMap (shape_of kd p q r) costs Q
   priced_map kd a d = map (shape_of kd p q r) gs ts costs Q (priced_shape_law kd a) d
 
-  pub priced_list : (kd : Kind) → kind_numbered number ≡ some kd → is_list kd ≡ true → PricedList q costs Q
+  pub priced_list : (kd : Kind) → kind_numbered number ≡ Some kd → is_list kd ≡ true → PricedList q costs Q
   priced_list kd a d = list (shape_of kd p q r) gs ts costs Q (priced_shape_law kd a) d
 
-pub priced_taken : (number p q r : ℕ) (gs ts costs : List ℕ) (P : Problem) (kd : Kind) → kind_numbered number ≡ some kd
+pub priced_taken : (number p q r : ℕ) (gs ts costs : List ℕ) (P : Problem) (kd : Kind) → kind_numbered number ≡ Some kd
     → posed number p q r gs ts [] ≡ accepted P → unpriced (shape_of kd p q r) costs ≡ false
     → priced number p q r gs ts costs ≡ accepted (priced_problem P (prices (shape_of kd p q r) costs))
 unfolding priced

@@ -5,12 +5,11 @@
 --   too_short, finished                                        what `finish` says
 --   asking, finishing, says_formula, says_above, says_beyond, missed_is   what `rank_of` asks and says
 -- Assumes nothing.
-use Rattle.std.specs.Prelude.{◌≡◌, refl, Bool, true, false, length, take, drop}
+use Rattle.std.specs.Prelude.{◌≡◌, refl, Bool, true, false, length, take, drop, Option, None, Some}
 use Rattle.std.proofs.Math.Path.{sym, ap}
 use Rattle.std.proofs.Common.{◌∙◌, subst, length-append, length-take, length-drop, lt-ltb, le-ltb}
 use Rattle.std.proofs.Math.Bool.{not}
 use mathlib.Core.List.{List, [], ◌∷◌, map}
-use Rattle.std.proofs.Math.Option.{Option, none, some}
 use Prim.Native.Nat.{ℕ, suc, ◌+◌, ◌-◌, ◌<◌, ◌≤◌}
 use native.Mathlib.Omega.{arith}
 use Rattle.std.proofs.lemmas.List.{length-map}
@@ -163,7 +162,7 @@ rising_below lo hi (e ∷ es) r = (r.1, rising_below (suc e) hi es r.2)
 
 module _ (gens targets prices : List ℕ) (all : missed word gens targets ≡ false) where
   pub finishing : (numbers : List ℕ) → length gens ≤ most_generators → length numbers ≤ most_products
-      → least_from word gens targets prices 7 (dim word targets) ≡ some numbers → Finishing gens targets numbers
+      → least_from word gens targets prices 7 (dim word targets) ≡ Some numbers → Finishing gens targets numbers
   finishing numbers s f e =
       let R = fewest_formula word gens targets prices numbers (fewest_some word gens targets prices numbers all e) in
       record {
@@ -173,11 +172,11 @@ module _ (gens targets prices : List ℕ) (all : missed word gens targets ≡ fa
         solves = record { independent = R.independent; computes = R.computes };
       }
 
-  pub says_formula : (old numbers : List ℕ) → least_from word gens targets prices 7 (dim word targets) ≡ some numbers
+  pub says_formula : (old numbers : List ℕ) → least_from word gens targets prices 7 (dim word targets) ≡ Some numbers
       → ranking gens targets prices old ≡ written gens targets old (formula numbers)
   says_formula old numbers e = unfold ranking in ap (written gens targets old) (fewest_some word gens targets prices numbers all e)
 
-  pub says_above : (old : List ℕ) → least_from word gens targets prices 7 (dim word targets) ≡ none → ranking gens targets prices old ≡ accepted above
+  pub says_above : (old : List ℕ) → least_from word gens targets prices 7 (dim word targets) ≡ None → ranking gens targets prices old ≡ accepted above
   says_above old e = unfold ranking in ap (written gens targets old) (fewest_none word gens targets prices all e)
 
 pub says_beyond : (gens targets prices old : List ℕ) → missed word gens targets ≡ true → ranking gens targets prices old ≡ accepted beyond
@@ -198,8 +197,8 @@ module _ (k : ℕ) (buffer numbers : List ℕ) (l : length buffer ≡ formula_ro
   pub few_held : length numbers ≤ most_products
   few_held = omega (arith, l, ap length is_held, length-take k (drop 1 buffer), length-drop 1 buffer)
 
-  pub numbers_held : {o : Option (List ℕ)} → o ≡ some (take k (drop 1 buffer)) → o ≡ some numbers
-  numbers_held f = f ∙ ap (λ (x : List ℕ). some x) (sym is_held)
+  pub numbers_held : {o : Option (List ℕ)} → o ≡ Some (take k (drop 1 buffer)) → o ≡ Some numbers
+  numbers_held f = f ∙ ap (λ (x : List ℕ). Some x) (sym is_held)
 
 -- what `least_formula` said, by its answer
 pub found_as : (gens targets prices : List ℕ) (b : Basis) (r s : Answered) (buffer : List ℕ) → Holds (basis_of word targets) b

@@ -1,9 +1,8 @@
 -- The text of a formula is read back.
 --   file_back   the whole text, but for what 6 to 9 judge
 -- Assumes nothing.
-use Rattle.std.specs.Prelude.{ℕ, ◌^◌, ◌≡◌, Bool, cond, length}
+use Rattle.std.specs.Prelude.{ℕ, ◌^◌, ◌≡◌, Bool, cond, length, None, Some}
 use Rattle.std.proofs.Common.{ap, ◌∙◌, arith}
-use Rattle.std.proofs.Math.Option.{none, some}
 use Rattle.kinds.specs.laws.Sizes.{map_few}
 use Rattle.words.specs.laws.Masks.{AllBelow}
 use Rattle.formula_text.specs.HeadText.{file_head}
@@ -29,7 +28,7 @@ file_back f la lb lr S hx hy hz =
     let q = f.shape.q in
     let r = f.shape.r in
     let F = map_few f.shape (f.n, f.m, length f.rows) S.not_list S.fits in
-    file_rest (file_head f.shape k t) la lb lr (record { kind = some kd; p = p; q = q; r = r; k = k }) t
+    file_rest (file_head f.shape k t) la lb lr (record { kind = Some kd; p = p; q = q; r = r; k = k }) t
     (head_back f.shape k t (omega (arith, F.first)) (omega (arith, F.second)) (omega (arith, F.third)) (omega (arith, S.few)))
-    ∙ rest_judged (some kd) p q r k t la lb lr kd (ap (λ (b : Bool). cond b none (some kd)) S.not_list) f.n f.m (length f.rows)
+    ∙ rest_judged (Some kd) p q r k t la lb lr kd (ap (λ (b : Bool). cond b None (Some kd)) S.not_list) f.n f.m (length f.rows)
     f.firsts f.seconds f.rows S.fits (body_back f.firsts f.seconds f.rows S.paired hx hy hz)

@@ -4,12 +4,11 @@
 --   field_back, name_back, head_back   a printed field, a fixed line and the first two lines
 -- Assumes nothing.
 use Prim.Native.Nat.{ℕ, zero, suc, ◌+◌, ◌/◌, ◌%◌, ◌^◌, ◌<◌, ◌≤◌}
-use Rattle.std.specs.Prelude.{◌≡◌, Bool, cond, get_or, ltb}
+use Rattle.std.specs.Prelude.{◌≡◌, Bool, cond, get_or, ltb, Option, Some}
 use Rattle.std.proofs.Math.Path.{refl}
 use Rattle.std.proofs.Common.{ap, ◌∙◌, eq-eqb, ne_eqb, ltb-true, ltb-false}
 use mathlib.Core.List.{List, [], ◌∷◌, ◌++◌}
 use Rattle.std.proofs.Math.Bool.{true, false}
-use Rattle.std.proofs.Math.Option.{Option, some}
 use native.Mathlib.Omega.{arith}
 use Rattle.std.proofs.Math.Nat.{pow-zero}
 use Rattle.std.proofs.Math.ListN.{length, length-append, get_or-append}
@@ -69,10 +68,10 @@ module _ (base : ℕ) (two : 2 ≤ base) (sixteen : base ≤ 16) where
       go false ih = omega (arith, length-append (numeral_text base f (n / base)) (digit_byte (n % base) ∷ []))
 
   -- a printed numeral reads as the number
-  pub numeral_back : (f n : ℕ) → n < base ^ suc f → numeral base (suc f) (numeral_text base (suc f) n) ≡ some n
+  pub numeral_back : (f n : ℕ) → n < base ^ suc f → numeral base (suc f) (numeral_text base (suc f) n) ≡ Some n
   numeral_back f n h = go (ltb n base) refl
     where
-      go : (t : Bool) → ltb n base ≡ t → numeral base (suc f) (numeral_text base (suc f) n) ≡ some n
+      go : (t : Bool) → ltb n base ≡ t → numeral base (suc f) (numeral_text base (suc f) n) ≡ Some n
       go true e =
           let p = printed_one base f n (ltb-true n base e) in
           let l : length (numeral_text base (suc f) n) ≡ 1 = rw p in
@@ -89,10 +88,10 @@ module _ (base : ℕ) (two : 2 ≤ base) (sixteen : base ≤ 16) where
           ∙ digits_back base two sixteen (suc f) n h
 
 -- counts and masks
-pub count_back : (n : ℕ) → n < 10000 → count (count_text n) ≡ some n
+pub count_back : (n : ℕ) → n < 10000 → count (count_text n) ≡ Some n
 count_back n h = numeral_back 10 (omega arith) (omega arith) 3 n h
 
-pub mask_back : (n : ℕ) → n < 2 ^ 64 → mask (mask_text n) ≡ some n
+pub mask_back : (n : ℕ) → n < 2 ^ 64 → mask (mask_text n) ≡ Some n
 mask_back n h = numeral_back 16 (omega arith) (omega arith) 15 n h
 
 -- ---- cutting
@@ -105,7 +104,7 @@ pub free_append : (c : ℕ) (s t : List ℕ) → Free c s → Free c t → Free 
 free_append c [] t h g = g
 free_append c (b ∷ s) t h g = (h.0, free_append c s t h.1 g)
 
-pub cut_first : (c : ℕ) (s t : List ℕ) → Free c s → cut c (s ++ (c ∷ t)) ≡ some (s, t)
+pub cut_first : (c : ℕ) (s t : List ℕ) → Free c s → cut c (s ++ (c ∷ t)) ≡ Some (s, t)
 unfolding cut
 cut_first c [] t h = rw (eq-eqb c c refl)
 cut_first c (b ∷ s) t h = rw (ne_eqb b c h.0, cut_first c s t h.1)
@@ -128,20 +127,20 @@ printed_free c base (suc f) n h = go (ltb n base) (printed_free c base f (n / ba
     go false ih = free_append c (numeral_text base f (n / base)) (digit_byte (n % base) ∷ []) ih (digit_free c (n % base) h, tt)
 
 -- ---- fixed lines
-pub name_back : (n t : List ℕ) → Free LF n → name_line n (n ++ (LF ∷ t)) ≡ some t
+pub name_back : (n t : List ℕ) → Free LF n → name_line n (n ++ (LF ∷ t)) ≡ Some t
 name_back n t f = name_is n (n ++ (LF ∷ t)) n t (cut_first LF n t f) (same_self n)
 
 -- ---- fields
-pub field_back : (base most c n : ℕ) (t : List ℕ) → c < 48 → numeral base most (numeral_text base most n) ≡ some n
-    → field base most c (numeral_text base most n ++ (c ∷ t)) ≡ some (n, t)
+pub field_back : (base most c n : ℕ) (t : List ℕ) → c < 48 → numeral base most (numeral_text base most n) ≡ Some n
+    → field base most c (numeral_text base most n ++ (c ∷ t)) ≡ Some (n, t)
 field_back base most c n t l h =
     field_is base most c (numeral_text base most n ++ (c ∷ t)) (numeral_text base most n) t n
     (cut_first c (numeral_text base most n) t (printed_free c base most n l)) h
 
-fields_back : (p q r k : ℕ) → p < 10000 → q < 10000 → r < 10000 → k < 10000 → count_fields (fields_text p q r k) ≡ some (p, q, r, k)
+fields_back : (p q r k : ℕ) → p < 10000 → q < 10000 → r < 10000 → k < 10000 → count_fields (fields_text p q r k) ≡ Some (p, q, r, k)
 unfolding fields_text
 fields_back p q r k hp hq hr hk =
-    fields_is _ _ _ _ p q r (some k)
+    fields_is _ _ _ _ p q r (Some k)
     (field_back 10 4 comma p (count_text q ++ (comma ∷ (count_text r ++ (comma ∷ count_text k)))) (omega arith) (count_back p hp))
     (field_back 10 4 comma q (count_text r ++ (comma ∷ count_text k)) (omega arith) (count_back q hq))
     (field_back 10 4 comma r (count_text k) (omega arith) (count_back r hr))
@@ -167,7 +166,7 @@ name_free : (c : ℕ) (kind : Kind) → c < 97 → Free c (name_of kind)
 name_free c kind h = plain_free c (name_of kind) h (name_plain kind)
 
 pub head_back : (shape : Shape) (k : ℕ) (t : List ℕ) → shape.p < 10000 → shape.q < 10000 → shape.r < 10000 → k < 10000
-    → head_lines (file_head shape k t) ≡ some (record { kind = some shape.kind; p = shape.p; q = shape.q; r = shape.r; k = k }, t)
+    → head_lines (file_head shape k t) ≡ Some (record { kind = Some shape.kind; p = shape.p; q = shape.q; r = shape.r; k = k }, t)
 unfolding file_head
 head_back shape k t hp hq hr hk =
     let name = name_of shape.kind in
@@ -179,4 +178,4 @@ head_back shape k t hp hq hr hk =
     (free_append LF name (comma ∷ fields) (name_free LF shape.kind (omega arith)) ((λ e. omega arith), fields_free shape.p shape.q shape.r k)))
     (cut_first comma name fields (name_free comma shape.kind (omega arith)))
     (fields_back shape.p shape.q shape.r k hp hq hr hk)
-    ∙ ap (λ (o : Option Kind). some (record { kind = o; p = shape.p; q = shape.q; r = shape.r; k = k }, t)) (kind_named_law shape.kind)
+    ∙ ap (λ (o : Option Kind). Some (record { kind = o; p = shape.p; q = shape.q; r = shape.r; k = k }, t)) (kind_named_law shape.kind)

@@ -2,12 +2,11 @@
 --   byte_back   the byte of a digit's worth is that digit
 --   unique      no leading zero, so each number has one numeral
 -- Assumes nothing.
-use Rattle.std.specs.Prelude.{ℕ, zero, suc, ◌+◌, ◌-◌, ◌*◌, ◌/◌, ◌%◌, ◌<◌, ◌≤◌, ◌⊎◌, Bool, ◌&&◌, length, get_or, leb}
+use Rattle.std.specs.Prelude.{ℕ, zero, suc, ◌+◌, ◌-◌, ◌*◌, ◌/◌, ◌%◌, ◌<◌, ◌≤◌, ◌⊎◌, Bool, ◌&&◌, length, get_or, leb, Option, None, Some}
 use Rattle.std.proofs.Math.Path.{◌≡◌, refl, ap}
 use Rattle.std.proofs.Common.{sym, ◌∙◌, inl, inr, zero-mul, one-mul, mul-le-mul_right, mod-eq_of_lt, add_comm, length-append}
 use mathlib.Core.List.{List, [], ◌∷◌, ◌++◌}
 use Rattle.std.proofs.Math.Bool.{true, false, cond}
-use Rattle.std.proofs.Math.Option.{Option, none, some}
 use native.Mathlib.Omega.{arith}
 use Rattle.std.proofs.Math.Nat.{mul-le-mul_left, mul-one, add-mul-div_right, add-mul-mod_self_right, div-eq_of_lt}
 use Rattle.std.proofs.Math.Dec.{ltb}
@@ -47,30 +46,30 @@ snoc (x ∷ s) = go (snoc s)
     go (inr t) = inr (x ∷ t.0, t.1, ap (λ (u : List ℕ). x ∷ u) t.2)
 
 module _ (base : ℕ) (two : 2 ≤ base) (sixteen : base ≤ 16) where
-  rises : (v : ℕ) (s : List ℕ) (n : ℕ) → digits base v s ≡ some n → v ≤ n
+  rises : (v : ℕ) (s : List ℕ) (n : ℕ) → digits base v s ≡ Some n → v ≤ n
   unfolding digits
   rises v [] n e = let g : v ≡ n = cc in omega arith
   rises v (b ∷ s) n e = go (ltb (digit b) base) (rises (v * base + digit b) s n) e
     where
-      go : (t : Bool) → (digits base (v * base + digit b) s ≡ some n → v * base + digit b ≤ n) → cond t (digits base (v * base + digit b) s) none ≡ some n → v ≤ n
+      go : (t : Bool) → (digits base (v * base + digit b) s ≡ Some n → v * base + digit b ≤ n) → cond t (digits base (v * base + digit b) s) None ≡ Some n → v ≤ n
       go true ih f = omega (arith, ih f, mul-le-mul_left v two, mul-le-mul_left {m = 1} {n = base} v (omega arith), mul-one v)
       go false ih f = absurd (let q : ◌≡◌ {A = ℕ} 0 1 = cc in omega arith)
 
-  last : (v b n : ℕ) → digits base v (b ∷ []) ≡ some n → (digit b < base) × (v * base + digit b ≡ n)
+  last : (v b n : ℕ) → digits base v (b ∷ []) ≡ Some n → (digit b < base) × (v * base + digit b ≡ n)
   unfolding digits
   last v b n e = go (ltb (digit b) base) refl e
     where
-      go : (t : Bool) → ltb (digit b) base ≡ t → cond t (some (v * base + digit b)) none ≡ some n → (digit b < base) × (v * base + digit b ≡ n)
+      go : (t : Bool) → ltb (digit b) base ≡ t → cond t (Some (v * base + digit b)) None ≡ Some n → (digit b < base) × (v * base + digit b ≡ n)
       go true h f = (ltb-true (digit b) base h, cc)
       go false h f = absurd (let q : ◌≡◌ {A = ℕ} 0 1 = cc in omega arith)
 
   -- a numeral that does not begin with `0` is no zero
-  positive : (s : List ℕ) (n : ℕ) → 0 < length s → (get_or s 0 0 ≡ 48 → ⊥) → digits base 0 s ≡ some n → 0 < n
+  positive : (s : List ℕ) (n : ℕ) → 0 < length s → (get_or s 0 0 ≡ 48 → ⊥) → digits base 0 s ≡ Some n → 0 < n
   unfolding digits
   positive [] n l f e = absurd (omega arith)
   positive (b ∷ s) n l f e = go (ltb (digit b) base) refl e
     where
-      go : (t : Bool) → ltb (digit b) base ≡ t → cond t (digits base (0 * base + digit b) s) none ≡ some n → 0 < n
+      go : (t : Bool) → ltb (digit b) base ≡ t → cond t (digits base (0 * base + digit b) s) None ≡ Some n → 0 < n
       go true h g =
           let d = ltb-true (digit b) base h in
           let r = rises (0 * base + digit b) s n g in
@@ -84,26 +83,26 @@ module _ (base : ℕ) (two : 2 ≤ base) (sixteen : base ≤ 16) where
   remainder : (u d : ℕ) → d < base → (u * base + d) % base ≡ d
   remainder u d h = ap (λ (x : ℕ). x % base) (add_comm (u * base) d) ∙ add-mul-mod_self_right d u base ∙ mod-eq_of_lt h
 
-  nothing : (u : ℕ) → digits base 0 [] ≡ some u → 0 ≡ u
+  nothing : (u : ℕ) → digits base 0 [] ≡ Some u → 0 ≡ u
   unfolding digits
   nothing u e = cc
 
-  pub unique : (f : ℕ) (s : List ℕ) (n : ℕ) → 0 < length s → length s ≤ f → (1 < length s → get_or s 0 0 ≡ 48 → ⊥) → digits base 0 s ≡ some n → numeral_text base f n ≡ s
+  pub unique : (f : ℕ) (s : List ℕ) (n : ℕ) → 0 < length s → length s ≤ f → (1 < length s → get_or s 0 0 ≡ 48 → ⊥) → digits base 0 s ≡ Some n → numeral_text base f n ≡ s
   unique zero s n l g z e = absurd (omega arith)
   unique (suc f) s n l g z e = view (snoc s) (unique f)
     where
       IH : Type 0
-      IH = (s : List ℕ) (n : ℕ) → 0 < length s → length s ≤ f → (1 < length s → get_or s 0 0 ≡ 48 → ⊥) → digits base 0 s ≡ some n → numeral_text base f n ≡ s
+      IH = (s : List ℕ) (n : ℕ) → 0 < length s → length s ≤ f → (1 < length s → get_or s 0 0 ≡ 48 → ⊥) → digits base 0 s ≡ Some n → numeral_text base f n ≡ s
 
       -- i, then the last digit b
-      part : (i : List ℕ) (b : ℕ) → s ≡ i ++ (b ∷ []) → (o : Option ℕ) → digits base 0 i ≡ o → (o >>= λ u. digits base u (b ∷ [])) ≡ some n → IH → numeral_text base (suc f) n ≡ i ++ (b ∷ [])
-      part i b h none d q ih = absurd (let q : ◌≡◌ {A = ℕ} 0 1 = cc in omega arith)
-      part [] b h (some u) d q ih =
+      part : (i : List ℕ) (b : ℕ) → s ≡ i ++ (b ∷ []) → (o : Option ℕ) → digits base 0 i ≡ o → (o >>= λ u. digits base u (b ∷ [])) ≡ Some n → IH → numeral_text base (suc f) n ≡ i ++ (b ∷ [])
+      part i b h None d q ih = absurd (let q : ◌≡◌ {A = ℕ} 0 1 = cc in omega arith)
+      part [] b h (Some u) d q ih =
           let t = last u b n q in
           let w : 0 ≡ u = nothing u d in
           let m : digit b ≡ n = omega (arith, t, zero-mul base, ap (λ (x : ℕ). x * base) w) in
           printed_one base f n (omega (arith, t)) ∙ ap (λ (x : ℕ). x ∷ []) (ap digit_byte (sym m) ∙ byte_back b (omega (arith, t)))
-      part (x ∷ i) b h (some u) d q ih =
+      part (x ∷ i) b h (Some u) d q ih =
           let t = last u b n q in
           let k : length s ≡ suc (length i) + 1 = ap length h ∙ length-append (x ∷ i) (b ∷ []) in
           let first : get_or s 0 0 ≡ x = ap (λ (r : List ℕ). get_or r 0 0) h in

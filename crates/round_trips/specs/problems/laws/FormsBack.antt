@@ -2,9 +2,8 @@
 --   Forms shape gs ts cs == its sizes, its counts, and that its lines give its forms and costs
 --   forms_of_law             every problem that is not refused as numbers has them, where a list has a cost of 16 bits for each generator
 -- Assumes nothing.
-use Rattle.std.specs.Prelude.{ℕ, ◌≤◌, ◌<◌, ◌≡◌, refl, List, [], ◌∷◌, Bool, true, false, cond, length, leb}
+use Rattle.std.specs.Prelude.{ℕ, ◌≤◌, ◌<◌, ◌≡◌, refl, List, [], ◌∷◌, Bool, true, false, cond, length, leb, Some}
 use Rattle.std.proofs.Common.{sym, ap, ◌∙◌, arith, le-leb}
-use Rattle.std.proofs.Math.Option.{some}
 use Rattle.kinds.specs.declared.Shape.{Shape}
 use Rattle.kinds.specs.Kinds.{is_list}
 use Rattle.kinds.specs.Sizes.{sizes}
@@ -26,7 +25,7 @@ use Rattle.kinds.specs.Limits.{most_generators, cost_bits}
 
 pub record Forms (shape : Shape) (gs ts cs : List ℕ) : Type 0 where
   pub z : ℕ × ℕ × ℕ
-  pub sized : sizes shape ≡ some z
+  pub sized : sizes shape ≡ Some z
   pub first : shape.p < 10000
   pub second : shape.q < 10000
   pub third : shape.r < 10000
@@ -36,7 +35,7 @@ empty : (xs : List ℕ) → length xs ≡ 0 → xs ≡ []
 empty [] e = refl
 empty (x ∷ xs) e = absurd (omega arith)
 
-counted : (n m : ℕ) → generator_count n m ≤ most_generators → count_of n m ≡ some (generator_count n m)
+counted : (n m : ℕ) → generator_count n m ≤ most_generators → count_of n m ≡ Some (generator_count n m)
 unfolding count_of
 counted n m h = given_yes (leb (generator_count n m) most_generators) (generator_count n m) (le-leb (generator_count n m) most_generators h)
 
@@ -64,7 +63,7 @@ list_lines_law p q r gs ts cs P h T c w =
     let back = list_back gs ts cs (T.generators ∙ sym c) (wide_words p gs h T.generators_fit) (wide_words p ts h T.targets_fit) w in
     list_taken q r (list_text gs ts cs) gs ts cs true T.few (rw (T.generators, T.targets) at back) refl
 
-of_list : (shape : Shape) (gs ts cs : List ℕ) (P : Problem) (z : ℕ × ℕ × ℕ) → is_list shape.kind ≡ true → sizes shape ≡ some z
+of_list : (shape : Shape) (gs ts cs : List ℕ) (P : Problem) (z : ℕ × ℕ × ℕ) → is_list shape.kind ≡ true → sizes shape ≡ Some z
     → ListTaken shape.p shape.q shape.r gs ts [] P → length cs ≡ shape.q → wide cost_bits cs ≡ false → Forms shape gs ts cs
 of_list shape gs ts cs P z f s T c w =
     let b : shape.p ≤ 64 = (let e = list_bits shape z f s in let m = (sizes_bounds shape z s).fits.first_most in omega arith) in

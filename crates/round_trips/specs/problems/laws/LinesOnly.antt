@@ -2,9 +2,8 @@
 --   list_only   the lines of a list
 --   body_only   the lines under the first two, by the kind
 -- Assumes nothing.
-use Rattle.std.specs.Prelude.{ℕ, zero, suc, ◌≡◌, refl, List, [], ◌∷◌, ◌++◌, Bool, true, false, not, cond, length, replicate, ltb}
+use Rattle.std.specs.Prelude.{ℕ, zero, suc, ◌≡◌, refl, List, [], ◌∷◌, ◌++◌, Bool, true, false, not, cond, length, replicate, ltb, Some}
 use Rattle.std.proofs.Common.{sym, ap, ap₂, ◌∙◌, arith}
-use Rattle.std.proofs.Math.Option.{some}
 use Rattle.kinds.specs.declared.Shape.{Shape}
 use Rattle.kinds.specs.Refusal.{Answer, accepted, need, refuse}
 use Rattle.kinds.specs.laws.Refusal.{accepted_inj, need_inv, refuse_inv}
@@ -28,17 +27,17 @@ use Rattle.kinds.specs.Limits.{most_generators, most_cost}
 abbrev lines_with : (ℕ × ℕ) × List ℕ → List ℕ
 lines_with l = mask_text l.0.0 ++ (comma ∷ (cost_text l.0.1 ++ (LF ∷ l.1)))
 
-form_only : (most : ℕ) (s : List ℕ) (l : (ℕ × ℕ) × List ℕ) → form_and_cost most s ≡ some l → s ≡ lines_with l
+form_only : (most : ℕ) (s : List ℕ) (l : (ℕ × ℕ) × List ℕ) → form_and_cost most s ≡ Some l → s ≡ lines_with l
 form_only most s l e =
     let F = form_inv most s l e in
     field_only 16 16 comma s F.form (omega arith) (omega arith) F.first
     ∙ ap (λ (w : List ℕ). mask_text F.form.0 ++ (comma ∷ w)) (field_only 10 5 LF F.form.1 F.cost (omega arith) (omega arith) F.second)
     ∙ ap lines_with F.is
 
-role_only : (c most : ℕ) (s : List ℕ) (l : (ℕ × ℕ) × List ℕ) → role_line c most s ≡ some l → s ≡ c ∷ comma ∷ lines_with l
+role_only : (c most : ℕ) (s : List ℕ) (l : (ℕ × ℕ) × List ℕ) → role_line c most s ≡ Some l → s ≡ c ∷ comma ∷ lines_with l
 role_only c most s l e = let R = role_inv c most s l e in R.1 ∙ ap (λ (w : List ℕ). c ∷ comma ∷ w) (form_only most R.0 l R.2)
 
-roles_only : (c most n : ℕ) (s : List ℕ) (l : (List ℕ × List ℕ) × List ℕ) → role_lines c most n s ≡ some l → s ≡ roles_text c l.0.0 l.0.1 l.1
+roles_only : (c most n : ℕ) (s : List ℕ) (l : (List ℕ × List ℕ) × List ℕ) → role_lines c most n s ≡ Some l → s ≡ roles_text c l.0.0 l.0.1 l.1
 unfolding role_lines roles_text
 roles_only c most zero s l e =
     ap (λ (w : (List ℕ × List ℕ) × List ℕ). roles_text c w.0.0 w.0.1 w.1) (inj (([], []), s) l e)
@@ -62,14 +61,14 @@ none_else (suc n) (y ∷ ys) e h =
     let z : y ≡ 0 = (let l = h.0 in omega arith) in
     ap₂ (λ (a : ℕ) (l : List ℕ). a ∷ l) z (none_else n ys (omega arith) h.1)
 
-targets_only : (r : ℕ) (s : List ℕ) (l : (List ℕ × List ℕ) × List ℕ) → role_lines target_role target_cost r s ≡ some l → ended l.1 ≡ true
+targets_only : (r : ℕ) (s : List ℕ) (l : (List ℕ × List ℕ) × List ℕ) → role_lines target_role target_cost r s ≡ Some l → ended l.1 ≡ true
     → s ≡ roles_text target_role l.0.0 (zeros l.0.0) []
 targets_only r s l e h =
     let C = roles_costs target_role target_cost r s l e in
     roles_only target_role target_cost r s l e
     ∙ ap₂ (roles_text target_role l.0.0) (none_else (length l.0.0) l.0.1 (C.costs ∙ sym C.forms) C.small) (ended_only l.1 h)
 
-pub list_only : (q r : ℕ) (s : List ℕ) (f : List ℕ × List ℕ × List ℕ) → list_body q r s ≡ some f → s ≡ list_text f.0 f.1 f.2
+pub list_only : (q r : ℕ) (s : List ℕ) (f : List ℕ × List ℕ × List ℕ) → list_body q r s ≡ Some f → s ≡ list_text f.0 f.1 f.2
 unfolding list_text
 list_only q r s f e =
     let R = list_inv q r s f e in
@@ -87,7 +86,7 @@ unfolding list_lines
 lines_only q r s f e =
     let a = refuse_inv 4 (ltb most_generators q) (need 5 (list_body q r s) accepted) f e in
     let b = need_inv 5 (list_body q r s) accepted f a.1 in
-    list_only q r s f (b.1 ∙ ap some (accepted_inj b.0 f b.2))
+    list_only q r s f (b.1 ∙ ap Some (accepted_inj b.0 f b.2))
 
 none_only : (n m : ℕ) (s : List ℕ) (f : List ℕ × List ℕ × List ℕ) → map_lines n m s ≡ accepted f → s ≡ []
 unfolding map_lines

@@ -2,11 +2,10 @@
 --   roles_back   the lines of a role
 --   list_back    all lines under the first two
 -- Assumes nothing.
-use Rattle.std.specs.Prelude.{ℕ, zero, suc, ◌^◌, ◌<◌, ◌≤◌, ◌≡◌, true, false, length, replicate}
+use Rattle.std.specs.Prelude.{ℕ, zero, suc, ◌^◌, ◌<◌, ◌≤◌, ◌≡◌, true, false, length, replicate, Some}
 use Rattle.std.proofs.Math.Path.{refl}
 use Rattle.std.proofs.Common.{sym, ◌∙◌, arith}
 use mathlib.Core.List.{List, [], ◌∷◌, ◌++◌}
-use Rattle.std.proofs.Math.Option.{some}
 use Rattle.std.proofs.lemmas.List.{length-replicate}
 use Rattle.kinds.specs.Limits.{most_cost, cost_bits}
 use Rattle.words.specs.Buffers.{zeros}
@@ -23,7 +22,7 @@ use Rattle.round_trips.specs.problems.ProblemText.{cost_text, roles_text, list_t
 
 module _ (c most : ℕ) (few : most ≤ most_cost) where
   role_back : (x y : ℕ) (t : List ℕ) → x < 2 ^ 64 → y ≤ most
-      → role_line c most (c ∷ comma ∷ (mask_text x ++ (comma ∷ (cost_text y ++ (LF ∷ t))))) ≡ some ((x, y), t)
+      → role_line c most (c ∷ comma ∷ (mask_text x ++ (comma ∷ (cost_text y ++ (LF ∷ t))))) ≡ Some ((x, y), t)
   role_back x y t h l =
       role_is c most (c ∷ comma ∷ (mask_text x ++ (comma ∷ (cost_text y ++ (LF ∷ t))))) (omega arith) refl refl
       ∙ form_is most (mask_text x ++ (comma ∷ (cost_text y ++ (LF ∷ t)))) x y (cost_text y ++ (LF ∷ t)) t
@@ -31,7 +30,7 @@ module _ (c most : ℕ) (few : most ≤ most_cost) where
       (field_back 10 5 LF y t (omega arith) (numeral_back 10 (omega arith) (omega arith) 4 y (omega arith))) l
 
   roles_back : (xs ys t : List ℕ) → length xs ≡ length ys → AllBelow (2 ^ 64) xs → AllBelow (suc most) ys
-      → role_lines c most (length xs) (roles_text c xs ys t) ≡ some ((xs, ys), t)
+      → role_lines c most (length xs) (roles_text c xs ys t) ≡ Some ((xs, ys), t)
   unfolding role_lines roles_text
   roles_back [] [] t e h l = refl
   roles_back [] (y ∷ ys) t e h l = absurd (omega arith)
@@ -48,7 +47,7 @@ no_costs zero = tt
 no_costs (suc n) = (omega arith, no_costs n)
 
 pub list_back : (gs ts cs : List ℕ) → length gs ≡ length cs → AllBelow (2 ^ 64) gs → AllBelow (2 ^ 64) ts → wide cost_bits cs ≡ false
-    → list_body (length gs) (length ts) (list_text gs ts cs) ≡ some (gs, ts, cs)
+    → list_body (length gs) (length ts) (list_text gs ts cs) ≡ Some (gs, ts, cs)
 unfolding list_text
 list_back gs ts cs e hg ht hc =
     let t = roles_text target_role ts (zeros ts) [] in

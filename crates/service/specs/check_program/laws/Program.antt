@@ -1,9 +1,8 @@
 -- The Check program's text: a refusal's number is at most 9, a text has from 36 to 173 bytes, so the exported call's reply tells them apart.
 --   file_fine   a file is refused by a number of at most 9, or its text has more than 35 bytes and at most 173
 -- Assumes nothing.
-use Rattle.std.specs.Prelude.{◌≡◌, Bool, true, false, cond, List, [], ◌∷◌, ◌++◌, ℕ, ◌<◌, ◌≤◌, length, take, drop, ltb}
+use Rattle.std.specs.Prelude.{◌≡◌, Bool, true, false, cond, List, [], ◌∷◌, ◌++◌, ℕ, ◌<◌, ◌≤◌, length, take, drop, ltb, Option}
 use Rattle.std.proofs.Common.{sym, ap, ap₂, ◌∙◌, subst, arith, length-append, lt-ltb, le-ltb}
-use Rattle.std.proofs.Math.Option.{Option}
 use Rattle.std.proofs.Math.Decide.{dec_lt}
 use Rattle.std.proofs.Math.Seq.{take-append_seam}
 use Rattle.kinds.specs.declared.Shape.{Shape}

@@ -1,22 +1,23 @@
 -- `text::heads::head_lines` meets its contract. Assumes nothing.
-use mathlib.Core.Path.{◌∙◌}
-use native.Mathlib.Omega.{arith}
+use Rattle.std.proofs.Common.{◌∙◌, arith, length-take, length-drop}
 use Rattle.text.specs.heads.Head.{head_line}
-use Rattle.text.specs.heads.Views.{seen_head, bytes_head}
-use Rattle.text.specs.laws.Line.{named, unnamed, read_at, fits_at}
-use Rattle.text.specs.heads.laws.Head.{heads_name, heads_is, head_at}
+use Rattle.text.specs.laws.Line.{read_at, field_at}
+use Rattle.text.specs.heads.laws.Head.{heads_name, heads_is}
 use Rattle.text.proofs.heads.head_lines.Goals as goal
 
-pub returns-in_default : goal.returns-in_default
-returns-in_default c = (heads_name _ (unnamed _ _ _ c.name_line.ensures.0 c.in_default.is), omega arith)
+pub returns-in_err-used : goal.returns-in_err-used
+returns-in_err-used c = rw c.from_residual.ensures (heads_name _ c.in_err-used.ensures.0, omega arith)
 
-pub returns-in_default-head_line : goal.returns-in_default-head_line
-returns-in_default-head_line c =
-    (heads_is _ _ ((named _ _ _ _ c.name_line.ensures c.in-Is.is)).is ∙ read_at c.args.s.now _ _ _ head_line seen_head c.head_line.ensures.0 c.in_default-head_line.is, omega arith)
-
-pub overflow_add-result : goal.overflow_add-result
-overflow_add-result c = omega (arith, (fits_at c.args.s.now _ _ _ bytes_head c.head_line.ensures.1 c.in-Is-head_line.is ((named _ _ _ _ c.name_line.ensures c.in-Is.is)).fits))
+pub returns-in_err-head : goal.returns-in_err-head
+returns-in_err-head c =
+    rw c.from_residual-in_err-head.ensures
+    (heads_is _ _ c.in_ok-used.ensures.0 ∙ read_at head_line c.args.s.now c.in_ok-used.used _ c.in_err-head.ensures.0, omega arith)
 
 pub returns : goal.returns
 returns c =
-    (heads_is _ _ ((named _ _ _ _ c.name_line.ensures c.in-Is.is)).is ∙ head_at c.args.s.now _ _ _ _ _ _ _ _ c.head_line.ensures.0 c.in-Is-head_line.is, (fits_at c.args.s.now _ _ _ bytes_head c.head_line.ensures.1 c.in-Is-head_line.is ((named _ _ _ _ c.name_line.ensures c.in-Is.is)).fits))
+    let s = c.args.s.now in
+    let u = c.in_ok-used.used in
+    let h = c.in_ok-head.head in (
+      heads_is _ _ c.in_ok-used.ensures.0 ∙ field_at head_line s u _ h.used c.in_ok-head.ensures.0,
+      omega (arith, c.in_ok-used.ensures.1, simp (length-take, length-drop) at c.in_ok-head.ensures.1),
+    )

@@ -1,9 +1,0 @@
--- `printing::digit_byte` meets its contract. Assumes nothing.
-use borrow.Author.Tests.{lt-ltb, le-ltb}
-use Rattle.printing.proofs.digit_byte.Goals as goal
-
-pub returns-then-d-lt10 : goal.returns-then-d-lt10
-returns-then-d-lt10 c = simp (lt-ltb c.args.d 10 c.if-d-lt10.true)
-
-pub returns : goal.returns
-returns c = simp (le-ltb c.args.d 10 c.if-d-lt10.false)
