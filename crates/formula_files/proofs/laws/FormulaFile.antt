@@ -17,9 +17,6 @@ use Rattle.words.specs.Masks.{wide, zero_in}
 use Rattle.words.specs.Buffers.{filled, zeros}
 use Rattle.words.specs.laws.Buffers.{filled_sets}
 use Rattle.text.specs.heads.Head.{Head, head_lines}
-use Rattle.text.specs.heads.Views.{bytes_head}
-use Rattle.text.specs.declared.heads.HeadRead.{HeadRead}
-use Rattle.text.specs.declared.heads.HeadRead.TheVariants as hd
 use Rattle.formula_check.specs.Formula.{Admitted, formula_of, passed, admit, too_short, held_in}
 use Rattle.formula_files.specs.lines.Formula.{body}
 use Rattle.formula_files.specs.refusals.Number.{number}
@@ -163,6 +160,3 @@ pub final_formula : (o : Answer Admitted) (shape : Shape) (k : ℕ) (r : Read) (
     → (read.Formula shape k ≡ formula_reply o) × (a₁ ≡ first_of o a) × (b₁ ≡ second_of o b) × (d₁ ≡ rows_lent o d)
 final_formula (refused x) shape k r a b d a₁ b₁ d₁ h g l = absurd (let q : ◌≡◌ {A = ℕ} 0 1 = cc in omega arith)
 final_formula (accepted f) shape k r a b d a₁ b₁ d₁ h g l = (sym g ∙ h, l.0, l.1, l.2)
-
-pub head_fit : (x : HeadRead) (kind : Option Kind) (p q r k u n : ℕ) → bytes_head x ≤ n → x ≡ hd.Is kind p q r k u → u ≤ n
-head_fit x kind p q r k u n e h = rw h at e
