@@ -142,22 +142,11 @@ pub fn admit(
     let Some(kind) = kinds::known_map(kinds::kind_numbered(number)) else {
         return Admission::Refused(2);
     };
-    let shape = Shape {
-        kind: kind,
-        p: p,
-        q: q,
-        r: r,
-    };
+    let shape = Shape { kind, p, q, r };
     let Some((n, m, u)) = kinds::sizes_of(shape) else {
         return Admission::Refused(3);
     };
-    if a.len() as u64 != k {
-        return Admission::Refused(5);
-    }
-    if b.len() as u64 != k {
-        return Admission::Refused(5);
-    }
-    if rows.len() as u64 != u {
+    if a.len() as u64 != k || b.len() as u64 != k || rows.len() as u64 != u {
         return Admission::Refused(5);
     }
     let e = refusal(too_wide(n, m, a, b, rows), zero_factor(a, b), a.len());

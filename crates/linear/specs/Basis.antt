@@ -9,7 +9,7 @@
 --   Reduced B    == the rows of B are reduced
 --   Echelon B    == each row of B is 0, or has 1 at its lead and every later row 0 there
 -- Document 01: "the k rows of its reduced basis: leading bits descending, the leading bit of a row set in no other row."
--- Laws: laws/Reduce, laws/Echelon, laws/Insert, laws/Dimension. Assumes nothing.
+-- Laws: proofs/laws/Reduce, proofs/laws/Echelon, proofs/laws/Insert, proofs/laws/Dimension. Assumes nothing.
 use Rattle.std.specs.Prelude.{◌≡◌, ◌⊎◌, cond, ℕ, ◌<◌, length, ltb}
 use mathlib.Core.List.{List, [], ◌∷◌, Memᴰ}
 use Rattle.linear.specs.Space.{Space}

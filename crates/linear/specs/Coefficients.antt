@@ -1,7 +1,7 @@
 -- The coefficients of a vector as a combination of others, found by reduction.
 --   coefficient B x v == how much of x is in v, beside combinations of the reduced basis B
 --   coefficients xs v == the coefficients of v as a combination of xs, one a vector
--- Laws (laws/Coefficients):
+-- Laws (proofs/laws/Coefficients):
 --   coefficients_length  as many as there are vectors
 --   coefficients_sum     their combination is v, if v is one at all
 --   coefficients_only    and no others are v's, if the vectors are independent

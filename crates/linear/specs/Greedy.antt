@@ -1,7 +1,7 @@
 -- The greedy choice of generators: of the numbers in order each that passes a test and whose generator is not yet in the span of what is taken.
 --   wanted ok C i     == the number i passes, and its generator is not in the span of C
 --   greedy ok C n i   == the numbers taken among i, .., i + n - 1, starting from C
--- Used with the test "inside a space" (`Extension`) and "in a selection" (`Part`). Laws: laws/Greedy. Assumes nothing.
+-- Used with the test "inside a space" (`Extension`) and "in a selection" (`Part`). Laws: proofs/laws/Greedy. Assumes nothing.
 use Rattle.std.specs.Prelude.{Bool, cond, not, ◌&&◌, List, [], ◌∷◌, ℕ, zero, suc}
 use Rattle.linear.specs.Space.{Space}
 use Rattle.linear.specs.Basis.{insert}

@@ -3,7 +3,7 @@
 --   Fills gens D W m == W is the reduced basis of a space over D with m more dimensions, and D and the generators in W span it
 --   Heavy gens D W m == the number of a generator in W but not in D whose residue at D has its part of the generators in W: with 2 ^ m - 1 values to share
 --                       them, at least that part of the dimensions that they span besides those in D
--- The law: `heavy` (laws/Heavy). Assumes nothing.
+-- The law: `heavy` (proofs/laws/Heavy). Assumes nothing.
 use Rattle.std.specs.Prelude.{◌≡◌, ◌≢◌, List, [], ◌∷◌, ◌++◌, ℕ, ◌+◌, ◌-◌, ◌*◌, ◌^◌, ◌<◌, ◌≤◌, length}
 use Rattle.linear.specs.Space.{Space}
 use Rattle.linear.specs.Span.{Span, Within}

@@ -5,7 +5,8 @@
 --   Ordered _≺_ l     == each member of l stands before all those after it
 --   factorial m       == m!
 -- Document 01: "first in dictionary order when written ascending". A set of generator numbers is its list, written ascending.
--- Theorems (laws/Order, laws/Count): `rising_sound`, `rising_complete`, `rising_ordered`; and how many there are, `rising_count`: m! × their number ≤ n ^ m.
+-- Theorems (proofs/laws/Order, proofs/laws/Count): `rising_sound`, `rising_complete`, `rising_ordered`; and how many there are, `rising_count`:
+-- m! × their number ≤ n ^ m.
 -- Assumes nothing.
 use Rattle.std.specs.Prelude.{◌≡◌, ◌⊎◌, ℕ, zero, suc, ◌*◌, ◌<◌, ◌≤◌}
 use mathlib.Core.List.{List, [], ◌∷◌, ◌++◌, map, Memᴰ}

@@ -7,7 +7,7 @@
 --   along ok C js         == of the numbers js in order each that passes the test and whose generator is not in the span of C and what is taken
 --   cheapest_in js W       == the numbers taken along js inside the space W, ascending
 -- Document 02: "the cheapest among all formulae with r products in any entry, the dictionary_first among equals".
--- Laws: laws/Prices, laws/Greedy (`along`), laws/Cheapest. Assumes nothing.
+-- Laws: proofs/laws/Prices, proofs/laws/Greedy (`along`), proofs/laws/Cheapest. Assumes nothing.
 use Rattle.std.specs.Prelude.{Bool, true, false, cond, ◌&&◌, ◌||◌, List, [], ◌∷◌, map, ℕ, suc, ◌+◌, ◌*◌, ◌%◌, get_or, eqb, ltb, Option, None, Some}
 use Rattle.linear.specs.Space.{Space}
 use Rattle.linear.specs.Basis.{insert}

@@ -3,7 +3,7 @@
 --   only p l                             == the members of l that pass p, in their order
 --   first_of_each key ok same earlier l    == the members of l whose key passes, each the first with that key (and none of `earlier` has it)
 --   Once key l                           == no two members of l have the same key
--- Laws: laws/Select. Assumes nothing.
+-- Laws: proofs/laws/Select. Assumes nothing.
 use Rattle.std.specs.Prelude.{◌≢◌, Bool, false, cond, not, ◌&&◌, ◌||◌}
 use mathlib.Core.List.{List, [], ◌∷◌, Memᴰ}
 

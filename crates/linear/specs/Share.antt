@@ -7,7 +7,7 @@
 --   alike C y gs     == the members of gs whose residue at C is y
 --   others xs        == the sums of the nonempty sublists of xs
 --   space_weight C W y == the rank of the generators in the space W whose residue at C is y, over those in the space C
--- Laws: laws/Share. Assumes nothing.
+-- Laws: proofs/laws/Share. Assumes nothing.
 use Rattle.std.specs.Prelude.{◌≡◌, ◌⊎◌, List, [], ◌∷◌, ◌++◌, map, ℕ, ◌+◌, ◌-◌, length}
 use Rattle.linear.specs.Space.{Space}
 use Rattle.linear.specs.Basis.{reduce, inserts, basis_of}

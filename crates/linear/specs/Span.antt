@@ -5,7 +5,7 @@
 --   SameSpan xs ys    == xs and ys have the same combinations
 --   Independent xs    == no combination of xs is zero but the one whose coefficients are all 0
 -- Document 01: "A choice of menu forms computes the targets if its span contains T; the empty choice spans only zero."
--- Laws: laws/Span, laws/Independent. Assumes nothing.
+-- Laws: laws/Span, proofs/laws/Independent. Assumes nothing.
 use Rattle.std.specs.Prelude.{◌≡◌, length}
 use mathlib.Core.List.{List, [], ◌∷◌, Memᴰ}
 use Rattle.linear.specs.Space.{Space}

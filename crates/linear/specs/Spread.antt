@@ -6,7 +6,7 @@
 --                              lead to W
 --   Inner W C m             == C is a reduced basis inside W, of m dimensions less
 -- From the empty basis these are the formulae of W: `spread_is`. Where C is not completed nothing follows, `spread_none`; where it is, a formula does,
--- `spread_some` (laws/Spread). Assumes nothing.
+-- `spread_some` (proofs/laws/Spread). Assumes nothing.
 use Rattle.std.specs.Prelude.{◌≡◌, Bool, not, ◌&&◌, List, ℕ, ◌+◌, length, drop, leb}
 use Rattle.linear.specs.Space.{Space}
 use Rattle.linear.specs.Span.{Within}

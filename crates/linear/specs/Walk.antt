@@ -4,7 +4,7 @@
 --   spans k C                    == the generators in the space C span k dimensions
 --   walk C p n i m               == what is emitted from the space C, reached with the numbers p, for m more numbers out of i, .., i + n - 1, each of them not
 --                                   stopped by `stop`, that lead to a space that passes `leaf`
--- The walk's list is that of the entries, for every test that stops the numbers that are not next: `walk_is` (laws/Walk). Assumes nothing.
+-- The walk's list is that of the entries, for every test that stops the numbers that are not next: `walk_is` (proofs/laws/Walk). Assumes nothing.
 use Rattle.std.specs.Prelude.{Bool, true, false, cond, List, [], ◌∷◌, ◌++◌, ℕ, zero, suc, ◌<◌, ◌≤◌, eqb}
 use Rattle.linear.specs.Space.{Space}
 use Rattle.linear.specs.Span.{Span}

@@ -2,7 +2,7 @@
 --   two       == the field of two elements
 --   Below w C == every member of C is below 2 ^ w
 --   word      == the numbers, by their binary digits, with exclusive or as sum. A form of w bits is a number below 2 ^ w.
--- Document 01: "with coefficients 0 and 1 (sum is exclusive or)". Laws: laws/Word. Assumes nothing.
+-- Document 01: "with coefficients 0 and 1 (sum is exclusive or)". Laws: proofs/laws/Word. Assumes nothing.
 use Rattle.std.specs.Prelude.{◌≡◌, refl, ◌≢◌, Bool, true, false, ◌&&◌, ℕ, zero, suc, ◌^◌, ◌<◌}
 use Rattle.std.proofs.Common.{true≢false, suc-ne-zero}
 use Rattle.std.proofs.lemmas.Bool.{false≢true}

@@ -82,12 +82,7 @@ pub fn pose_file(
     let Some(kind) = known else {
         return PosedRead::Refused(2);
     };
-    let shape = Shape {
-        kind: kind,
-        p: p,
-        q: q,
-        r: r,
-    };
+    let shape = Shape { kind, p, q, r };
     let Some((n, m, o)) = kinds::sizes_of(shape) else {
         return PosedRead::Refused(3);
     };

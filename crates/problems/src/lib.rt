@@ -111,11 +111,6 @@ pub fn pose(
     let Some(kind) = kinds::kind_numbered(number) else {
         return Posed::Refused(2);
     };
-    let shape = Shape {
-        kind: kind,
-        p: p,
-        q: q,
-        r: r,
-    };
+    let shape = Shape { kind, p, q, r };
     pose_shape(shape, gs, ts, others, g, t)
 }

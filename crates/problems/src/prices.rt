@@ -93,11 +93,6 @@ pub fn pose_priced(
     let Some(kind) = kinds::kind_numbered(number) else {
         return Posed::Refused(2);
     };
-    let shape = Shape {
-        kind: kind,
-        p: p,
-        q: q,
-        r: r,
-    };
+    let shape = Shape { kind, p, q, r };
     pose_priced_shape(shape, gs, ts, costs, g, t, v)
 }

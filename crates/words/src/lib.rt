@@ -28,81 +28,47 @@ pub fn copy(src: &[u64], out: &mut [u64], at: usize)
     requires { at + length src.now ≤ length out.old }
     ensures { out.new ≡ paste out.old at src.now (length src.now) }
 {
-    let mut i = 0;
-    while i < src.len() {
-        out[at + i] = src[i];
-        i += 1;
-    }
+    out[at..at + src.len()].copy_from_slice(src);
 }
 
 // The first n words; all of them where there are no more.
 pub fn first_words(a: &[u64], n: usize) -> &[u64]
     ensures { result.now ≡ take n a.now }
 {
-    if n > a.len() {
-        return a;
-    }
-    &a[..n]
+    &a[..n.min(a.len())]
 }
 
 // The whole of a buffer 0.
 pub fn clear(a: &mut [u64])
     ensures { a.new ≡ replicate (length a.old) 0 }
 {
-    let mut i = 0;
-    while i < a.len() {
-        a[i] = 0;
-        i += 1;
-    }
+    a.fill(0);
 }
 
 // w, or x has a bit outside n bits.
 pub fn wider(w: bool, x: u64, n: usize) -> bool
     ensures { result ≡ (w || outside n x) }
 {
-    if w {
-        return true;
-    }
-    if n < 64 {
-        return (x >> n) != 0;
-    }
-    false
+    w || n < 64 && x >> n != 0
 }
 
 // z, or x is zero.
 pub fn nil(z: bool, x: u64) -> bool
     ensures { result ≡ (z || eqb x 0) }
 {
-    if z {
-        return true;
-    }
-    x == 0
+    z || x == 0
 }
 
 // Whether some mask has a bit outside its n bits.
 pub fn any_wide(masks: &[u64], n: u64) -> bool
     ensures { result ≡ wide n masks.now }
 {
-    let mut i = 0;
-    while i < masks.len() {
-        if wider(false, masks[i], n as usize) {
-            return true;
-        }
-        i += 1;
-    }
-    false
+    masks.iter().any(|x| wider(false, *x, n as usize))
 }
 
 // Whether some mask is zero.
 pub fn any_zero(masks: &[u64]) -> bool
     ensures { result ≡ zero_in masks.now }
 {
-    let mut i = 0;
-    while i < masks.len() {
-        if masks[i] == 0 {
-            return true;
-        }
-        i += 1;
-    }
-    false
+    masks.contains(&0)
 }

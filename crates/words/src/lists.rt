@@ -3,30 +3,23 @@ ghost use Rattle.std.specs.Prelude.{◌≡◌, not, drop, eqb, ltb};
 ghost use Rattle.linear.specs.Select.{any_of};
 ghost use Rattle.words.specs.lists.Lists.{repeats, list_refusal, map_refusal};
 
+use super::{any_wide, any_zero};
+
 // Whether x stands in xs at `from` or later.
 pub fn stands_from(x: u64, xs: &[u64], from: usize) -> bool
     ensures { result ≡ any_of (eqb x) (drop from xs.now) }
 {
-    let mut i = from;
-    while i < xs.len() {
-        if x == xs[i] {
-            return true;
-        }
-        i += 1;
-    }
-    false
+    xs.iter().skip(from).any(|y| x == *y)
 }
 
 // Whether some form stands twice.
 pub fn repeats(xs: &[u64]) -> bool
     ensures { result ≡ repeats xs.now }
 {
-    let mut i = 0;
-    while i < xs.len() {
-        if stands_from(xs[i], xs, i + 1) {
+    for (i, x) in xs.iter().enumerate() {
+        if stands_from(*x, xs, i + 1) {
             return true;
         }
-        i += 1;
     }
     false
 }
@@ -36,52 +29,34 @@ pub fn list_refusal(p: u64, q: u64, r: u64, gs: &[u64], ts: &[u64], others: &[u6
     ensures { list_refusal p q r gs.now ts.now others.now ≡ result }
 {
     if q > kinds::GENERATORS as u64 {
-        return 4;
+        4
+    } else if gs.len() as u64 != q || ts.len() as u64 != r {
+        5
+    } else if any_wide(gs, p) || any_wide(ts, p) || any_wide(others, p) {
+        6
+    } else if any_zero(gs) || repeats(gs) {
+        7
+    } else {
+        0
     }
-    if gs.len() as u64 != q {
-        return 5;
-    }
-    if ts.len() as u64 != r {
-        return 5;
-    }
-    if super::any_wide(gs, p) {
-        return 6;
-    }
-    if super::any_wide(ts, p) {
-        return 6;
-    }
-    if super::any_wide(others, p) {
-        return 6;
-    }
-    if super::any_zero(gs) {
-        return 7;
-    }
-    if repeats(gs) { 7 } else { 0 }
 }
 
 // The refusal of a map's lists, 5 or 6, or 0: none is handed in but further forms of w bits.
 pub fn map_refusal(w: u64, gs: &[u64], ts: &[u64], others: &[u64]) -> u64
     ensures { map_refusal w gs.now ts.now others.now ≡ result }
 {
-    if gs.len() != 0 {
-        return 5;
+    if gs.len() != 0 || ts.len() != 0 {
+        5
+    } else if any_wide(others, w) {
+        6
+    } else {
+        0
     }
-    if ts.len() != 0 {
-        return 5;
-    }
-    if super::any_wide(others, w) { 6 } else { 0 }
 }
 
 // Whether some number is not below n.
 pub fn any_outside(sel: &[u64], n: usize) -> bool
     ensures { result ≡ any_of (λ e. not (ltb e n)) sel.now }
 {
-    let mut i = 0;
-    while i < sel.len() {
-        if sel[i] >= n as u64 {
-            return true;
-        }
-        i += 1;
-    }
-    false
+    sel.iter().any(|e| *e >= n as u64)
 }

@@ -2,6 +2,9 @@
 ghost use Rattle.std.specs.Prelude.{◌≡◌, ◌<◌, ◌≤◌, length};
 ghost use Rattle.words.specs.tables.Table.{following, slot_from, tries, Numbered};
 
+// How many slots are tried (`tries`).
+const TRIES: usize = 64;
+
 // The slot after q in a table of n slots: after the last comes the first.
 fn after(q: usize, n: usize) -> usize
     requires { q < n }
@@ -10,7 +13,7 @@ fn after(q: usize, n: usize) -> usize
     if q + 1 == n { 0 } else { q + 1 }
 }
 
-// The slot of the value `x`, looked for from the slot `from` on: the first that is free or has a number of this value in `d`; the number of slots where 64
+// The slot of the value `x`, looked for from the slot `from` on: the first that is free or has a number of this value in `d`; the number of slots where `TRIES`
 // are tried in vain.
 pub fn seek(slots: &[u16], d: &[u64], from: usize, x: u64) -> usize
     requires { Numbered slots.now d.now × (from < length slots.now) }
@@ -18,17 +21,12 @@ pub fn seek(slots: &[u16], d: &[u64], from: usize, x: u64) -> usize
         × (result ≤ length slots.now) }
 {
     let mut q = from;
-    let mut t: usize = 64;
-    while t > 0 {
+    for _t in 0..TRIES {
         let f = slots[q] as usize;
-        if f == 0 {
-            return q;
-        }
-        if d[f - 1] == x {
+        if f == 0 || d[f - 1] == x {
             return q;
         }
         q = after(q, slots.len());
-        t -= 1;
     }
     slots.len()
 }

@@ -2,7 +2,7 @@
 --   taken B M v              == the masks M of those rows of B that reduction adds to v, summed
 --   Tracking xs rows masks i == the first i rows are echelon, the first i of xs are in their span, and the mask of each names those of xs that sum to it
 --   Tracks xs e              == so for all of xs
--- Laws (laws/Echelon):
+-- Laws (proofs/laws/of_rows/Echelon):
 --   rest_inside, rest_test   nothing is left of a form exactly if it is a sum of products
 --   rest_row                 then what was taken is its row, if the products are independent
 -- Assumes nothing.

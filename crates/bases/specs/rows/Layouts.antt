@@ -6,7 +6,7 @@
 --   row_sum l xs row   == the sum that a row says
 --   RowFits l n row   == a row of n digits
 --   rows_in l xs ts    == the words of the rows for all of ts, one after the other
--- Laws (laws/Layouts): row_says, row_alone, rows_length. Assumes nothing.
+-- Laws (proofs/laws/of_rows/Layouts): row_says, row_alone, rows_length. Assumes nothing.
 use Rattle.std.specs.Prelude.{List, [], ◌∷◌, map, ℕ, suc, ◌^◌, ◌<◌}
 use Rattle.linear.specs.Planes.{Three, Planes, coord3, nul3}
 use Rattle.linear.specs.Coefficients.{coefficients}

@@ -4,7 +4,7 @@
 --   terms_in l gens sel v  == the terms of v as a sum of the selected generators: of the part that is independent and spans them, what its row names
 --   term_count l n         == how many terms n words show
 --   term_words l n         == how many words n terms have
--- Laws: laws/Shown. Assumes nothing.
+-- Laws: proofs/laws/of_rows/Shown. Assumes nothing.
 use Rattle.std.specs.Prelude.{List, [], ◌∷◌, ℕ, suc, ◌*◌, ◌/◌}
 use Rattle.linear.specs.Planes.{Three, n0, n1, n2, Planes, coord3}
 use Rattle.linear.specs.Part.{part}

@@ -4,7 +4,7 @@
 --   terms gens sel v == the terms of v as a sum of the selected generators: of the part that is independent and spans them, the numbers that its row names
 -- Document 02: "The yes now carries them as menu numbers, ascending. Only the dictionary_first part that is independent and spans all of the selection may
 -- be used, so there is one such sum." The row is the one that a formula with the part's products has for v; so a formula's row is the mask of the terms.
--- Laws (laws/Named, laws/Terms):
+-- Laws (proofs/laws/of_rows/Named, proofs/laws/of_rows/Terms):
 --   terms_rising, terms_part   the terms ascend, and are of the part
 --   terms_sum                  they sum to v, if v is a sum of selected generators at all
 --   terms_only                 no other numbers of the part do

@@ -1,7 +1,7 @@
 -- The steps of an admission, one after the other, in the definition's terms.
 --   unlike_a, unlike_b, unlike_rows   5: a list has the wrong length; alike: none has
 --   passed_not, passed_is             6 to 8, by their number
---   admit_2, admit_3, admit_5         those refusals; admit-passed: what is left
+--   admit_2, admit_3, admit_5         those refusals; admit_passed, admit_alike: what is left
 --   check_as                          Check judges what is admitted
 -- Assumes nothing.
 use Rattle.std.specs.Prelude.{◌≡◌, refl, Bool, true, false, ◌||◌, cond, List, ℕ, ◌≤◌, length, eqb, ltb, Option, None, Some}
@@ -117,3 +117,7 @@ module _ (number p q r k : ℕ) (xs ys rows : List ℕ) where
 
       pub admit_passed : lengths k u xs ys rows ≡ false → answer ≡ passed (shape_of kd p q r) n m k xs ys rows
       admit_passed = admit_lists false
+
+      -- with lists of the right lengths
+      pub admit_alike : length xs ≡ k → length ys ≡ k → length rows ≡ u → answer ≡ passed (shape_of kd p q r) n m (length xs) xs ys rows
+      admit_alike a b c = admit_passed (alike k u xs ys rows a b c) ∙ ap (λ (k : ℕ). passed (shape_of kd p q r) n m k xs ys rows) (sym a)

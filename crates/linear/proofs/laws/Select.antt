@@ -1,4 +1,5 @@
--- What tests over a list choose; numbers in a list (`stands`, `stood`); the chosen of a joined and of a mapped list (`only_append`, `only_map`).
+-- What tests over a list choose; numbers in a list (`stands`, `stood`); the library's test of some
+-- member (`any_of_is`); the chosen of a joined and of a mapped list (`only_append`, `only_map`).
 -- Of `first_of_each`: each chosen passes (`first_mem`), no key comes twice (`first_once`), every key that passes is there (`first_some`), and in a list in order
 -- each chosen one stands before all others with its key (`first_first`). Assumes nothing.
 use Rattle.std.specs.Prelude.{◌≡◌, ◌≢◌, ◌⊎◌, ◌↔◌, Bool, cond, ◌&&◌, eqb}
@@ -10,6 +11,7 @@ use mathlib.Core.List.{List, [], ◌∷◌, ◌++◌, map, Memᴰ}
 use Prim.Native.Nat.{ℕ, suc, ◌≤◌}
 use native.Mathlib.Omega.{arith}
 use Rattle.std.proofs.Math.ListN.{length}
+use Rattle.std.specs.List.{list_any}
 use Rattle.linear.specs.Order.{Ordered}
 use Rattle.linear.specs.Select.{any_of, only, first_of_each, Once}
 use Rattle.linear.specs.laws.Span.{mem_cons}
@@ -56,6 +58,12 @@ module _ {A : Type 0} (p : A → Bool) where
           → (x : A) → Memᴰ x (y ∷ l) → p x ≡ true → Memᴰ x (cond t (y ∷ only p l) (only p l))
       go true q ih = mem_cons {P = λ x. p x ≡ true → Memᴰ x (y ∷ only p l)} (λ e. mathlib.Core.List.Memᴰ.head refl) (λ x m e. mathlib.Core.List.Memᴰ.tail (ih x m e))
       go false q ih = mem_cons {P = λ x. p x ≡ true → Memᴰ x (only p l)} (λ e. absurd (false≢true (sym q ∙ e))) ih
+
+-- the library's test of some member is this one
+pub any_of_is : {A : Type 0} (p : A → Bool) (l : List A) → list_any p l ≡ any_of p l
+unfolding any_of
+any_of_is p [] = refl
+any_of_is p (x ∷ l) = ap (λ (t : Bool). p x || t) (any_of_is p l)
 
 pub any_of_yes : {A : Type 0} (p : A → Bool) (l : List A) → any_of p l ≡ true → (x : A) × Memᴰ x l × (p x ≡ true)
 unfolding any_of

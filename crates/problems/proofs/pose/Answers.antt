@@ -1,5 +1,5 @@
 -- `problems::pose` meets its contract. Assumes nothing.
-use mathlib.Core.Path.{ap, ◌∙◌}
+use mathlib.Core.Path.{◌∙◌}
 use Rattle.problems.proofs.laws.Laying.{posed_2_laid, posed_kind_laid}
 use Rattle.problems.proofs.pose.Goals as goal
 
@@ -13,5 +13,5 @@ pub returns : goal.returns
 returns c =
     let kind_numbered_law = c.kind_numbered in
     let a = c.args in
-    posed_kind_laid a.number a.p a.q a.r a.gs.now a.ts.now a.others.now _ _ c.in-Is.kind _
-    (kind_numbered_law.ensures ∙ c.in-Is.is) c.pose_shape.ensures
+    posed_kind_laid a.number a.p a.q a.r a.gs.now a.ts.now a.others.now _ _ c.in-Some.kind _
+    (kind_numbered_law.ensures ∙ c.in-Some.is) c.pose_shape.ensures

@@ -1,6 +1,6 @@
 -- `problems::pose_map` meets its contract. Assumes nothing.
 use native.Mathlib.Omega.{arith}
-use mathlib.Core.Path.{◌≡◌, ap, ◌∙◌}
+use mathlib.Core.Path.{◌≡◌, ◌∙◌}
 use Prim.Native.Nat.{◌≤◌}
 use Rattle.std.specs.Prelude.{Some}
 use Rattle.kinds.specs.laws.Sizes.{sizes_bounds}
@@ -30,7 +30,7 @@ returns-then-e-ne0 c =
     let generator-count = c.generator_count in
     let a = args in
     mapped_by_laid a.shape a.n a.m a.u a.gs.now a.ts.now a.others.now a.g.now a.t.now
-    c.in-Is.c c.map_refusal-e.result (generator-count.ensures ∙ c.in-Is.is)
+    c.in-Some.c c.map_refusal-e.result (generator-count.ensures ∙ c.in-Some.is)
     c.map_refusal-e.ensures c.if-e-ne0.true
 
 pub fill_generators-requires : goal.fill_generators-requires
@@ -39,9 +39,9 @@ fill_generators-requires c =
     let pre = c.requires in
     let generator-count = c.generator_count in
     let a = args in
-    let C : count_of a.n a.m ≡ Some c.in-Is.c = generator-count.ensures ∙ c.in-Is.is in
-    let f = counted a.n a.m c.in-Is.c C in
-    let l : c.in-Is.c ≤ most_generators = f.1 in
+    let C : count_of a.n a.m ≡ Some c.in-Some.c = generator-count.ensures ∙ c.in-Some.is in
+    let f = counted a.n a.m c.in-Some.c C in
+    let l : c.in-Some.c ≤ most_generators = f.1 in
     record { count = f.0; few = l; room = (let g = pre.0 in omega arith) }
 
 pub returns : goal.returns
@@ -53,6 +53,6 @@ returns c =
     let if1 = c.if-e-ne0 in
     let fill-generators = c.fill_generators in
     let a = args in
-    mapped_laid a.shape a.n a.m a.u a.gs.now a.ts.now a.others.now _ _ c.in-Is.c
-    map-refusal.result (generator-count.ensures ∙ c.in-Is.is) map-refusal.ensures if1.false pre.1.sized
+    mapped_laid a.shape a.n a.m a.u a.gs.now a.ts.now a.others.now _ _ c.in-Some.c
+    map-refusal.result (generator-count.ensures ∙ c.in-Some.is) map-refusal.ensures if1.false pre.1.sized
     fill-generators.ensures c.fill_targets.ensures

@@ -1,22 +1,13 @@
 -- `words::any_wide` meets its contract. Assumes nothing.
-use mathlib.Core.Path.{refl, sym, ◌∙◌}
-use Rattle.words.specs.laws.Scan.{wide_turn, wide_end}
-use native.Mathlib.Omega.{arith}
+use Rattle.std.proofs.Common.{◌∙◌, rules, tests}
+use Rattle.std.proofs.lemmas.Iterator.{YieldsList-from_slice}
+use Rattle.std.proofs.lemmas.Iterator.Search.{any_from_yields_List}
+use Rattle.words.specs.Masks.{outside}
+use Rattle.words.specs.laws.Scan.{any_wide}
 use Rattle.words.proofs.any_wide.Goals as goal
 
-pub loop-i-init : goal.loop-i-init
-loop-i-init c = (omega arith, refl)
-
-pub returns-then-wider : goal.returns-then-wider
-returns-then-wider c = (let a = c.args in let l = c.loop-i in
-    wide_turn a.n a.masks.now l.i (omega arith) l.invariant.1 (sym c.wider.ensures ∙ c.if-wider.true))
-
-pub loop-i-preserved : goal.loop-i-preserved
-loop-i-preserved c = (
-  omega arith,
-  (let a = c.args in let l = c.loop-i in
-      wide_turn a.n a.masks.now l.i (omega arith) l.invariant.1 (sym c.wider.ensures ∙ c.if-wider.false)),
-)
-
 pub returns : goal.returns
-returns c = wide_end _ c.args.masks.now c.loop-i.i (omega arith) c.loop-i.invariant.1
+returns c =
+    let a = c.args in
+    any_from_yields_List (outside a.n) _ _ c.any.result c.any.ensures.ran (YieldsList-from_slice a.masks.now cc)
+    (λ x b q k. search (rules, tests)) ∙ any_wide _ _

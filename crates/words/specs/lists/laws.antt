@@ -1,4 +1,3 @@
 -- The laws behind lists handed in.
 pub mod Standing
 pub mod Refusals
-pub mod Outside

@@ -1,6 +1,6 @@
 -- `problems::prices::fill_prices` meets its contract. Assumes nothing.
 use native.Mathlib.Omega.{arith}
-use mathlib.Core.Path.{sym, ap, ◌∙◌}
+use mathlib.Core.Path.{sym, ◌∙◌}
 use Rattle.problems.proofs.laws.of_prices.Filling.{list_count, list_filled, map_made, map_filled, none_filled}
 use Rattle.problems.proofs.prices.fill_prices.Goals as goal
 
@@ -26,11 +26,11 @@ pub fill_costs-requires : goal.fill_costs-requires
 fill_costs-requires c =
     let a = c.args in
     map_made a.shape a.costs.now a.c c.requires (sym c.is_list.ensures ∙ c.if-is_list.false)
-    c.in-Are.n c.in-Are.m c.in-Are.field-2 (c.sizes_of.ensures ∙ c.in-Are.is)
+    c.in-Some.n c.in-Some.m _ (c.sizes_of.ensures ∙ c.in-Some.is)
 
 pub returns : goal.returns
 returns c =
     let a = c.args in
     map_filled a.shape a.costs.now a.c c.requires (sym c.is_list.ensures ∙ c.if-is_list.false)
-    c.in-Are.n c.in-Are.m c.in-Are.field-2 (c.sizes_of.ensures ∙ c.in-Are.is) _
+    c.in-Some.n c.in-Some.m _ (c.sizes_of.ensures ∙ c.in-Some.is) _
     c.fill_costs.ensures

@@ -1,5 +1,5 @@
 -- `problems::prices::pose_priced` meets its contract. Assumes nothing.
-use mathlib.Core.Path.{ap, ◌∙◌}
+use mathlib.Core.Path.{◌∙◌}
 use Rattle.problems.proofs.laws.of_prices.Laying.{priced_2_laid, priced_kind_laid}
 use Rattle.problems.proofs.prices.pose_priced.Goals as goal
 
@@ -12,5 +12,5 @@ returns-in_default c =
 pub returns : goal.returns
 returns c =
     let a = c.args in
-    priced_kind_laid a.number a.p a.q a.r a.gs.now a.ts.now a.costs.now _ _ _ c.in-Is.kind _
-    (c.kind_numbered.ensures ∙ c.in-Is.is) c.pose_priced_shape.ensures
+    priced_kind_laid a.number a.p a.q a.r a.gs.now a.ts.now a.costs.now _ _ _ c.in-Some.kind _
+    (c.kind_numbered.ensures ∙ c.in-Some.is) c.pose_priced_shape.ensures

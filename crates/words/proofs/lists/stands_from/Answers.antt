@@ -1,24 +1,13 @@
 -- `words::lists::stands_from` meets its contract. Assumes nothing.
-use native.Mathlib.Omega.{arith}
-use mathlib.Core.Path.{refl}
-use Rattle.words.specs.lists.laws.Standing.{stands_turn, stands_end}
-use borrow.Author.Tests.{eq-eqb, ne_eqb}
+use Rattle.std.proofs.Common.{◌∙◌, eqb, rules, tests}
+use Rattle.std.proofs.lemmas.Iterator.{YieldsList-from_slice}
+use Rattle.std.proofs.lemmas.Iterator.Adapters.{YieldsList-from_skip}
+use Rattle.std.proofs.lemmas.Iterator.Search.{any_from_yields_List}
+use Rattle.linear.proofs.laws.Select.{any_of_is}
 use Rattle.words.proofs.lists.stands_from.Goals as goal
 
-pub loop-i-init : goal.loop-i-init
-loop-i-init c = refl
-
-pub returns-then-x-xs : goal.returns-then-x-xs
-returns-then-x-xs c =
-    let a = c.args in
-    let l = c.loop-i in
-    stands_turn a.x a.xs.now l.i (omega arith) l.invariant (eq-eqb a.x _ c.if-x-xs.true)
-
-pub loop-i-preserved : goal.loop-i-preserved
-loop-i-preserved c =
-    let a = c.args in
-    let l = c.loop-i in
-    stands_turn a.x a.xs.now l.i (omega arith) l.invariant (ne_eqb a.x _ c.if-x-xs.false)
-
 pub returns : goal.returns
-returns c = stands_end _ c.args.xs.now c.loop-i.i (omega arith) c.loop-i.invariant
+returns c =
+    let a = c.args in
+    any_from_yields_List (eqb a.x) _ _ c.any.result c.any.ensures.ran (YieldsList-from_skip a.from (YieldsList-from_slice a.xs.now cc) cc)
+    (λ x b q k. search (rules, tests)) ∙ any_of_is _ _

@@ -1,5 +1,4 @@
--- What a turn of each loop does, over plain lists.
---   stands_turn, stands_end     looking for a form from i on
+-- What a turn of the loop does, over plain lists, and forms that stand in a list.
 --   repeats_turn, repeats_end   looking for one that stands again
 --   stands_at, stands_where     a form stands in a list from some place on: a place of it is known, or is had
 --   repeats_perm                whatever the order, some form stands again or none does
@@ -15,15 +14,6 @@ use Rattle.linear.proofs.laws.Permuted.{any_of_perm}
 use Rattle.linear.proofs.laws.Order.{mem_index, mem_get_d}
 use Rattle.words.specs.laws.Scan.{turn, done}
 use Rattle.words.specs.lists.Lists.{repeats}
-
-pub stands_turn : (x : ℕ) (xs : List ℕ) (i : ℕ) → i < length xs → {s S : Bool} → any_of (eqb x) (drop i xs) ≡ S → eqb x (get_or xs i 0) ≡ s
-    → s || any_of (eqb x) (drop (i + 1) xs) ≡ S
-unfolding any_of
-stands_turn x xs i h = turn (any_of (eqb x)) xs i h refl
-
-pub stands_end : (x : ℕ) (xs : List ℕ) (i : ℕ) → length xs ≤ i → {S : Bool} → any_of (eqb x) (drop i xs) ≡ S → false ≡ S
-unfolding any_of
-stands_end x xs i h = done (any_of (eqb x)) xs i h refl
 
 pub repeats_turn : (xs : List ℕ) (i : ℕ) → i < length xs → {s S : Bool} → repeats (drop i xs) ≡ S → any_of (eqb (get_or xs i 0)) (drop (i + 1) xs) ≡ s
     → s || repeats (drop (i + 1) xs) ≡ S
