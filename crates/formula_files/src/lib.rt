@@ -55,7 +55,14 @@ fn read_whole(s: &[u8], a: &mut [u64], b: &mut [u64], d: &mut [u64]) -> Read
     let Some(kind) = kinds::known_map(head.kind) else {
         return Read::Refused(2);
     };
-    let Head { p, q, r, k, used, .. } = head;
+    let Head {
+        p,
+        q,
+        r,
+        k,
+        used,
+        ..
+    } = head;
     let shape = Shape { kind, p, q, r };
     let Some((n, m, t)) = kinds::sizes_of(shape) else {
         return Read::Refused(3);

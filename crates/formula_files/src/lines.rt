@@ -22,7 +22,14 @@ pub struct Products {
 }
 
 // k product lines at the front of s, written to a and b as far as these reach.
-fn read_products(s: &[u8], k: usize, n: usize, m: usize, a: &mut [u64], b: &mut [u64]) -> Option<Products>
+fn read_products(
+    s: &[u8],
+    k: usize,
+    n: usize,
+    m: usize,
+    a: &mut [u64],
+    b: &mut [u64],
+) -> Option<Products>
     ensures { (products_from n m k s.now 0 a.old b.old false false
         ≡ seen_products s.now a.new b.new result) × (bytes_products result ≤ length s.now) }
 {
@@ -45,7 +52,14 @@ fn read_products(s: &[u8], k: usize, n: usize, m: usize, a: &mut [u64], b: &mut 
 }
 
 // The line of the products' names and the k product lines, at the front of s.
-fn products_part(s: &[u8], k: usize, n: usize, m: usize, a: &mut [u64], b: &mut [u64]) -> Option<Products>
+fn products_part(
+    s: &[u8],
+    k: usize,
+    n: usize,
+    m: usize,
+    a: &mut [u64],
+    b: &mut [u64],
+) -> Option<Products>
     ensures { (products_part n m k s.now a.old b.old
         ≡ seen_products s.now a.new b.new result) × (bytes_products result ≤ length s.now) }
 {
@@ -77,10 +91,7 @@ fn read_rows(s: &[u8], t: usize, k: usize, d: &mut [u64]) -> Option<Rows>
         wide = words::wider(wide, x, k);
         at += used;
     }
-    Some(Rows {
-        used: at,
-        wide,
-    })
+    Some(Rows { used: at, wide })
 }
 
 // The line of the rows' name and t rows of k bits, all of s: whether a row is too wide.
