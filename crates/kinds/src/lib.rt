@@ -23,7 +23,7 @@ pub const COST: u64 = 65535;
 pub const COST_BITS: u64 = 16;
 
 // Document 01's kinds, then those of document 02.
-#[derive(Clone, Copy)]
+#[derive(Clone, Copy, PartialEq, Eq)]
 pub enum Kind {
     Poly,
     Short,

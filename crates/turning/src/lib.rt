@@ -34,25 +34,22 @@ pub fn middle(n: u64) -> Shape
 pub fn turn_refusal(known: Option<Kind>, p: u64, q: u64, r: u64) -> u64
     ensures { turnable known p q r ≡ refused_by result tt }
 {
-    let Some(kind) = known else {
-        return 2;
-    };
-    if kinds::number_of(kind) != 0 {
+    if known != Some(Kind::Poly) {
         return 2;
     }
     let full = Shape {
         kind: Kind::Poly,
-        p: p,
-        q: q,
-        r: r,
+        p,
+        q,
+        r,
     };
-    let Some((_, _, _)) = kinds::sizes_of(full) else {
+    let Some(_) = kinds::sizes_of(full) else {
         return 3;
     };
     if p != q {
         return 3;
     }
-    let Some((_, _, _)) = kinds::sizes_of(middle(p)) else {
+    let Some(_) = kinds::sizes_of(middle(p)) else {
         return 3;
     };
     0

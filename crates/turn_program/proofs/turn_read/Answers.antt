@@ -15,20 +15,20 @@ returns-in_default c =
 
 pub turn_admitted-e-requires : goal.turn_admitted-e-requires
 turn_admitted-e-requires c =
-    full_words _ _ _ _ _ c.requires _ _ _ ((c.sizes_of.ensures ∙ c.in-Are.is)) _ _ _ c.first_words-firsts.ensures c.first_words-seconds.ensures
+    full_words _ _ _ _ _ c.requires _ _ _ ((c.sizes_of.ensures ∙ c.in-Some.is)) _ _ _ c.first_words-firsts.ensures c.first_words-seconds.ensures
     c.first_words.ensures
 
 pub returns-then-e-ne0 : goal.returns-then-e-ne0
 returns-then-e-ne0 c =
-    full_refused _ _ _ _ _ c.requires _ _ _ ((c.sizes_of.ensures ∙ c.in-Are.is)) _ _ _ c.first_words-firsts.ensures c.first_words-seconds.ensures
+    full_refused _ _ _ _ _ c.requires _ _ _ ((c.sizes_of.ensures ∙ c.in-Some.is)) _ _ _ c.first_words-firsts.ensures c.first_words-seconds.ensures
     c.first_words.ensures _ _ _ _ _ _ _ c.turn_admitted-e.ensures c.if-e-ne0.true
 
 pub middle-requires : goal.middle-requires
 middle-requires c =
-    full_some _ _ _ _ _ c.requires _ _ _ ((c.sizes_of.ensures ∙ c.in-Are.is)) _ _ _ c.first_words-firsts.ensures c.first_words-seconds.ensures
+    full_some _ _ _ _ _ c.requires _ _ _ ((c.sizes_of.ensures ∙ c.in-Some.is)) _ _ _ c.first_words-firsts.ensures c.first_words-seconds.ensures
     c.first_words.ensures
 
 pub returns : goal.returns
 returns c =
-    full_turned _ _ _ _ _ c.requires _ _ _ ((c.sizes_of.ensures ∙ c.in-Are.is)) _ _ _ c.first_words-firsts.ensures c.first_words-seconds.ensures
+    full_turned _ _ _ _ _ c.requires _ _ _ ((c.sizes_of.ensures ∙ c.in-Some.is)) _ _ _ c.first_words-firsts.ensures c.first_words-seconds.ensures
     c.first_words.ensures _ _ _ _ _ _ _ c.turn_admitted-e.ensures c.middle.result c.middle.ensures c.if-e-ne0.false

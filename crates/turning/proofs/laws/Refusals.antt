@@ -20,8 +20,8 @@ use Rattle.turning.specs.Turning.{reversed, column, columns, turned, is_poly, mi
 use Rattle.turning.specs.Lent.{Lent}
 
 pub turnable_as : (named : Option Kind) (p q r : ℕ) {a t : Bool} {s z : Option (ℕ × ℕ × ℕ)}
-    → is_poly named ≡ a → sizes (shape_of kind.Poly p q r) ≡ s → eqb p q ≡ t → sizes (middle_of p) ≡ z
-    → turnable named p q r ≡ refuse 2 (not a) (need 3 s λ _. refuse 3 (not t) (need 3 z λ _. accepted tt))
+    → not (is_poly named) ≡ a → sizes (shape_of kind.Poly p q r) ≡ s → eqb p q ≡ t → sizes (middle_of p) ≡ z
+    → turnable named p q r ≡ refuse 2 a (need 3 s λ _. refuse 3 (not t) (need 3 z λ _. accepted tt))
 unfolding turnable
 turnable_as named p q r A S T Z = rw (A, S, T, Z)
 
