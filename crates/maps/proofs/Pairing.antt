@@ -12,7 +12,8 @@ use Rattle.kinds.specs.declared.Shape.{Shape}
 use Rattle.forms.specs.products.Product.{form_of}
 use Rattle.maps.specs.Target.{pair_for, pair}
 
-pub mat_as : (p q r t i j : ℕ) {u v : Bool} → eqb (i / q) (t / r) ≡ u → eqb (i % q) (j / r) ≡ v → pair_for kind.Mat p q r t i j ≡ u && (v && eqb (j % r) (t % r))
+pub mat_as : (p q r t i j : ℕ) {u v : Bool} → eqb (i / q) (t / r) ≡ u → eqb (i % q) (j / r) ≡ v
+    → pair_for kind.Mat p q r t i j ≡ u && (v && eqb (j % r) (t % r))
 unfolding pair_for
 mat_as p q r t i j a b = rw (a, b)
 
