@@ -34,9 +34,6 @@ returns-in-Refused c =
           (λ (x : Answer (Option ℕ × ℕ)). numbers_lent x args.reply.now) (sym e),
     )
 
-pub shape_of-reply-in-Right : goal.shape_of-reply-in-Right
-shape_of-reply-in-Right c = c.put_three.auto.words
-
 pub returns-in-Right : goal.returns-in-Right
 returns-in-Right c =
     let args = c.args in
@@ -49,9 +46,6 @@ returns-in-Right c =
       c.put_three.ensures ∙ n.1 ∙ ap
           (λ (x : Answer (Option ℕ × ℕ)). numbers_lent x args.reply.now) (sym e),
     )
-
-pub shape_of-reply-in-Wrong : goal.shape_of-reply-in-Wrong
-shape_of-reply-in-Wrong c = c.put_three-in-Wrong.auto.words
 
 pub returns-in-Wrong : goal.returns-in-Wrong
 returns-in-Wrong c =

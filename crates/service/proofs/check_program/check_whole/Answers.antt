@@ -29,7 +29,7 @@ returns-else-n-gt35 c =
     let args = c.args in
     let pre = c.requires in
     let gijpsando-check = c.gijpsando_check-n in
-    let refused-text2 = c.refused_text-2 in (
+    let refused-text2 = c.refused_text-else-n-gt35 in (
       print_refusal args.file.now args.out.now _ _ gijpsando-check.result _ pre gijpsando-check.ensures.0 gijpsando-check.ensures.1
           (omega arith) refused-text2.ensures.0 refused-text2.ensures.1
           ∙ program_short args.file.now (omega arith),
