@@ -5,7 +5,7 @@
 
 ghost use Rattle.std.specs.Prelude.{◌≡◌, ◌<◌, ◌≤◌, length};
 ghost use Rattle.kinds.specs.Limits.{most_products};
-ghost use Rattle.linear.specs.Prices.{total, earlier};
+ghost use Rattle.linear.specs.Prices.{total};
 ghost use Rattle.cheapest.specs.Offers.{Listed, Costed, Along, taken_along, Taken, Written, better, replaced, offered};
 
 use bases::Basis;
@@ -23,19 +23,13 @@ fn take_along(gens: &[u64], h: &[u64], order: &[u64], numbers: &mut [u64]) -> us
 {
     let mut b = Basis::empty();
     let mut n = 0;
-    let mut i = 0;
-    while i < order.len() {
-        let j = order[i] as usize;
+    for x in order {
+        let j = *x as usize;
         let g = gens[j];
-        if h[j] != 0 {
-            i += 1;
-        } else if b.contains(g) {
-            i += 1;
-        } else {
+        if h[j] == 0 && !b.contains(g) {
             b = b.insert(g);
-            ordering::place(numbers, n, order[i]);
+            ordering::place(numbers, n, *x);
             n += 1;
-            i += 1;
         }
     }
     n
@@ -47,11 +41,8 @@ fn total(prices: &[u64], numbers: &[u64]) -> u64
     ensures { result ≡ total prices.now numbers.now }
 {
     let mut sum = 0;
-    let mut k = 0;
-    while k < numbers.len() {
-        let j = numbers[k] as usize;
-        sum += prices[j];
-        k += 1;
+    for x in numbers {
+        sum += prices[*x as usize];
     }
     sum
 }
@@ -70,33 +61,12 @@ fn choose_along(gens: &[u64], h: &[u64], order: &[u64], prices: &[u64], out: &mu
     n
 }
 
-// Whether a stands before b in a dictionary: of two formulae the cheaper, among equals the one whose numbers come first.
-fn precedes(a: &[u64], b: &[u64]) -> bool
-    requires { length a.now ≡ length b.now }
-    ensures { result ≡ earlier a.now b.now }
-{
-    let mut i = 0;
-    while i < a.len() {
-        if a[i] < b[i] {
-            return true;
-        }
-        if b[i] < a[i] {
-            return false;
-        }
-        i += 1;
-    }
-    false
-}
-
-// Whether a is the first one or stands before b.
+// Whether a is the first one or stands before b in a dictionary: of two formulae the cheaper, among equals the one whose numbers come first.
 fn is_better(first: bool, a: &[u64], b: &[u64]) -> bool
     requires { length a.now ≡ length b.now }
     ensures { result ≡ better first a.now b.now }
 {
-    if first {
-        return true;
-    }
-    precedes(a, b)
+    first || a < b
 }
 
 // `new` from the start of `held`, where it is the first one or stands before what is held.

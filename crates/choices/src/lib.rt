@@ -32,8 +32,8 @@ pub fn add(c: Choice, j: usize, g: u64) -> Choice
     numbers[n] = j as u64;
     forms[n] = g;
     Choice {
-        numbers: numbers,
-        forms: forms,
+        numbers,
+        forms,
         len: n + 1,
     }
 }
@@ -44,24 +44,16 @@ pub fn choose(gens: &[u64], marks: &[u8]) -> Choice
     ensures { Chose gens.now
         (greedy word gens.now (marked marks.now) [] (length gens.now) 0) result }
 {
-    let n = gens.len();
     let mut b = Basis::empty();
     let mut c = Choice {
         numbers: [0u64; kinds::PRODUCTS],
         forms: [0u64; kinds::PRODUCTS],
         len: 0,
     };
-    let mut i = 0;
-    while i < n {
-        let g = gens[i];
-        if marks[i] != 1 {
-            i += 1;
-        } else if b.contains(g) {
-            i += 1;
-        } else {
-            b = b.insert(g);
-            c = add(c, i, g);
-            i += 1;
+    for (i, g) in gens.iter().enumerate() {
+        if marks[i] == 1 && !b.contains(*g) {
+            b = b.insert(*g);
+            c = add(c, i, *g);
         }
     }
     c
@@ -77,11 +69,9 @@ pub fn pick(gens: &[u64], numbers: &[u64]) -> Choice
         forms: [0u64; kinds::PRODUCTS],
         len: 0,
     };
-    let mut i = 0;
-    while i < numbers.len() {
-        let j = numbers[i] as usize;
+    for x in numbers {
+        let j = *x as usize;
         c = add(c, j, gens[j]);
-        i += 1;
     }
     c
 }
@@ -94,12 +84,8 @@ fn put_rows(products: &[u64], targets: &[u64], out: &mut [u64], at: usize)
 {
     let n = products.len();
     let e = bases::rows::echelon_of(products);
-    let rows = e.rows;
-    let masks = e.masks;
-    let mut i = 0;
-    while i < targets.len() {
-        out[at + i] = bases::rows::rest_of(&rows[..n], &masks[..n], targets[i]).mask;
-        i += 1;
+    for (i, target) in targets.iter().enumerate() {
+        out[at + i] = bases::rows::rest_of(&e.rows[..n], &e.masks[..n], *target).mask;
     }
 }
 
@@ -108,9 +94,6 @@ pub fn write_formula(c: Choice, targets: &[u64], out: &mut [u64], at: usize)
     requires { (Whole c) × (at + (c.len + length targets.now) ≤ length out.old) × Solves (forms_of c) targets.now }
     ensures { out.new ≡ paste out.old at (record_of c targets.now) (c.len + length targets.now) }
 {
-    let n = c.len;
-    let numbers = c.numbers;
-    let products = c.forms;
-    words::copy(&numbers[..n], out, at);
-    put_rows(&products[..n], targets, out, at + n);
+    words::copy(&c.numbers[..c.len], out, at);
+    put_rows(&c.forms[..c.len], targets, out, at + c.len);
 }

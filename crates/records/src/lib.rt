@@ -36,7 +36,7 @@ pub fn push(c: Chain, j: usize) -> Chain
     let n = c.len;
     numbers[n] = j as u64;
     Chain {
-        numbers: numbers,
+        numbers,
         len: n + 1,
     }
 }
@@ -52,8 +52,7 @@ pub fn count(t: Tally, limit: u64, size: usize, room: usize) -> Tally
     if room - t.at < size {
         return Tally {
             found: t.found + 1,
-            shown: t.shown,
-            at: t.at,
+            ..t
         };
     }
     Tally {
@@ -68,16 +67,11 @@ pub fn keep(b: Basis, c: Chain, t: Tally, limit: u64, out: &mut [u64]) -> Tally
     requires { EntryKeeping b c t limit out.old }
     ensures { state_of result out.new ≡ note limit (state_of t out.old) (chain_of c ++ rows_of b) }
 {
-    let cl = c.len;
-    let bl = b.len;
-    let r = count(t, limit, cl + bl, out.len());
+    let r = count(t, limit, c.len + b.len, out.len());
     if r.shown == t.shown {
         return r;
     }
-    let at = t.at;
-    let numbers = c.numbers;
-    words::copy(&numbers[..cl], out, at);
-    let rows = b.rows;
-    words::copy(&rows[..bl], out, at + cl);
+    words::copy(&c.numbers[..c.len], out, t.at);
+    words::copy(&b.rows[..b.len], out, t.at + c.len);
     r
 }

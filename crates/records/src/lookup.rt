@@ -8,21 +8,12 @@ use words::first_words;
 pub fn entry(listing: &[u64], ell: u64, k: u64, shown: u64, number: u64) -> &[u64]
     ensures { result.now ≡ lookup ell k shown number listing.now }
 {
-    if number >= shown {
-        return &listing[..0];
-    }
-    if k < ell {
-        return &listing[..0];
-    }
     let room = listing.len() as u64;
-    if k > room {
+    if number >= shown || k < ell || k > room {
         return &listing[..0];
     }
     let size = (k - ell) + k;
-    if size == 0 {
-        return &listing[..0];
-    }
-    if number >= room / size {
+    if size == 0 || number >= room / size {
         return &listing[..0];
     }
     let at = (number * size) as usize;
@@ -39,22 +30,12 @@ fn words_behind(a: &[u64], n: usize) -> &[u64]
     &a[n..]
 }
 
-// How many numbers an extension has.
-fn extension_length(k: u64, ell: u64) -> u64
-    ensures { result ≡ k - ell }
-{
-    if k < ell {
-        return 0;
-    }
-    k - ell
-}
-
 // The extension of that entry: the numbers at the front of its record.
 pub fn extension(listing: &[u64], ell: u64, k: u64, shown: u64, number: u64) -> &[u64]
     ensures { result.now ≡ take (k - ell) (lookup ell k shown number listing.now) }
 {
     let record = entry(listing, ell, k, shown, number);
-    first_words(record, extension_length(k, ell) as usize)
+    first_words(record, k.saturating_sub(ell) as usize)
 }
 
 // The rows of that entry's basis: the rest of its record.
@@ -62,5 +43,5 @@ pub fn rows(listing: &[u64], ell: u64, k: u64, shown: u64, number: u64) -> &[u64
     ensures { result.now ≡ drop (k - ell) (lookup ell k shown number listing.now) }
 {
     let record = entry(listing, ell, k, shown, number);
-    words_behind(record, extension_length(k, ell) as usize)
+    words_behind(record, k.saturating_sub(ell) as usize)
 }

@@ -34,8 +34,8 @@ fn in_row(gens: &[u64], s: &[u64], v: &[u64], u: Place, heads: &[u16], links: &[
     let x = v[g];
     if x == 0 {
         return Place {
-            base: base,
-            g: g,
+            base,
+            g,
             h: n + 1,
             e: 0,
         };
@@ -47,22 +47,12 @@ fn in_row(gens: &[u64], s: &[u64], v: &[u64], u: Place, heads: &[u16], links: &[
         let f = gens[g] ^ rows::form_at(gens, h);
         e = pairs::next_match(gens, s, v, base, g, y, f, e, links);
         if e != 0 {
-            return Place {
-                base: base,
-                g: g,
-                h: h,
-                e: e,
-            };
+            return Place { base, g, h, e };
         }
         h = rows::next_filled(v, n, heads, x, h + 1);
         e = rows::head_at(v, n, heads, x, h);
     }
-    Place {
-        base: base,
-        g: g,
-        h: h,
-        e: 0,
-    }
+    Place { base, g, h, e: 0 }
 }
 
 // A number before the first that is wanted in the row of `g`: `g` itself, or, where the last one only is wanted, the one before `n`.
@@ -70,10 +60,7 @@ fn before_row(lines: bool, g: usize, n: usize) -> usize
     requires { (0 < n) × (g ≤ n) }
     ensures { Begins lines n g result }
 {
-    if lines {
-        return n - 1;
-    }
-    g
+    if lines { n - 1 } else { g }
 }
 
 // The next match in the block: in the row of `u.g` from `u.h` and the pointer `u.e` on, or in a later row. Where there is none, `e` is 0.
@@ -99,14 +86,14 @@ fn in_block(
         }
         let g = p.g + 1;
         p = Place {
-            base: base,
-            g: g,
+            base,
+            g,
             h: before_row(lines, g, n),
             e: 0,
         };
     }
     Place {
-        base: base,
+        base,
         g: p.g,
         h: p.h,
         e: 0,
@@ -147,7 +134,7 @@ fn seek(
         let base = p.base + pairs::BLOCK;
         table(gens, v, base, heads, links);
         p = Place {
-            base: base,
+            base,
             g: base,
             h: n,
             e: 0,

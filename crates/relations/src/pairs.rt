@@ -27,27 +27,10 @@ pub fn values(d: &[u64], start: usize, w: &[u8], gone: &[u8], v: &mut [u64])
         × (v.old ≡ replicate search_room 0) }
     ensures { Values d.now start w.now gone.now v.new }
 {
-    let mut i = start;
-    while i < d.len() {
-        if w[i] != 1 {
-            i += 1;
-        } else if gone[i] != 0 {
-            i += 1;
-        } else {
+    for i in start..d.len() {
+        if w[i] == 1 && gone[i] == 0 {
             v[i] = d[i];
-            i += 1;
         }
-    }
-}
-
-// All heads 0.
-fn clear_heads(heads: &mut [u16])
-    ensures { heads.new ≡ replicate (length heads.old) 0 }
-{
-    let mut q = 0;
-    while q < heads.len() {
-        heads[q] = 0;
-        q += 1;
     }
 }
 
@@ -58,16 +41,12 @@ fn link_row(v: &[u64], n: usize, base: usize, i: usize, heads: &mut [u16], links
 {
     let z = v[i];
     let at = (i - base) * 4096;
-    let mut j = i + 1;
-    while j < n {
+    for j in i + 1..n {
         let y = v[j];
-        if y == 0 {
-            j += 1;
-        } else {
+        if y != 0 {
             let q = bucket(z ^ y);
             links[at + j] = heads[q];
             heads[q] = (at + j + 1) as u16;
-            j += 1;
         }
     }
 }
@@ -77,7 +56,7 @@ fn block_end(n: usize, base: usize) -> usize
     requires { (n ≤ search_room) × (base ≤ n) }
     ensures { BlockEnd n base result }
 {
-    if base + BLOCK < n { base + BLOCK } else { n }
+    n.min(base + BLOCK)
 }
 
 // The table of the pairs of the block from `base` on, of the first `n` values. What `heads` holds before plays no part.
@@ -86,15 +65,11 @@ pub fn link(v: &[u64], n: usize, base: usize, heads: &mut [u16], links: &mut [u1
         × Falling links.old }
     ensures { Headed v.now n base heads.new × Chained v.now n base links.new }
 {
-    clear_heads(heads);
+    heads.fill(0);
     let end = block_end(n, base);
-    let mut i = base;
-    while i < end {
-        if v[i] == 0 {
-            i += 1;
-        } else {
+    for i in base..end {
+        if v[i] != 0 {
             link_row(v, n, base, i, heads, links);
-            i += 1;
         }
     }
 }
@@ -115,13 +90,7 @@ fn is_match(
 {
     let i = base + x / 4096;
     let j = x % 4096;
-    if v[i] ^ v[j] != y {
-        return false;
-    }
-    if g <= j {
-        return false;
-    }
-    forms::reduce_rows(s, gens[i] ^ gens[j] ^ f) != 0
+    v[i] ^ v[j] == y && j < g && forms::reduce_rows(s, gens[i] ^ gens[j] ^ f) != 0
 }
 
 // The first pair, from the pointer `e` on along its chain, that stands before `g` and has the sum `y`, where its generators' sum with the form `f` is not in

@@ -9,10 +9,7 @@ ghost use Rattle.relations.specs.rows.Rows.{Valued, NextFilled};
 pub fn form_at(gens: &[u64], h: usize) -> u64
     ensures { result ≡ get_or gens.now h 0 }
 {
-    if h < gens.len() {
-        return gens[h];
-    }
-    0
+    if h < gens.len() { gens[h] } else { 0 }
 }
 
 // The value of the number `h`, 0 from `n` on.
@@ -20,10 +17,7 @@ pub fn value_at(v: &[u64], n: usize, h: usize) -> u64
     requires { Valued v.now n }
     ensures { result ≡ get_or v.now h 0 }
 {
-    if h < n {
-        return v[h];
-    }
-    0
+    if h < n { v[h] } else { 0 }
 }
 
 // The head of the bucket of the sum of `x` and the value of `h`.
@@ -40,21 +34,13 @@ pub fn next_filled(v: &[u64], n: usize, heads: &[u16], x: u64, from: usize) -> u
     requires { Valued v.now n × (length heads.now ≡ head_room) × (from ≤ suc n) }
     ensures { NextFilled v.now n heads.now x from result }
 {
-    let mut h = from;
-    while h < n {
+    for h in from..n {
         let y = v[h];
-        if y == 0 {
-            h += 1;
-        } else if heads[super::pairs::bucket(x ^ y)] != 0 {
+        if y != 0 && heads[super::pairs::bucket(x ^ y)] != 0 {
             return h;
-        } else {
-            h += 1;
         }
     }
-    if n < h {
-        return h;
-    }
-    if head_at(v, n, heads, x, n) != 0 {
+    if from <= n && head_at(v, n, heads, x, n) != 0 {
         return n;
     }
     n + 1

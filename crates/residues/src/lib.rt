@@ -22,10 +22,8 @@ pub fn residues(gens: &[u64], b: Basis, out: &mut [u64; SEARCH_ROOM])
     requires { (Valid b) × (length gens.now ≤ search_room) × (length out.old ≡ search_room) }
     ensures { Mapped (reduce word (rows_of b)) gens.now out.new }
 {
-    let mut i = 0;
-    while i < gens.len() {
-        out[i] = b.reduce(gens[i]);
-        i += 1;
+    for (i, g) in gens.iter().enumerate() {
+        out[i] = b.reduce(*g);
     }
 }
 
@@ -34,10 +32,8 @@ pub fn child(h: &[u64], x: u64, out: &mut [u64])
     requires { (length h.now ≤ search_room) × (length out.old ≡ search_room) }
     ensures { Mapped (clear word x) h.now out.new }
 {
-    let mut i = 0;
-    while i < h.len() {
-        out[i] = forms::clear(x, h[i]);
-        i += 1;
+    for (i, v) in h.iter().enumerate() {
+        out[i] = forms::clear(x, *v);
     }
 }
 
@@ -47,17 +43,7 @@ pub fn known(h: &[u64], j: usize) -> bool
     ensures { result ≡ known h.now j }
 {
     let v = h[j];
-    if v == 0 {
-        return true;
-    }
-    let mut i = 0;
-    while i < j {
-        if h[i] == v {
-            return true;
-        }
-        i += 1;
-    }
-    false
+    v == 0 || h[..j].contains(&v)
 }
 
 // The basis `s` with the generators of residue `x` put in.
@@ -66,12 +52,10 @@ pub fn with_residue(gens: &[u64], h: &[u64], x: u64, s: Basis) -> Basis
     ensures { Holds (inserts word (rows_of s) (with_residue x gens.now h.now)) result }
 {
     let mut b = s;
-    let mut i = 0;
-    while i < gens.len() {
+    for (i, g) in gens.iter().enumerate() {
         if h[i] == x {
-            b = b.insert(gens[i]);
+            b = b.insert(*g);
         }
-        i += 1;
     }
     b
 }
@@ -97,8 +81,7 @@ pub fn take(gens: &[u64], h: &[u64], x: u64, s: Basis, flags: &[u8]) -> Taken
     ensures { Took gens.now h.now x s flags.now result }
 {
     let mut b = s;
-    let mut i = 0;
-    while i < gens.len() {
+    for (i, g) in gens.iter().enumerate() {
         if h[i] == x {
             if flags[i] != 0 {
                 return Taken {
@@ -106,9 +89,8 @@ pub fn take(gens: &[u64], h: &[u64], x: u64, s: Basis, flags: &[u8]) -> Taken
                     basis: b,
                 };
             }
-            b = b.insert(gens[i]);
+            b = b.insert(*g);
         }
-        i += 1;
     }
     Taken {
         flagged: false,

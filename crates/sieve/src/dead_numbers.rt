@@ -8,13 +8,9 @@ pub fn flag_before(h: &[u64], start: usize, flags: &mut [u8])
     requires { (start ≤ length h.now) × (length h.now ≤ search_room) × (flags.old ≡ replicate search_room 0) }
     ensures { FlaggedBefore h.now start flags.new }
 {
-    let mut i = 0;
-    while i < start {
+    for i in 0..start {
         if h[i] != 0 {
             flags[i] = 1;
-            i += 1;
-        } else {
-            i += 1;
         }
     }
 }

@@ -11,8 +11,7 @@ fn third_row(d: &[u64], u: Place, n: usize) -> u64
     requires { u.g < length d.now }
     ensures { result ≡ third_row d.now u n }
 {
-    let g = u.g;
-    if u.h < n { d[g] } else { 0 }
+    if u.h < n { d[u.g] } else { 0 }
 }
 
 // The residues at the space of `d` and the first two generators of the relation at `u`, or, where that has four, the first three, in `mine`; and the basis of

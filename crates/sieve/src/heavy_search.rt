@@ -20,18 +20,12 @@ fn first_new(h: &[u64], d: &[u64], x: u64, start: usize) -> usize
     requires { (length h.now ≡ length d.now) × (start ≤ length h.now) }
     ensures { FirstNew h.now (map (clear word x) d.now) start result }
 {
-    let mut j = start;
-    while j < h.len() {
-        if forms::clear(x, d[j]) == 0 {
-            if h[j] != 0 {
-                return j;
-            }
-            j += 1;
-        } else {
-            j += 1;
+    for j in start..h.len() {
+        if forms::clear(x, d[j]) == 0 && h[j] != 0 {
+            return j;
         }
     }
-    j
+    h.len()
 }
 
 // Marks the number that the walk goes on with to the child of `d` by `x`, unless it is known.
@@ -40,13 +34,9 @@ fn finish(h: &[u64], d: &[u64], x: u64, start: usize, marks: &mut [u8])
     ensures { Finished h.now (map (clear word x) d.now) start marks.old marks.new }
 {
     let j = first_new(h, d, x, start);
-    if j == h.len() {
-        return;
+    if j < h.len() && !residues::known(h, j) {
+        marks[j] = 1;
     }
-    if residues::known(h, j) {
-        return;
-    }
-    marks[j] = 1;
 }
 
 // The weight up to which all are too light where `missing` dimensions are missing and `n` of `k` dimensions are there: 0, or below its part of what
@@ -78,13 +68,8 @@ fn step(
 {
     let x = d[i];
     let t = residues::take(gens, d, x, s, gone);
-    if t.flagged {
-        return;
-    }
-    let b = t.basis;
-    if b.len == k {
+    if !t.flagged && t.basis.len == k {
         finish(h, d, x, start, marks);
-        return;
     }
 }
 
@@ -116,7 +101,7 @@ fn close(
 pub fn needed(k: usize, n: usize) -> usize
     ensures { result ≡ k - n }
 {
-    if n < k { k - n } else { 0 }
+    k.saturating_sub(n)
 }
 
 // Meets the spaces for `k` over that of `d` and the generator with the number `j`, one dimension more: of the values beside that of `j` only those
@@ -231,11 +216,9 @@ fn relate(
     let mut links = [0u16; relations::pairs::LINKS];
     let mut other = [0u64; residues::SEARCH_ROOM];
     let mut mine = [0u64; residues::SEARCH_ROOM];
-    let basis = s.rows;
-    let len = s.len;
     let mut u = relations::first_place(
         gens,
-        first_words(&basis, len),
+        first_words(&s.rows, s.len),
         &v,
         lines,
         start,
@@ -261,7 +244,7 @@ fn relate(
         }
         u = relations::next_place(
             gens,
-            first_words(&basis, len),
+            first_words(&s.rows, s.len),
             &v,
             lines,
             u,
@@ -294,19 +277,17 @@ pub fn find(
     let n = gens.len();
     let mut slots = [0u16; weights::SLOTS];
     let mut w = [0u8; residues::SEARCH_ROOM];
-    let basis = s.rows;
-    let len = s.len;
     let top = weights::fill(
         gens,
         d,
         start,
         &dead,
-        &basis[..len],
+        &s.rows[..s.len],
         &mut slots,
         rows,
         &mut w,
     );
-    let least = light(k, len, missing);
+    let least = light(k, s.len, missing);
     if top <= least {
         return;
     }

@@ -21,13 +21,7 @@ fn half(left: usize) -> u8
 fn beside(w: u8, gone: u8, least: u8) -> u8
     ensures { result ≡ 0 → (w < least) ⊎ (gone ≢ 0) }
 {
-    if w < least {
-        return 0;
-    }
-    if gone != 0 {
-        return 0;
-    }
-    1
+    if w < least || gone != 0 { 0 } else { 1 }
 }
 
 // Marks the numbers from `start` on and below `n` that have half of `left` and are not gone. One short step a number: most numbers end here.
@@ -36,10 +30,8 @@ fn halves(start: usize, n: usize, left: usize, gone: &[u8], w: &[u8], picks: &mu
     ensures { Halved start n left gone.now w.now picks.new }
 {
     let least = half(left);
-    let mut i = start;
-    while i < n {
+    for i in start..n {
         picks[i] = beside(w[i], gone[i], least);
-        i += 1;
     }
 }
 
@@ -48,13 +40,12 @@ fn third(d: &[u64], i: usize, x: u64, left: usize, slots: &[u16], w: &[u8]) -> u
     requires { ThirdAsked d.now i slots.now w.now }
     ensures { result ≡ 0 → Third d.now i x left w.now (weight_of slots.now d.now w.now) }
 {
-    if d[i] == x {
-        return 0;
+    let y = d[i];
+    if y == x || (w[i] as usize) + weights::weight_of(slots, d, w, y ^ x) < left {
+        0
+    } else {
+        1
     }
-    if (w[i] as usize) + weights::weight_of(slots, d, w, d[i] ^ x) < left {
-        return 0;
-    }
-    1
 }
 
 // Marks in `picks` the numbers from `start` on that have to be looked at beside `x`. Whether there is one.

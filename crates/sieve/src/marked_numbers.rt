@@ -7,12 +7,10 @@ pub fn next_marked(marks: &[u8], from: usize, n: usize) -> usize
     requires { (from ≤ n) × (n ≤ length marks.now) }
     ensures { NextMarked marks.now from n result }
 {
-    let mut j = from;
-    while j < n {
+    for j in from..n {
         if marks[j] != 0 {
             return j;
         }
-        j += 1;
     }
     n
 }
@@ -22,12 +20,10 @@ pub fn next_with(marks: &[u8], mark: usize, from: usize, n: usize) -> usize
     requires { (from ≤ n) × (n ≤ length marks.now) }
     ensures { NextWith marks.now mark from n result }
 {
-    let mut i = from;
-    while i < n {
+    for i in from..n {
         if marks[i] as usize == mark {
             return i;
         }
-        i += 1;
     }
     n
 }

@@ -38,26 +38,22 @@ fn few_lines(gens: &[u64], d: &[u64], start: usize, s: Basis, dead: &[u8], w: &[
     relations::pairs::values(d, start, w, dead, &mut v);
     let mut heads = [0u16; relations::pairs::HEADS];
     let mut links = [0u16; relations::pairs::LINKS];
-    let basis = s.rows;
-    let len = s.len;
-    let mut left = 2 * (n - start);
     let mut u = relations::first_place(
         gens,
-        first_words(&basis, len),
+        first_words(&s.rows, s.len),
         &v,
         true,
         start,
         &mut heads,
         &mut links,
     );
-    while u.base < n {
-        if left == 0 {
-            return false;
+    for _ in 0..2 * (n - start) {
+        if n <= u.base {
+            return true;
         }
-        left -= 1;
         u = relations::next_place(
             gens,
-            first_words(&basis, len),
+            first_words(&s.rows, s.len),
             &v,
             true,
             u,
@@ -65,7 +61,7 @@ fn few_lines(gens: &[u64], d: &[u64], start: usize, s: Basis, dead: &[u8], w: &[
             &mut links,
         );
     }
-    true
+    n <= u.base
 }
 
 // The same, but 0 where that is 3 and there are many relations of three values. `s` is the basis of the generators in the space of `d`.
@@ -82,13 +78,10 @@ pub fn chosen_size(
     requires { Counting gens.now d.now start s dead.now w.now × (missing ≤ 8) }
     ensures { RelationSize k s.len missing result }
 {
-    let len = s.len;
-    let size = relation_size(k, len, missing);
-    if size != 3 {
-        return size;
+    let size = relation_size(k, s.len, missing);
+    if size == 3 && !few_lines(gens, d, start, s, dead, w) {
+        0
+    } else {
+        size
     }
-    if few_lines(gens, d, start, s, dead, w) {
-        return size;
-    }
-    0
 }

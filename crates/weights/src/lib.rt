@@ -92,18 +92,9 @@ pub fn fill(
     ensures { TableFilled gens.now d.now start dead.now slots.new w.new result }
 {
     let mut top = 0;
-    let mut i = start;
-    while i < d.len() {
-        if dead[i] != 0 {
-            i += 1;
-        } else if d[i] == 0 {
-            i += 1;
-        } else {
-            let r = enter(gens, d, i, s, slots, rows, w);
-            if top < r {
-                top = r;
-            }
-            i += 1;
+    for i in start..d.len() {
+        if dead[i] == 0 && d[i] != 0 {
+            top = top.max(enter(gens, d, i, s, slots, rows, w));
         }
     }
     top

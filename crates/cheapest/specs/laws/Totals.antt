@@ -1,12 +1,13 @@
--- Prices summed one after the other, and lists compared from the front.
+-- Prices summed one after the other, and lists compared as in a dictionary.
 --   Summing prices es sum i            == sum is what the first i numbers of es cost
 --   summing_start, number_there, summing_small, summing_next, summing_end   the loop: the number has a price, the sum of 64 prices is small
---   Comparing xs ys i                  == what stands from i on decides
---   comparing_start, comparing_less, comparing_greater, comparing_next, comparing_end   the loop
+--   dictionary                         std's order of two lists of numbers is that of a dictionary
 -- Assumes nothing.
-use Rattle.std.specs.Prelude.{◌≡◌, refl, Bool, true, false, ◌&&◌, ◌||◌, List, ℕ, ◌+◌, ◌*◌, ◌<◌, ◌≤◌, eqb, ltb, length, drop}
-use Rattle.std.proofs.Math.Path.{sym, ap}
-use Rattle.std.proofs.Common.{ap₂, ◌∙◌, lt-ltb, le-ltb, eq-eqb, ne_eqb, drop_of_length-le}
+use Rattle.std.specs.Ordering.{is_lt, is_some_and, partial_ordering_then, nat_cmp}
+use Rattle.std.specs.Cmp.Lexicographic.{slice_partial_cmp}
+use Rattle.std.specs.Prelude.{◌≡◌, refl, Bool, true, false, cond, ◌&&◌, ◌||◌, List, [], ◌∷◌, ℕ, ◌+◌, ◌*◌, ◌<◌, ◌≤◌, eqb, ltb, length, drop}
+use Rattle.std.proofs.Math.Path.{ap}
+use Rattle.std.proofs.Common.{Option, Some, Ordering, Less, Equal, Greater, drop_of_length-le}
 use native.Mathlib.Omega.{arith}
 use Rattle.std.proofs.Math.ListN.{get_or}
 use Rattle.words.specs.laws.Scan.{next}
@@ -46,35 +47,15 @@ module _ (prices es : List ℕ) where
   summing_end sum i S l = let e : total prices (drop i es) ≡ 0 = ap (total prices) (drop_of_length-le es l) in let f = S.is in omega arith
 
 -- ---- dictionary order
-module _ (xs ys : List ℕ) where
-  pub record Comparing (i : ℕ) : Type 0 where
-    pub within : i ≤ length xs
-    pub is : earlier (drop i xs) (drop i ys) ≡ earlier xs ys
+first_decides : (t u : Bool) (rest : Option Ordering) (r : Bool) → is_some_and is_lt rest ≡ r
+    → is_some_and is_lt (partial_ordering_then (Some (cond t Less (cond u Equal Greater))) rest) ≡ (t || (u && r))
+first_decides true u rest r e = refl
+first_decides false true rest r e = e
+first_decides false false rest r e = refl
 
-  pub comparing_start : Comparing 0
-  comparing_start = record { within = omega arith; is = refl }
-
-  module _ (i : ℕ) (C : Comparing i) (l : i < length xs) (k : i < length ys) where
-    turn : {s t : Bool} → ltb (get_or xs i 0) (get_or ys i 0) ≡ s → eqb (get_or xs i 0) (get_or ys i 0) ≡ t
-        → s || (t && earlier (drop (i + 1) xs) (drop (i + 1) ys)) ≡ earlier xs ys
-    unfolding earlier
-    turn p q =
-        sym (ap₂ (λ (s t : Bool). s || (t && earlier (drop (i + 1) xs) (drop (i + 1) ys))) p q) ∙ sym (ap₂ earlier (next xs i l) (next ys i k)) ∙ C.is
-
-    pub comparing_less : get_or xs i 0 < get_or ys i 0 → true ≡ earlier xs ys
-    comparing_less h = turn (lt-ltb (get_or xs i 0) (get_or ys i 0) h) refl
-
-    pub comparing_greater : get_or ys i 0 < get_or xs i 0 → false ≡ earlier xs ys
-    comparing_greater h =
-        turn (le-ltb (get_or xs i 0) (get_or ys i 0) (omega arith)) (ne_eqb (get_or xs i 0) (get_or ys i 0) (λ e. omega arith))
-
-    pub comparing_next : get_or ys i 0 ≤ get_or xs i 0 → get_or xs i 0 ≤ get_or ys i 0 → Comparing (i + 1)
-    comparing_next g h =
-        record {
-          within = omega arith;
-          is = turn (le-ltb (get_or xs i 0) (get_or ys i 0) g) (eq-eqb (get_or xs i 0) (get_or ys i 0) (omega arith));
-        }
-
-  pub comparing_end : (i : ℕ) → Comparing i → length xs ≤ i → length xs ≡ length ys → false ≡ earlier xs ys
-  unfolding earlier
-  comparing_end i C l e = sym (ap₂ earlier (drop_of_length-le xs l) (drop_of_length-le ys {i = i} (omega arith))) ∙ C.is
+pub dictionary : (xs ys : List ℕ) → is_some_and is_lt (slice_partial_cmp (λ x y. Some (nat_cmp x y)) xs ys) ≡ earlier xs ys
+unfolding earlier
+dictionary [] [] = refl
+dictionary [] (y ∷ ys) = refl
+dictionary (x ∷ xs) [] = refl
+dictionary (x ∷ xs) (y ∷ ys) = first_decides (ltb x y) (eqb x y) _ _ (dictionary xs ys)

@@ -1,5 +1,4 @@
 -- `choices::add` meets its contract. Assumes nothing.
-use borrow.Author.Rules.{rules}
 use Rattle.choices.specs.laws.Choosing.{added}
 use Rattle.choices.proofs.add.Goals as goal
 

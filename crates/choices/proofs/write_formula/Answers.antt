@@ -1,9 +1,6 @@
 -- `choices::write_formula` meets its contract. Assumes nothing.
-use borrow.Author.Rules.{rules}
 use native.Mathlib.Omega.{arith}
 use Rattle.choices.specs.laws.Writing.{numbers_length, forms_length, record_written}
-use Rattle.choices.proofs.put_rows.Reads as put-rows-reads
-use Rattle.words.proofs.copy.Reads as copy-reads
 use Rattle.choices.proofs.write_formula.Goals as goal
 
 pub slice_bounds-copy-end : goal.slice_bounds-copy-end

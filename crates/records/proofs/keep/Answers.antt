@@ -8,8 +8,8 @@ use Rattle.records.specs.laws.Counted.{sane_counting, kept_unshown, kept_room, k
 use Rattle.records.proofs.Keeping.{chain_length, lengths_fit, record_length_law, written}
 use Rattle.records.proofs.keep.Goals as goal
 
-pub overflow_add-cl : goal.overflow_add-cl
-overflow_add-cl c = lengths_fit c.requires
+pub overflow_add-c : goal.overflow_add-c
+overflow_add-c c = lengths_fit c.requires
 
 pub count-r-requires : goal.count-r-requires
 count-r-requires c = sane_counting c.args.limit c.args.t c.args.out.now c.requires.sane
@@ -44,8 +44,8 @@ slice_bounds-copy-end-2 c =
     let pre = c.requires in
     sym (rows_length args.b pre.valid)
 
-pub overflow_add-at : goal.overflow_add-at
-overflow_add-at c =
+pub overflow_add-t : goal.overflow_add-t
+overflow_add-t c =
     let args = c.args in
     let good = c.well_formed in
     let pre = c.requires in

@@ -1,6 +1,4 @@
 -- `residues::child` meets its contract: the words so far are the residues, cleared. Assumes nothing.
-use lib.ListN.{length}
-use Prim.Native.Nat.{◌-◌}
 use Rattle.linear.specs.Basis.{clear}
 use Rattle.linear.specs.Word.{word}
 use Rattle.residues.proofs.Loops.{Mapping}
@@ -8,6 +6,3 @@ use Rattle.residues.proofs.child.Given as goal
 
 abbrev pub invariant-loop-i : goal.invariant-loop-i
 invariant-loop-i l = Mapping (clear word l.x) l.h l.out l.i
-
-abbrev pub decreases-loop-i : goal.decreases-loop-i
-decreases-loop-i l = length l.h - l.i

@@ -1,6 +1,4 @@
 -- `residues::residues` meets its contract: the words so far are the residues. Assumes nothing.
-use lib.ListN.{length}
-use Prim.Native.Nat.{◌-◌}
 use Rattle.linear.specs.Basis.{reduce}
 use Rattle.linear.specs.Word.{word}
 use Rattle.bases.specs.Basis.{rows_of}
@@ -9,6 +7,3 @@ use Rattle.residues.proofs.residues.Given as goal
 
 abbrev pub invariant-loop-i : goal.invariant-loop-i
 invariant-loop-i l = Mapping (reduce word (rows_of l.b)) l.gens l.out l.i
-
-abbrev pub decreases-loop-i : goal.decreases-loop-i
-decreases-loop-i l = length l.gens - l.i

@@ -1,12 +1,7 @@
 -- `residues::with_residue` meets its contract: the generators to come, put into the basis so far, make the basis of all. Assumes nothing.
-use lib.ListN.{length}
-use Prim.Native.Nat.{◌-◌}
 use Rattle.bases.specs.Basis.{rows_of}
 use Rattle.residues.proofs.Loops.{Putting}
 use Rattle.residues.proofs.with_residue.Given as goal
 
 abbrev pub invariant-loop-i : goal.invariant-loop-i
 invariant-loop-i l = Putting l.gens l.h l.x (rows_of l.initial.b) l.b l.i
-
-abbrev pub decreases-loop-i : goal.decreases-loop-i
-decreases-loop-i l = length l.gens - l.i

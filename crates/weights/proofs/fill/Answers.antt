@@ -1,11 +1,14 @@
 -- `weights::fill` meets its contract: the numbers so far are in the table. Assumes nothing.
 use mathlib.Core.Path.{◌≡◌, sym, ◌∙◌}
-use mathlib.Core.Logic.{◌⊎◌, inl, inr}
-use Prim.Native.Nat.{◌<◌, ◌≤◌}
+use mathlib.Core.Logic.{◌⊎◌, ◌≢◌, inl, inr}
+use Prim.Native.Nat.{ℕ, ◌≤◌}
+use lib.ListN.{get_or}
+use Rattle.std.specs.Ordering.{ord_max, nat_cmp}
+use Rattle.std.proofs.Common.{rules}
 use native.Mathlib.Omega.{arith}
 use Rattle.weights.specs.laws.Fill.{blank_slots, blank_all, filling_start, filling_entering, filling_skip, filling_next, filling_end}
 use Rattle.weights.proofs.fill.Goals as goal
-use Rattle.weights.proofs.fill.Goals.{then-top-r, else-top-r}
+use Rattle.weights.proofs.fill.Goals.{then-dead-i-eq0+then-d-i-ne0, else-dead-i-eq0-via-then-dead-i-eq0+else-d-i-ne0, else-dead-i-eq0, else-dead-i-eq0-via-else-dead-i-eq0}
 
 pub loop-i-init : goal.loop-i-init
 loop-i-init c =
@@ -18,46 +21,37 @@ bounds-dead-i c =
     let p = c.requires in
     omega (arith, p.dead_all, p.few)
 
-pub loop-i-preserved-then-dead-i-ne0 : goal.loop-i-preserved-then-dead-i-ne0
-loop-i-preserved-then-dead-i-ne0 c =
-    let l = c.loop-i in
-    let a = c.args in
-    filling_skip a.gens.now a.d.now a.start a.dead.now a.s.now l.i l.slots l.rows l.w l.top l.invariant
-    c.loop-i-test.true (inl c.if-dead-i-ne0.true)
-
-pub loop-i-preserved-then-d-i-eq0 : goal.loop-i-preserved-then-d-i-eq0
-loop-i-preserved-then-d-i-eq0 c =
-    let l = c.loop-i in
-    let a = c.args in
-    filling_skip a.gens.now a.d.now a.start a.dead.now a.s.now l.i l.slots l.rows l.w l.top l.invariant
-    c.loop-i-test.true (inr c.if-d-i-eq0.true)
-
-pub enter-r-requires : goal.enter-r-requires
-enter-r-requires c =
+pub enter-requires : goal.enter-requires
+enter-requires c =
     let l = c.loop-i in
     let a = c.args in
     filling_entering a.gens.now a.d.now a.start a.dead.now a.s.now l.i l.slots l.rows l.w l.top l.invariant
-    c.loop-i-test.true
+    (omega arith)
+
+-- what `max` gives: one of the two, and none below either
+larger : (a b : ℕ) → (a ≤ ord_max nat_cmp a b) × (b ≤ ord_max nat_cmp a b) × ((ord_max nat_cmp a b ≡ a) ⊎ (ord_max nat_cmp a b ≡ b))
+larger a b = search rules
 
 pub loop-i-preserved : goal.loop-i-preserved
 loop-i-preserved c =
-    let a = c.args in
     let l = c.loop-i in
-    let E = c.enter-r in
-    let t = c.if-top-r in
-    let u : (l.top ≤ t.top) × (E.result ≤ t.top) × ((t.top ≡ l.top) ⊎ (t.top ≡ E.result)) =
-    elim t.branch [
-      | then-top-r w ↦
-          let e : t.top ≡ E.result = w.top-is in
-          let k : l.top < E.result = w.if-top-r.true in
-          (omega arith, omega arith, inr e)
-      | else-top-r w ↦
-          let e : t.top ≡ l.top = w.top-is in
-          let k : E.result ≤ l.top = w.if-top-r.false in
-          (omega arith, omega arith, inl e)
-    ] in
-    filling_next a.gens.now a.d.now a.start a.dead.now a.s.now l.i l.slots l.rows l.w l.top l.invariant c.loop-i-test.true c.if-d-i-eq0.false E.new.slots
-    E.new.rows E.new.w E.result t.top E.ensures E.auto.slots E.auto.rows E.auto.w u.0 u.1 u.2
+    let a = c.args in
+    let skip = filling_skip a.gens.now a.d.now a.start a.dead.now a.s.now l.i l.slots l.rows l.w l.top l.invariant in
+    elim c.if-dead-i-eq0.branch [
+      | then-dead-i-eq0+then-d-i-ne0 w ↦
+          let E = w.enter in
+          let u = larger l.top E.result in
+          rw (w.slots-is, w.rows-is, w.w-is, w.top-is, w.max-top.ensures)
+          (filling_next a.gens.now a.d.now a.start a.dead.now a.s.now l.i l.slots l.rows l.w l.top l.invariant (omega arith) w.if-d-i-ne0.true E.new.slots
+          E.new.rows E.new.w E.result _ E.ensures E.auto.slots E.auto.rows E.auto.w u.0 u.1 u.2)
+      | else-dead-i-eq0 w ↦
+          let why : (get_or a.dead.now l.i 0 ≢ 0) ⊎ (get_or a.d.now l.i 0 ≡ 0) =
+          elim w.else-dead-i-eq0.branch [
+            | else-dead-i-eq0-via-then-dead-i-eq0+else-d-i-ne0 v ↦ inr (omega (arith, v.if-d-i-ne0.false))
+            | else-dead-i-eq0-via-else-dead-i-eq0 v ↦ inl v.if-dead-i-eq0.false
+          ] in
+          rw (w.slots-is, w.rows-is, w.w-is, w.top-is) (skip (omega arith) why)
+    ]
 
 pub shape_of-slots : goal.shape_of-slots
 shape_of-slots c =
@@ -82,4 +76,4 @@ returns c =
     let a = c.args in
     let p = c.requires in
     filling_end a.gens.now a.d.now a.start a.dead.now a.s.now l.i l.slots l.rows l.w l.top l.invariant
-    c.loop-i-test.false p.basis (λ n. (c.shared_slice_known-1.given n).fits)
+    (omega arith) p.basis (λ n. (c.shared_slice_known-1.given n).fits)

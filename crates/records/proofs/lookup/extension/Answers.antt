@@ -4,4 +4,4 @@ use lib.ListN.{take}
 use Rattle.records.proofs.lookup.extension.Goals as goal
 
 pub returns : goal.returns
-returns c = c.first_words.ensures ∙ ap₂ take c.extension_length.ensures c.entry-record.ensures
+returns c = c.first_words.ensures ∙ ap₂ take c.saturating_sub.ensures c.entry-record.ensures

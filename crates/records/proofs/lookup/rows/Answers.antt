@@ -4,4 +4,4 @@ use lib.ListN.{drop}
 use Rattle.records.proofs.lookup.rows.Goals as goal
 
 pub returns : goal.returns
-returns c = c.words_behind.ensures ∙ ap₂ drop c.extension_length.ensures c.entry-record.ensures
+returns c = c.words_behind.ensures ∙ ap₂ drop c.saturating_sub.ensures c.entry-record.ensures

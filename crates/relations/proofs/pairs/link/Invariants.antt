@@ -5,6 +5,3 @@ use Rattle.relations.proofs.pairs.link.Given as goal
 
 abbrev pub invariant-loop-i : goal.invariant-loop-i
 invariant-loop-i l = (l.base ≤ l.i) × Linking l.v l.n l.base ((l.i - l.base) * 4096) l.heads l.links
-
-abbrev pub decreases-loop-i : goal.decreases-loop-i
-decreases-loop-i l = l.end - l.i

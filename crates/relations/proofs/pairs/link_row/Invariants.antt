@@ -5,6 +5,3 @@ use Rattle.relations.proofs.pairs.link_row.Given as goal
 
 abbrev pub invariant-loop-j : goal.invariant-loop-j
 invariant-loop-j l = (l.i < l.j) × (l.j ≤ l.n) × Linking l.v l.n l.base ((l.i - l.base) * 4096 + l.j) l.heads l.links
-
-abbrev pub decreases-loop-j : goal.decreases-loop-j
-decreases-loop-j l = l.n - l.j

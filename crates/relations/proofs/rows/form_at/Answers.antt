@@ -3,5 +3,5 @@ use mathlib.Core.Path.{sym}
 use lib.ListN.{get_or-eq_default}
 use Rattle.relations.proofs.rows.form_at.Goals as goal
 
-pub returns : goal.returns
-returns c = sym (get_or-eq_default c.args.gens.now 0 c.if-h-gens.false)
+pub returns-else-h-gens : goal.returns-else-h-gens
+returns-else-h-gens c = sym (get_or-eq_default c.args.gens.now 0 c.if-h-gens.false)

@@ -2,5 +2,5 @@
 use mathlib.Core.Path.{sym}
 use Rattle.relations.proofs.rows.value_at.Goals as goal
 
-pub returns : goal.returns
-returns c = sym (c.requires.none c.args.h c.if-h-n.false)
+pub returns-else-h-n : goal.returns-else-h-n
+returns-else-h-n c = sym (c.requires.none c.args.h c.if-h-n.false)

@@ -1,12 +1,14 @@
 -- What a known number is.
 --   known_zero, known_found, known_none   by what stands in the residues
+--   known_any                              of a residue that is not 0: whether an earlier one is equal
 --   is_zero_of                             a number that is not 0
 --   known_ne                              the residue of a number that is not known is not 0
 --   known_yes, known_no                   at a space with these residues: a known number brings in nothing, or what an earlier one does; any other is next
 -- Assumes nothing.
 use Rattle.std.specs.Prelude.{◌≡◌, refl, ◌≢◌, ◌⊎◌, Bool, true, false, ◌||◌, ℕ, zero, suc, ◌<◌, length, get_or, take, eqb}
-use Rattle.std.proofs.Common.{sym, ap, ◌∙◌, inl, inr, ⊎_elim, true≢false, arith, length-take, get_or-take, eq-eqb, ne_eqb, eqb-true}
-use mathlib.Core.List.{List, Memᴰ}
+use Rattle.std.specs.List.{list_any}
+use Rattle.std.proofs.Common.{sym, ap, ap₂, ◌∙◌, inl, inr, ⊎_elim, true≢false, arith, length-take, get_or-take, eq-eqb, ne_eqb, eqb-true}
+use mathlib.Core.List.{List, [], ◌∷◌, Memᴰ}
 use Rattle.std.proofs.Math.Decide.{dec_lt}
 use Rattle.std.proofs.Math.ListN.{get_or-eq_default}
 use Rattle.linear.specs.Span.{Span}
@@ -25,6 +27,14 @@ use Rattle.residues.proofs.laws.of_children.Child.{residue_at, reduce_child, cle
 pub is_zero_of : (x : ℕ) → x ≢ 0 → is_zero x ≡ false
 is_zero_of zero n = absurd (n refl)
 is_zero_of (suc x) n = refl
+
+-- a test of two numbers does not depend on their order
+equal_sides : (a b : ℕ) → eqb a b ≡ eqb b a
+equal_sides a b = go (eqb a b) refl
+  where
+    go : (t : Bool) → eqb a b ≡ t → t ≡ eqb b a
+    go true q = sym (eq-eqb b a (sym (eqb-true a b q)))
+    go false q = sym (ne_eqb b a (λ e. true≢false (sym (eq-eqb a b (sym e)) ∙ q)))
 
 pub known_zero : (h : List ℕ) (j : ℕ) → get_or h j 0 ≡ 0 → true ≡ known h j
 unfolding known
@@ -52,6 +62,18 @@ known_none h j n f =
         let l : r.0 < length (take j h) = r.1 in
         let k : r.0 < j = omega (arith, l, length-take j h) in
         ne_eqb (get_or h j 0) x (λ e. f r.0 k (sym (get_or-take j h r.0 0 k) ∙ sym r.2 ∙ sym e))
+
+-- `any_of` and std's word for the same test, with its sides changed
+any_equal : (v : ℕ) (l : List ℕ) → list_any (λ y. eqb y v) l ≡ any_of (eqb v) l
+unfolding any_of
+any_equal v [] = refl
+any_equal v (y ∷ l) = ap₂ ◌||◌ (equal_sides y v) (any_equal v l)
+
+pub known_any : (h : List ℕ) (j : ℕ) → get_or h j 0 ≢ 0 → list_any (λ y. eqb y (get_or h j 0)) (take j h) ≡ known h j
+unfolding known
+known_any h j n =
+    any_equal (get_or h j 0) (take j h)
+    ∙ sym (ap (λ (t : Bool). t || any_of (eqb (get_or h j 0)) (take j h)) (is_zero_of (get_or h j 0) n))
 
 -- the residue of a number that is not known
 pub known_ne : (h : List ℕ) (j : ℕ) → false ≡ known h j → get_or h j 0 ≢ 0

@@ -1,7 +1,5 @@
 -- `sieve::heavy_search::first_new` meets its contract: no number so far is new by h and not in the child. Assumes nothing.
 use mathlib.Core.List.{map}
-use Prim.Native.Nat.{◌-◌}
-use lib.ListN.{length}
 use Rattle.linear.specs.Basis.{clear}
 use Rattle.linear.specs.Word.{word}
 use Rattle.sieve.specs.heavy_search.laws.Find.{Looking}
@@ -9,6 +7,3 @@ use Rattle.sieve.proofs.heavy_search.first_new.Given as goal
 
 abbrev pub invariant-loop-j : goal.invariant-loop-j
 invariant-loop-j l = Looking l.h (map (clear word l.x) l.d) l.start l.j
-
-abbrev pub decreases-loop-j : goal.decreases-loop-j
-decreases-loop-j l = length l.h - l.j

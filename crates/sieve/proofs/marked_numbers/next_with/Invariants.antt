@@ -1,10 +1,6 @@
 -- `sieve::marked_numbers::next_with` meets its contract: no number so far has the mark. Assumes nothing.
-use Prim.Native.Nat.{◌-◌}
 use Rattle.sieve.specs.marked_numbers.laws.Marks.{Searching, Without}
 use Rattle.sieve.proofs.marked_numbers.next_with.Given as goal
 
 abbrev pub invariant-loop-i : goal.invariant-loop-i
 invariant-loop-i l = Searching (Without l.mark) l.marks l.from l.n l.i
-
-abbrev pub decreases-loop-i : goal.decreases-loop-i
-decreases-loop-i l = l.n - l.i

@@ -14,11 +14,11 @@ values-requires c = let P = c.requires in (
   refl,
 )
 
-pub overflow_sub-left : goal.overflow_sub-left
-overflow_sub-left c = c.requires.begin
+pub overflow_sub-end : goal.overflow_sub-end
+overflow_sub-end c = c.requires.begin
 
-pub overflow_mul-left : goal.overflow_mul-left
-overflow_mul-left c = let l = c.requires.few in omega arith
+pub overflow_mul-end : goal.overflow_mul-end
+overflow_mul-end c = let l = c.requires.few in omega arith
 
 pub slice_bounds-first_words-end : goal.slice_bounds-first_words-end
 slice_bounds-first_words-end c = sym c.requires.valid.whole
@@ -42,34 +42,24 @@ first_place-u-requires c =
       P.begin,
     )
 
-pub loop-u-init : goal.loop-u-init
-loop-u-init c = c.first_place-u.ensures.placed
-
-pub overflow_sub-left-in-loop-u : goal.overflow_sub-left-in-loop-u
-overflow_sub-left-in-loop-u c = let n = c.if-left-eq0.false in omega arith
-
-pub slice_bounds-first_words-end-in-loop-u : goal.slice_bounds-first_words-end-in-loop-u
-slice_bounds-first_words-end-in-loop-u c =
-    sym c.requires.valid.whole
+pub loop-init : goal.loop-init
+loop-init c = c.first_place-u.ensures.placed
 
 pub slice_bounds-next_place-end : goal.slice_bounds-next_place-end
 slice_bounds-next_place-end c =
     sym c.values.auto.v
 
-pub slice_bounds-next_place-end-in-loop-u : goal.slice_bounds-next_place-end-in-loop-u
-slice_bounds-next_place-end-in-loop-u c = sym c.loop-u.invariant.tables.sizes.heads_all
+pub slice_bounds-next_place-end-in-loop : goal.slice_bounds-next_place-end-in-loop
+slice_bounds-next_place-end-in-loop c = sym c.loop.invariant.tables.sizes.heads_all
 
-pub slice_bounds-next_place-end-in-loop-u-2 : goal.slice_bounds-next_place-end-in-loop-u-2
-slice_bounds-next_place-end-in-loop-u-2 c = sym c.loop-u.invariant.tables.sizes.links_all
+pub slice_bounds-next_place-end-in-loop-2 : goal.slice_bounds-next_place-end-in-loop-2
+slice_bounds-next_place-end-in-loop-2 c = sym c.loop.invariant.tables.sizes.links_all
 
 pub next_place-u-requires : goal.next_place-u-requires
 next_place-u-requires c = (
-  c.loop-u.invariant,
-  c.loop-u-test.true,
+  c.loop.invariant,
+  c.if-n-u.false,
 )
 
-pub loop-u-smaller : goal.loop-u-smaller
-loop-u-smaller c = let n = c.if-left-eq0.false in omega arith
-
-pub loop-u-preserved : goal.loop-u-preserved
-loop-u-preserved c = c.next_place-u.ensures.placed
+pub loop-preserved : goal.loop-preserved
+loop-preserved c = c.next_place-u.ensures.placed

@@ -2,8 +2,5 @@
 use Rattle.relations.specs.Relations.{Placed}
 use Rattle.sieve.proofs.sizes.few_lines.Given as goal
 
-abbrev pub invariant-loop-u : goal.invariant-loop-u
-invariant-loop-u l = Placed l.gens l.v l.u l.heads l.links
-
-abbrev pub decreases-loop-u : goal.decreases-loop-u
-decreases-loop-u l = l.left
+abbrev pub invariant-loop : goal.invariant-loop
+invariant-loop l = Placed l.gens l.v l.u l.heads l.links
