@@ -53,14 +53,10 @@ fn least_formula(gens: &[u64], b: Basis, order: &[u64], prices: &[u64], held: &m
     ensures { LeastFrom gens.now b prices.now result held.new }
 {
     let bound = least_products(gens, b);
-    let ell = b.len;
-    let end = ell + 7;
-    let mut k = ell;
-    while k < end {
+    for k in b.len..b.len + 7 {
         if meet(gens, b, bound, k, order, prices, held) {
             return Least::Is(k);
         }
-        k += 1;
     }
     Least::No
 }
