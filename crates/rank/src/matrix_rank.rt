@@ -25,7 +25,7 @@ fn rank_at(form: u64, width: usize) -> usize
     let mut rest = form;
     while rest != 0 {
         b = b.insert(lowest(rest, width));
-        rest = rest >> width;
+        rest >>= width;
     }
     b.len
 }
@@ -40,7 +40,7 @@ fn first_row(form: u64, width: usize) -> u64
         if row != 0 {
             return row;
         }
-        rest = rest >> width;
+        rest >>= width;
     }
     0
 }
@@ -49,10 +49,7 @@ fn first_row(form: u64, width: usize) -> u64
 fn is_multiple(row: u64, u: u64) -> bool
     ensures { result ≡ true → Span word (u ∷ []) row }
 {
-    if row == 0 {
-        return true;
-    }
-    row == u
+    row == 0 || row == u
 }
 
 // Whether every row of the form is 0 or `u`.
@@ -65,7 +62,7 @@ fn has_multiples(form: u64, width: usize, u: u64) -> bool
         if !is_multiple(lowest(rest, width), u) {
             return false;
         }
-        rest = rest >> width;
+        rest >>= width;
     }
     true
 }
@@ -83,12 +80,10 @@ fn are_products(gens: &[u64], width: usize) -> bool
     requires { Width width }
     ensures { result ≡ true → Products width gens.now }
 {
-    let mut i = 0;
-    while i < gens.len() {
-        if !is_product(gens[i], width) {
+    for g in gens {
+        if !is_product(*g, width) {
             return false;
         }
-        i += 1;
     }
     true
 }
@@ -97,12 +92,10 @@ fn are_products(gens: &[u64], width: usize) -> bool
 fn product_width(gens: &[u64]) -> usize
     ensures { Width result × Products result gens.now }
 {
-    let mut w = 2;
-    while w < 64 {
+    for w in 2..64 {
         if are_products(gens, w) {
             return w;
         }
-        w += 1;
     }
     1
 }
@@ -112,8 +105,7 @@ fn with_row(b: Basis, sum: u64, i: usize) -> u64
     requires { Valid b }
     ensures { Span word (rows_of b) sum → Span word (rows_of b) result }
 {
-    let rows = b.rows;
-    if i < b.len { sum ^ rows[i] } else { sum }
+    if i < b.len { sum ^ b.rows[i] } else { sum }
 }
 
 // The largest matrix rank of a form in the space of `b`. From one sum to the next one row is added or taken away, as in a Gray code.
@@ -122,18 +114,11 @@ fn largest_rank(b: Basis, width: usize) -> usize
     ensures { Summed b width result }
 {
     let end = 1u64 << b.len;
-    let mut t = 1u64;
     let mut sum = 0u64;
     let mut best = 0;
-    while t < end {
-        sum = with_row(b, sum, u64::trailing_zeros(t) as usize);
-        let r = rank_at(sum, width);
-        if best < r {
-            best = r;
-            t += 1;
-        } else {
-            t += 1;
-        }
+    for t in 1..end {
+        sum = with_row(b, sum, t.trailing_zeros() as usize);
+        best = best.max(rank_at(sum, width));
     }
     best
 }

@@ -33,10 +33,7 @@ pub enum Summed {
 fn misfits(sel: &[u64], n: usize) -> bool
     ensures { result ≡ misfit n sel.now }
 {
-    if words::lists::any_outside(sel, n) {
-        return true;
-    }
-    words::lists::repeats(sel)
+    words::lists::any_outside(sel, n) || words::lists::repeats(sel)
 }
 
 // Marks the selected numbers but `skip`.
@@ -44,13 +41,10 @@ fn mark(sel: &[u64], skip: u64, marks: &mut [u8])
     requires { NumbersBelow (length marks.old) sel.now }
     ensures { Marked (without skip sel.now) marks.old marks.new }
 {
-    let mut i = 0;
-    while i < sel.len() {
-        let e = sel[i];
-        if e != skip {
-            marks[e as usize] = 1;
+    for e in sel {
+        if *e != skip {
+            marks[*e as usize] = 1;
         }
-        i += 1;
     }
 }
 
@@ -71,13 +65,11 @@ fn put_named(numbers: &[u64], mask: u64, out: &mut [u64]) -> usize
         × (result ≡ length (named numbers.now mask 0)) }
 {
     let mut m = 0;
-    let mut i = 0;
-    while i < numbers.len() {
+    for (i, number) in numbers.iter().enumerate() {
         if forms::coordinate(mask, i) {
-            out[m] = numbers[i];
+            out[m] = *number;
             m += 1;
         }
-        i += 1;
     }
     m
 }
@@ -88,11 +80,8 @@ fn rest_over(c: Choice, form: u64) -> Rest
     ensures { RestOver c form result }
 {
     let k = c.len;
-    let forms = c.forms;
-    let e = bases::rows::echelon_of(&forms[..k]);
-    let rows = e.rows;
-    let masks = e.masks;
-    bases::rows::rest_of(&rows[..k], &masks[..k], form)
+    let e = bases::rows::echelon_of(&c.forms[..k]);
+    bases::rows::rest_of(&e.rows[..k], &e.masks[..k], form)
 }
 
 // Of which of the chosen generators, which are independent, the form is the sum: their numbers from the start of `out`; refusal 9.
@@ -106,9 +95,8 @@ fn show_sum(c: Choice, form: u64, out: &mut [u64]) -> Summed
         return Summed::No;
     }
     let k = c.len;
-    let numbers = c.numbers;
     let mut terms = [0u64; kinds::PRODUCTS];
-    let m = put_named(&numbers[..k], rest.mask, &mut terms);
+    let m = put_named(&c.numbers[..k], rest.mask, &mut terms);
     if out.len() < m {
         return Summed::Refused(9);
     }
@@ -138,9 +126,7 @@ fn misses_without(gens: &[u64], targets: &[u64], sel: &[u64], skip: u64) -> bool
     ensures { result ≡ missed_by gens.now targets.now (without skip sel.now) }
 {
     let c = part_without(gens, sel, skip);
-    let k = c.len;
-    let forms = c.forms;
-    bases::spans::misses(bases::basis_of(&forms[..k]), targets)
+    bases::spans::misses(bases::basis_of(&c.forms[..c.len]), targets)
 }
 
 // Whether the selected generators but number j still span the targets; refusal 11.

@@ -33,8 +33,7 @@ pub fn spread(
     }
     let n = gens.len();
     let mut counts = t;
-    let mut j = start;
-    while j < n {
+    for j in start..n {
         if counts.found == limit {
             return counts;
         }
@@ -55,9 +54,6 @@ pub fn spread(
             if !bases::spans::completes(gens, w, b, j + 1) {
                 return counts;
             }
-            j += 1;
-        } else {
-            j += 1;
         }
     }
     counts

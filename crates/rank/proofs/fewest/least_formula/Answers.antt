@@ -9,8 +9,8 @@ use Rattle.rank.proofs.fewest.least_formula.Goals as goal
 pub least_products-bound-requires : goal.least_products-bound-requires
 least_products-bound-requires c = c.requires.valid
 
-pub overflow_add-end : goal.overflow_add-end
-overflow_add-end c = let h = c.requires.valid.room in omega arith
+pub overflow_add-k-end : goal.overflow_add-k-end
+overflow_add-k-end c = let h = c.requires.valid.room in omega arith
 
 pub loop-k-init : goal.loop-k-init
 loop-k-init c = let a = c.args in (refl, looking_start a.gens.now a.b a.order.now a.prices.now)
@@ -24,7 +24,7 @@ meet-requires c =
         small = A.small;
         valid = A.valid;
         least = l.invariant.1.from;
-        near = (let h : l.k < b.len + 7 = c.loop-k-test.true in omega arith);
+        near = (let h : l.k < b.len + 7 = omega arith in omega arith);
         priced = A.priced;
         by_price_law = A.by_price_law;
         room = omega (arith, l.invariant.0, A.room);
@@ -39,18 +39,16 @@ pub returns-then-meet : goal.returns-then-meet
 returns-then-meet c =
     let a = c.args in
     let l = c.loop-k in
-    let t = c.loop-k-test.true in
     let F = c.meet in
-    looking_found a.gens.now a.b a.order.now a.prices.now c.requires l.k l.invariant.1 t F.result _ F.ensures c.if-meet.true
+    looking_found a.gens.now a.b a.order.now a.prices.now c.requires l.k l.invariant.1 (omega arith) F.result _ F.ensures c.if-meet.true
 
 pub loop-k-preserved : goal.loop-k-preserved
 loop-k-preserved c =
     let a = c.args in
     let l = c.loop-k in
-    let t = c.loop-k-test.true in
     let F = c.meet in (
       F.auto.held ∙ l.invariant.0,
-      looking_next a.gens.now a.b a.order.now a.prices.now c.requires l.k l.invariant.1 t F.result _ F.ensures c.if-meet.false,
+      looking_next a.gens.now a.b a.order.now a.prices.now c.requires l.k l.invariant.1 (omega arith) F.result _ F.ensures c.if-meet.false,
     )
 
 pub shape_of-held : goal.shape_of-held

@@ -8,6 +8,3 @@ use Rattle.rank.proofs.fewest.least_formula.Given as goal
 
 abbrev pub invariant-loop-k : goal.invariant-loop-k
 invariant-loop-k l = (length l.held ≡ length l.initial.held) × Looking l.gens l.b l.order l.prices l.k
-
-abbrev pub decreases-loop-k : goal.decreases-loop-k
-decreases-loop-k l = l.end - l.k

@@ -7,8 +7,5 @@ use lib.ListN.{length}
 use Rattle.rank.proofs.laws.of_matrix_rank.Loops.{Passed, passed_start, passed_next, passed_end}
 use Rattle.rank.proofs.matrix_rank.are_products.Given as goal
 
-abbrev pub invariant-loop-i : goal.invariant-loop-i
-invariant-loop-i l = Passed l.width l.gens l.i
-
-abbrev pub decreases-loop-i : goal.decreases-loop-i
-decreases-loop-i l = length l.gens - l.i
+abbrev pub invariant-loop-g : goal.invariant-loop-g
+invariant-loop-g l = Passed l.width l.gens l.g-index

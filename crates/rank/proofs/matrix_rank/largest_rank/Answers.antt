@@ -1,5 +1,7 @@
 -- `rank::matrix_rank::largest_rank` meets its contract. Assumes nothing.
 use native.Mathlib.Omega.{arith}
+use Rattle.std.specs.Ordering.{ord_max, nat_cmp}
+use Rattle.std.proofs.Common.{◌≡◌, ◌⊎◌, ⊎_elim, ℕ, sym, subst, ◌∙◌, rules}
 use Prim.Native.Nat.{◌-◌}
 use lib.Count.{trailing_le}
 use Rattle.linear.specs.Span.{Span}
@@ -22,17 +24,26 @@ overflow_cast-t c = record { fits = omega (arith, trailing_le 64 c.loop-t.t) }
 pub with_row-sum-requires : goal.with_row-sum-requires
 with_row-sum-requires c = c.requires.0
 
-pub rank_at-r-requires : goal.rank_at-r-requires
-rank_at-r-requires c = c.requires.2
+pub rank_at-requires : goal.rank_at-requires
+rank_at-requires c = c.requires.2
 
-pub loop-t-preserved-then-best-r : goal.loop-t-preserved-then-best-r
-loop-t-preserved-then-best-r c =
-    let w = c.with_row-sum in
-    let s = w.ensures c.loop-t.invariant.0 in
-    (s, record { form = w.result; sum = s; rank = c.rank_at-r.ensures })
+-- what `max` gives is one of the two
+either : (a b : ℕ) → (ord_max nat_cmp a b ≡ a) ⊎ (ord_max nat_cmp a b ≡ b)
+either a b = search rules
 
 pub loop-t-preserved : goal.loop-t-preserved
-loop-t-preserved c = (c.with_row-sum.ensures c.loop-t.invariant.0, c.loop-t.invariant.1)
+loop-t-preserved c =
+    let a = c.args in
+    let l = c.loop-t in
+    let w = c.with_row-sum in
+    let r = c.rank_at in
+    let s = w.ensures l.invariant.0 in (
+      s,
+      ⊎_elim
+          (λ e. subst (Summed a.b a.width) (sym (c.max-best.ensures ∙ e)) l.invariant.1)
+          (λ e. subst (Summed a.b a.width) (sym (c.max-best.ensures ∙ e)) (record { form = w.result; sum = s; rank = r.ensures }))
+          (either l.best r.result),
+    )
 
 pub returns : goal.returns
 returns c = c.loop-t.invariant.1

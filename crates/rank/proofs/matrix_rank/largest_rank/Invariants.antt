@@ -12,6 +12,3 @@ use Rattle.rank.proofs.matrix_rank.largest_rank.Given as goal
 
 abbrev pub invariant-loop-t : goal.invariant-loop-t
 invariant-loop-t l = Span word (rows_of l.b) l.sum × Summed l.b l.width l.best
-
-abbrev pub decreases-loop-t : goal.decreases-loop-t
-decreases-loop-t l = l.end - l.t

@@ -6,6 +6,3 @@ use Rattle.rank.proofs.matrix_rank.product_width.Given as goal
 
 abbrev pub invariant-loop-w : goal.invariant-loop-w
 invariant-loop-w l = 2 ≤ l.w
-
-abbrev pub decreases-loop-w : goal.decreases-loop-w
-decreases-loop-w l = 64 - l.w

@@ -2,7 +2,8 @@
 use native.Mathlib.Omega.{arith}
 use mathlib.Core.Path.{sym, subst, ◌∙◌}
 use mathlib.Core.List.{List}
-use Prim.Native.Nat.{ℕ, ◌+◌}
+use lib.ListN.{length}
+use Prim.Native.Nat.{ℕ, ◌+◌, ◌<◌}
 use Rattle.selections.proofs.laws.of_on_forms.Naming.{Naming, naming_start, naming_skip, naming_inside, naming_next, naming_end}
 use Rattle.selections.proofs.on_forms.put_named.Goals as goal
 use Rattle.selections.proofs.on_forms.put_named.Goals.{else-coordinate, then-coordinate}
@@ -14,21 +15,21 @@ pub offset_bounds-out-m : goal.offset_bounds-out-m
 offset_bounds-out-m c = omega (
   arith,
   (let l = c.loop-i in
-      naming_inside c.args.numbers.now c.args.mask c.args.out.now l.out l.m l.i l.invariant c.loop-i-test.true (sym c.coordinate.ensures ∙
+      naming_inside c.args.numbers.now c.args.mask c.args.out.now l.out l.m l.i l.invariant (omega arith) (sym c.coordinate.ensures ∙
       c.if-coordinate.true) c.requires),
   c.loop-i.invariant.same,
 )
 
 pub bounds-out-m : goal.bounds-out-m
 bounds-out-m c = (let l = c.loop-i in
-    naming_inside c.args.numbers.now c.args.mask c.args.out.now l.out l.m l.i l.invariant c.loop-i-test.true (sym c.coordinate.ensures ∙
+    naming_inside c.args.numbers.now c.args.mask c.args.out.now l.out l.m l.i l.invariant (omega arith) (sym c.coordinate.ensures ∙
     c.if-coordinate.true) c.requires)
 
 pub overflow_add-m : goal.overflow_add-m
 overflow_add-m c = omega (
   arith,
   (let l = c.loop-i in
-      naming_inside c.args.numbers.now c.args.mask c.args.out.now l.out l.m l.i l.invariant c.loop-i-test.true (sym c.coordinate.ensures ∙
+      naming_inside c.args.numbers.now c.args.mask c.args.out.now l.out l.m l.i l.invariant (omega arith) (sym c.coordinate.ensures ∙
       c.if-coordinate.true) c.requires),
   c.loop-i.invariant.same,
 )
@@ -37,7 +38,7 @@ pub loop-i-preserved : goal.loop-i-preserved
 loop-i-preserved c =
     let l = c.loop-i in
     let a = c.args in
-    let t = c.loop-i-test.true in
+    let t : l.i < length a.numbers.now = omega arith in
     let q = c.coordinate.ensures in
     let at : List ℕ → ℕ → Type 0 = λ out m. Naming a.numbers.now a.mask a.out.now out m (l.i + 1) in
     elim c.if-coordinate.branch [

@@ -21,6 +21,7 @@ use Rattle.records.specs.declared.Tally.{Tally}
 use Rattle.space_formulae.specs.enumeration.Spread.{formulae_from, Branch}
 use Rattle.space_formulae.proofs.Going.{Going, node_leaf, going_leaf, going_full, going_stop, going_end, going_skip, node_down, going_down}
 use Rattle.space_formulae.proofs.enumeration.+spread.Goals as goal
+use Rattle.space_formulae.proofs.enumeration.+spread.Goals.{then-is_wanted+else-not-completes, else-is_wanted}
 
 -- facts on numbers
 some : {m : ℕ} → m ≢ 0 → 1 ≤ m
@@ -28,12 +29,6 @@ some n = omega arith
 
 falls_one : {m t : ℕ} → m ≡ t → m ≢ 0 → m - 1 < t
 falls_one e n = omega arith
-
-fewer : {j n : ℕ} → j < n → n - (j + 1) < n - j
-fewer l = omega arith
-
-one_fits : {j n : ℕ} → j < n → n * 8 < 2 ^ 63 → Fits w64 (j + 1)
-one_fits l k = record { fits = omega arith }
 
 eight_fits : {j n : ℕ} → j < n → n * 8 < 2 ^ 63 → Fits w64 (j * 8)
 eight_fits l k = record { fits = omega arith }
@@ -76,10 +71,10 @@ returns-then-counts-limit t c =
     pre if1.false _ _ loop.j loop.counts loop.out loop.invariant c.if-counts-limit.true
 
 pub offset_bounds-gens-j : goal.offset_bounds-gens-j
-offset_bounds-gens-j t c = eight_fits c.loop-j-test.true c.well_formed.0.1
+offset_bounds-gens-j t c = eight_fits (omega arith) c.well_formed.0.1
 
 pub bounds-gens-j : goal.bounds-gens-j
-bounds-gens-j t c = c.loop-j-test.true
+bounds-gens-j t c = omega arith
 
 pub is_wanted-requires : goal.is_wanted-requires
 is_wanted-requires t c = c.requires.valid
@@ -102,14 +97,13 @@ spread-counts-requires t c =
     let pre = c.requires in
     let if1 = c.if-missing-eq0 in
     let loop = c.loop-j in
-    let loop-test = c.loop-j-test in
     let is-wanted = c.is_wanted in
     let if3 = c.if-is_wanted in
     let d : args.missing ≡ t = c.decreases in
     let e = if1.false in (
       falls_one d e,
       node_down args.gens.now args.w.now args.targets.now args.missing args.b args.c args.t args.limit
-          args.out.now pre if1.false _ _ loop.j loop.counts loop.out loop.invariant loop-test.true
+          args.out.now pre if1.false _ _ loop.j loop.counts loop.out loop.invariant (omega arith)
           (sym is-wanted.ensures ∙ if3.true) c.insert.result ((c.insert.ensures)) c.add.result
           c.add.ensures,
     )
@@ -118,8 +112,7 @@ pub overflow_add-j-then-is_wanted : goal.overflow_add-j-then-is_wanted
 overflow_add-j-then-is_wanted t c =
     let the-fits = c.ranges in
     let good = c.well_formed in
-    let loop-test = c.loop-j-test in
-    omega (arith, loop-test.true, good, the-fits)
+    omega (arith, good, the-fits)
 
 pub completes-requires : goal.completes-requires
 completes-requires t c = c.requires.valid
@@ -130,7 +123,7 @@ shape_of-out-then-not-completes t c = ((let it : (let a = c.args in
     a.gens.now a.w.now a.targets.now (rows_of a.b) (numbers_of a.c) (length a.gens.now - a.start) a.start a.missing)) (length a.out.now) (c.loop-j.j
     + 1) c.spread-counts.result c.spread-counts.new.out) = let a = c.args in let l = c.loop-j in let d = c.add in
     going_down a.gens.now a.w.now a.targets.now a.missing a.b a.c a.t a.limit a.out.now c.requires c.if-missing-eq0.false _ _ l.j l.counts l.out
-    l.invariant c.loop-j-test.true (sym c.is_wanted.ensures ∙ c.if-is_wanted.true) c.insert.result ((c.insert.ensures)) d.result d.ensures
+    l.invariant (omega arith) (sym c.is_wanted.ensures ∙ c.if-is_wanted.true) c.insert.result ((c.insert.ensures)) d.result d.ensures
     c.spread-counts.result _ c.spread-counts.ensures in it)).good.same
 
 pub returns-then-not-completes : goal.returns-then-not-completes
@@ -143,46 +136,25 @@ returns-then-not-completes t c =
     a.gens.now a.w.now a.targets.now (rows_of a.b) (numbers_of a.c) (length a.gens.now - a.start) a.start a.missing)) (length a.out.now)
     (c.loop-j.j + 1) c.spread-counts.result c.spread-counts.new.out) = let a = c.args in let l = c.loop-j in let d = c.add in
     going_down a.gens.now a.w.now a.targets.now a.missing a.b a.c a.t a.limit a.out.now c.requires c.if-missing-eq0.false _ _ l.j l.counts l.out
-    l.invariant c.loop-j-test.true (sym c.is_wanted.ensures ∙ c.if-is_wanted.true) c.insert.result ((c.insert.ensures)) d.result d.ensures
-    c.spread-counts.result _ c.spread-counts.ensures in it)) c.loop-j-test.true
+    l.invariant (omega arith) (sym c.is_wanted.ensures ∙ c.if-is_wanted.true) c.insert.result ((c.insert.ensures)) d.result d.ensures
+    c.spread-counts.result _ c.spread-counts.ensures in it)) (omega arith)
     (sym c.completes.ensures ∙ not-true c.completes.result c.if-not-completes.true-raw)
-
-pub overflow_add-j-then-is_wanted-2 : goal.overflow_add-j-then-is_wanted-2
-overflow_add-j-then-is_wanted-2 t c =
-    let good = c.well_formed in
-    let loop-test = c.loop-j-test in
-    one_fits loop-test.true good.0.1
-
-pub loop-j-smaller-then-is_wanted : goal.loop-j-smaller-then-is_wanted
-loop-j-smaller-then-is_wanted t c = fewer c.loop-j-test.true
-
-pub loop-j-preserved-then-is_wanted : goal.loop-j-preserved-then-is_wanted
-loop-j-preserved-then-is_wanted t c = (let it : (let a = c.args in
-    Going a.gens.now a.w.now a.targets.now (rows_of a.b) (numbers_of a.c) a.missing a.limit (run a.limit (state_of a.t a.out.now) (formulae_from
-    a.gens.now a.w.now a.targets.now (rows_of a.b) (numbers_of a.c) (length a.gens.now - a.start) a.start a.missing)) (length a.out.now) (c.loop-j.j
-    + 1) c.spread-counts.result c.spread-counts.new.out) = let a = c.args in let l = c.loop-j in let d = c.add in
-    going_down a.gens.now a.w.now a.targets.now a.missing a.b a.c a.t a.limit a.out.now c.requires c.if-missing-eq0.false _ _ l.j l.counts l.out
-    l.invariant c.loop-j-test.true (sym c.is_wanted.ensures ∙ c.if-is_wanted.true) c.insert.result ((c.insert.ensures)) d.result d.ensures
-    c.spread-counts.result _ c.spread-counts.ensures in it)
-
-pub overflow_add-j-else-is_wanted : goal.overflow_add-j-else-is_wanted
-overflow_add-j-else-is_wanted t c =
-    let good = c.well_formed in
-    let loop-test = c.loop-j-test in
-    one_fits loop-test.true good.0.1
-
-pub loop-j-smaller : goal.loop-j-smaller
-loop-j-smaller t c = fewer c.loop-j-test.true
 
 pub loop-j-preserved : goal.loop-j-preserved
 loop-j-preserved t c =
-    let args = c.args in
-    let pre = c.requires in
-    let if1 = c.if-missing-eq0 in
-    let loop = c.loop-j in
-    let loop-test = c.loop-j-test in
-    going_skip args.gens.now args.w.now args.targets.now args.missing args.b args.c args.t args.limit args.out.now
-    pre if1.false _ _ loop.j loop.counts loop.out loop.invariant loop-test.true (sym c.is_wanted.ensures ∙ c.if-is_wanted.false)
+    let a = c.args in
+    let l = c.loop-j in
+    elim c.if-is_wanted.branch [
+      | then-is_wanted+else-not-completes w ↦
+          rw (w.counts-is, w.out-is)
+          (going_down a.gens.now a.w.now a.targets.now a.missing a.b a.c a.t a.limit a.out.now c.requires c.if-missing-eq0.false _ _ l.j l.counts l.out
+          l.invariant (omega arith) (sym c.is_wanted.ensures ∙ w.if-is_wanted.true) w.insert.result w.insert.ensures w.add.result w.add.ensures
+          w.spread-counts.result _ w.spread-counts.ensures)
+      | else-is_wanted w ↦
+          rw (w.counts-is, w.out-is)
+          (going_skip a.gens.now a.w.now a.targets.now a.missing a.b a.c a.t a.limit a.out.now c.requires c.if-missing-eq0.false _ _ l.j l.counts l.out
+          l.invariant (omega arith) (sym c.is_wanted.ensures ∙ w.if-is_wanted.false))
+    ]
 
 pub shape_of-out : goal.shape_of-out
 shape_of-out t c = c.loop-j.invariant.good.same
@@ -193,4 +165,4 @@ returns t c =
     let pre = c.requires in
     going_end args.gens.now args.w.now args.targets.now args.missing args.b args.c args.t args.limit args.out.now
     pre c.if-missing-eq0.false _ _ c.loop-j.j c.loop-j.counts c.loop-j.out c.loop-j.invariant
-    c.loop-j-test.false
+    (omega arith)

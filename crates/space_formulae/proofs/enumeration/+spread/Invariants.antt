@@ -28,8 +28,5 @@ invariant-loop-j l =
     (run l.limit (state_of l.initial.counts l.initial.out) (formulae_from l.gens l.w l.targets (rows_of l.b) (numbers_of l.c) (length l.gens -
     l.start) l.start l.missing)) (length l.initial.out) l.j l.counts l.out
 
-abbrev pub decreases-loop-j : goal.decreases-loop-j
-decreases-loop-j l = length l.gens - l.j
-
 abbrev pub decreases-spread : goal.decreases-spread
 decreases-spread l = l.missing
