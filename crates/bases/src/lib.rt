@@ -41,9 +41,7 @@ impl Basis {
         requires { Valid self }
         ensures { result ≡ reduce word (rows_of self) v }
     {
-        let rows = self.rows;
-        let n = self.len;
-        forms::reduce_rows(&rows[..n], v)
+        forms::reduce_rows(&self.rows[..self.len], v)
     }
 
     // Whether `v` is in the span of the basis.
@@ -55,21 +53,17 @@ impl Basis {
     }
 
     // The reduced basis of the space that the basis and `v` span. What is left of `v` takes its place among the rows.
-    pub fn insert(self, v: u64) -> Basis
+    pub fn insert(mut self, v: u64) -> Basis
         requires { Valid self }
         ensures { Holds (insert word (rows_of self) v) result }
     {
-        let mut rows = self.rows;
-        let n = self.len;
-        let r = forms::reduce_rows(&rows[..n], v);
-        if r == 0 {
-            return self;
+        let r = self.reduce(v);
+        if r != 0 {
+            let n = self.len;
+            insertion::place(&mut self.rows, n, r);
+            self.len = n + 1;
         }
-        insertion::place(&mut rows, n, r);
-        Basis {
-            rows: rows,
-            len: n + 1,
-        }
+        self
     }
 }
 
@@ -78,10 +72,8 @@ pub fn basis_of(xs: &[u64]) -> Basis
     ensures { Holds (basis_of word xs.now) result }
 {
     let mut b = Basis::empty();
-    let mut i = 0;
-    while i < xs.len() {
-        b = b.insert(xs[i]);
-        i += 1;
+    for x in xs {
+        b = b.insert(*x);
     }
     b
 }

@@ -24,18 +24,16 @@ pub fn rest_of(rows: &[u64], masks: &[u64], v: u64) -> Rest
     requires { length rows.now ≤ length masks.now }
     ensures { (result.form ≡ reduce word rows.now v) × (result.mask ≡ taken rows.now masks.now v) }
 {
-    let mut x = v;
-    let mut m = 0u64;
-    let mut i = 0;
-    while i < rows.len() {
-        let w = x ^ rows[i];
-        if w < x {
-            x = w;
-            m = m ^ masks[i];
+    let mut form = v;
+    let mut mask = 0;
+    for (i, row) in rows.iter().enumerate() {
+        let w = form ^ *row;
+        if w < form {
+            form = w;
+            mask ^= masks[i];
         }
-        i += 1;
     }
-    Rest { form: x, mask: m }
+    Rest { form, mask }
 }
 
 // The products, first to last, each reduced by the rows of those before it.
@@ -43,18 +41,12 @@ pub fn echelon_of(products: &[u64]) -> Echelon
     requires { length products.now ≤ most_rows }
     ensures { Tracks products.now result }
 {
-    let n = products.len();
     let mut rows = [0u64; super::ROWS];
     let mut masks = [0u64; super::ROWS];
-    let mut i = 0;
-    while i < n {
-        let r = rest_of(&rows[..i], &masks[..i], products[i]);
+    for (i, product) in products.iter().enumerate() {
+        let r = rest_of(&rows[..i], &masks[..i], *product);
         rows[i] = r.form;
         masks[i] = r.mask ^ (1u64 << i);
-        i += 1;
     }
-    Echelon {
-        rows: rows,
-        masks: masks,
-    }
+    Echelon { rows, masks }
 }

@@ -13,14 +13,7 @@ pub fn misses(b: Basis, targets: &[u64]) -> bool
     requires { Valid b }
     ensures { result ≡ any_of (λ t. not (inside word (rows_of b) t)) targets.now }
 {
-    let mut i = 0;
-    while i < targets.len() {
-        if !b.contains(targets[i]) {
-            return true;
-        }
-        i += 1;
-    }
-    false
+    targets.iter().any(|t| !b.contains(*t))
 }
 
 // Whether `g` is in the span of the rows `w` and not in that of `b`.
@@ -28,10 +21,7 @@ pub fn is_wanted(w: &[u64], b: Basis, g: u64) -> bool
     requires { Valid b }
     ensures { result ≡ (inside word w.now g && not (inside word (rows_of b) g)) }
 {
-    if forms::reduce_rows(w, g) != 0 {
-        return false;
-    }
-    !b.contains(g)
+    forms::reduce_rows(w, g) == 0 && !b.contains(g)
 }
 
 // Whether `b` and the generators inside the space `w` from number `start` on span as many dimensions as `w` has rows.
@@ -39,23 +29,17 @@ pub fn completes(gens: &[u64], w: &[u64], b: Basis, start: usize) -> bool
     requires { Valid b }
     ensures { result ≡ completes word gens.now w.now (rows_of b) start }
 {
-    let k = w.len();
-    let n = gens.len();
     let mut d = b;
-    let mut i = start;
-    while i < n {
-        if d.len >= k {
+    for i in start..gens.len() {
+        if d.len >= w.len() {
             return true;
         }
         let g = gens[i];
         if forms::reduce_rows(w, g) == 0 {
             d = d.insert(g);
-            i += 1;
-        } else {
-            i += 1;
         }
     }
-    d.len >= k
+    d.len >= w.len()
 }
 
 // Whether the basis has exactly these rows.
@@ -63,17 +47,5 @@ pub fn has_rows(b: Basis, rows: &[u64]) -> bool
     requires { Valid b }
     ensures { result ≡ same_basis word (rows_of b) rows.now }
 {
-    let own = b.rows;
-    let n = b.len;
-    if n != rows.len() {
-        return false;
-    }
-    let mut i = 0;
-    while i < n {
-        if own[i] != rows[i] {
-            return false;
-        }
-        i += 1;
-    }
-    true
+    &b.rows[..b.len] == rows
 }

@@ -26,12 +26,14 @@ struct Call {
 
 // One call, on the forms of a list, the costs of its generators, the rows of a space or a selection, and a lent buffer.
 fn call_on(rt: &impl Print, call: Call, gs: &[u64], ts: &[u64], others: &[u64], out: &mut [u64]) {
-    let which = call.which;
-    let number = call.number;
-    let p = call.p;
-    let q = call.q;
-    let r = call.r;
-    let asked = call.asked;
+    let Call {
+        which,
+        number,
+        p,
+        q,
+        r,
+        asked,
+    } = call;
     searches::mark(which, out);
     match which {
         0 => {

@@ -40,13 +40,10 @@ fn with_digit(x: u64, d: u64) -> u64
 
 // The number read so far, behind the byte b; 0 behind a byte that is no digit.
 fn next_value(b: u8, x: u64) -> u64 {
-    if b < 48 {
-        return 0;
+    match b {
+        b'0'..=b'9' => with_digit(x, u64::from(b - b'0')),
+        _ => 0,
     }
-    if b > 57 {
-        return 0;
-    }
-    with_digit(x, (b - 48) as u64)
 }
 
 // The place of the next number, among n.
@@ -54,25 +51,19 @@ fn next_place(b: u8, at: usize, n: usize) -> usize
     requires { at ≤ n }
     ensures { result ≤ n }
 {
-    if b > 47 {
-        return at;
-    }
-    if at < n { at + 1 } else { at }
+    if b < b'0' && at < n { at + 1 } else { at }
 }
 
 // The numbers of a text, each ended by a byte below the digits; how many there are.
 pub fn read_numbers(text: &[u8], out: &mut [u64]) -> usize
     ensures { IsPrefixLen result out.new }
 {
-    let mut x: u64 = 0;
-    let mut at: usize = 0;
-    let mut i: usize = 0;
-    while i < text.len() {
-        let b = text[i];
+    let mut x = 0;
+    let mut at = 0;
+    for b in text {
         words::put_word(out, at, x);
-        at = next_place(b, at, out.len());
-        x = next_value(b, x);
-        i += 1;
+        at = next_place(*b, at, out.len());
+        x = next_value(*b, x);
     }
     at
 }
@@ -90,10 +81,8 @@ pub fn print_next(rt: &impl Print, x: u64) {
 // Some numbers, and a colon before them.
 pub fn print_words(rt: &impl Print, xs: &[u64]) {
     print_text(rt, " :");
-    let mut i: usize = 0;
-    while i < xs.len() {
-        print_next(rt, xs[i]);
-        i += 1;
+    for x in xs {
+        print_next(rt, *x);
     }
 }
 

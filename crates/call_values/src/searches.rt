@@ -9,22 +9,17 @@ pub fn mark(which: u64, out: &mut [u64]) {
     if which > 2 {
         return;
     }
-    let mut i: usize = 0;
-    while i < out.len() {
-        out[i] = 1000000 + i as u64;
-        i += 1;
+    for (i, x) in out.iter_mut().enumerate() {
+        *x = 1000000 + i as u64;
     }
 }
 
 // A listing; the entries that it shows, by their numbers; and what is at the number behind the last.
 fn print_listing(rt: &impl Print, listing: &[u64], ell: u64, k: u64, shown: u64) {
     print_words(rt, listing);
-    let mut j: u64 = 0;
-    while j < shown {
+    for j in 0..=shown {
         print_words(rt, records::lookup::entry(listing, ell, k, shown, j));
-        j += 1;
     }
-    print_words(rt, records::lookup::entry(listing, ell, k, shown, shown));
 }
 
 // What Catalogue says, and the buffer.

@@ -6,13 +6,7 @@ use std::io::Print;
 
 // One number for all words of a buffer and their order.
 fn digest(xs: &[u64]) -> u64 {
-    let mut x: u64 = 0;
-    let mut i: usize = 0;
-    while i < xs.len() {
-        x = (x >> 1 | x << 63) ^ xs[i];
-        i += 1;
-    }
-    x
+    xs.iter().fold(0, |d, x| u64::rotate_right(d, 1) ^ *x)
 }
 
 // A buffer: its words where they are few, else its digest.

@@ -13,12 +13,10 @@ fn put_entries(listing: &[u64], ell: u64, k: u64, shown: usize, out: &mut [u8], 
         (21 * (shown * ((k - ell) + k)) + 25 * shown) out.new result }
 {
     let mut e = at;
-    let mut i = 0;
-    while i < shown {
-        let extension = records::lookup::extension(listing, ell, k, shown as u64, i as u64);
-        let rows = records::lookup::rows(listing, ell, k, shown as u64, i as u64);
-        e = printing::record_lines::put_entry(i as u64, extension, rows, out, e);
-        i += 1;
+    for i in 0..shown as u64 {
+        let extension = records::lookup::extension(listing, ell, k, shown as u64, i);
+        let rows = records::lookup::rows(listing, ell, k, shown as u64, i);
+        e = printing::record_lines::put_entry(i, extension, rows, out, e);
     }
     e
 }

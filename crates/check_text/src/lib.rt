@@ -41,7 +41,6 @@ pub fn check_reply(
         seconds,
         first_words(rows, outputs as usize),
     );
-    let verdict = said.verdict;
-    let n = replies::check_text(shape, k, verdict, said.adders, out);
+    let n = replies::check_text(shape, k, said.verdict, said.adders, out);
     if n == 0 { 9 } else { n }
 }

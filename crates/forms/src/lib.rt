@@ -15,14 +15,14 @@ pub mod products;
 pub fn coordinate(form: u64, t: usize) -> bool
     ensures { result ≡ bit form t }
 {
-    if t < 64 { (form >> t) & 1 == 1 } else { false }
+    t < 64 && (form >> t) & 1 == 1
 }
 
 // How many coordinates of a form are 1.
 pub fn ones(x: u64) -> usize
     ensures { result ≡ weight 64 x }
 {
-    u64::count_ones(x) as usize
+    x.count_ones() as usize
 }
 
 // The number of the highest coordinate that is 1; 0 for the zero form.
@@ -30,9 +30,10 @@ pub fn lead(x: u64) -> usize
     ensures { result ≡ top x }
 {
     if x == 0 {
-        return 0;
+        0
+    } else {
+        63 - x.leading_zeros() as usize
     }
-    63 - u64::leading_zeros(x) as usize
 }
 
 // `v` with the lead of `row` cleared: adding `row` makes `v` smaller exactly if `v` is 1 there.
@@ -48,13 +49,11 @@ pub fn reduce_rows(rows: &[u64], v: u64) -> u64
     ensures { result ≡ reduce word rows.now v }
 {
     let mut x = v;
-    let mut i = 0;
-    while i < rows.len() {
-        let w = x ^ rows[i];
+    for row in rows {
+        let w = x ^ *row;
         if w < x {
             x = w;
         }
-        i += 1;
     }
     x
 }

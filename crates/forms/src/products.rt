@@ -6,10 +6,7 @@ ghost use Rattle.forms.specs.products.Product.{product_form};
 fn width(n: usize, m: usize) -> usize
     ensures { result ≡ min (n * m) 64 }
 {
-    if m == 0 {
-        return 0;
-    }
-    if n > 64 / m { 64 } else { n * m }
+    n.saturating_mul(m).min(64)
 }
 
 // The word with the lowest m coordinates 1, or with all 64.
@@ -33,9 +30,10 @@ pub fn product(n: usize, m: usize, a: u64, b: u64) -> u64
     let mut form = 0u64;
     let mut i = 0usize;
     let mut at = 0usize;
+    // By hand: `step_by` may not be asked for steps of m where m is 0, and the test on `at` ends the loop there.
     while at < end {
         if (a >> i) & 1 == 1 {
-            form = form ^ (row << at);
+            form ^= row << at;
         }
         i += 1;
         at += m;

@@ -28,12 +28,10 @@ fn first_wrong(shape: Shape, n: u64, m: u64, forms: &[u64], rows: &[u64]) -> Ver
     requires { Judging shape n m forms.now rows.now }
     ensures { first_wrong shape n m forms.now rows.now 0 ≡ seen_verdict result }
 {
-    let mut t = 0;
-    while t < rows.len() {
-        if sums::row_form(forms, rows[t]) != maps::target(shape, n, m, t as u64) {
+    for (t, row) in rows.iter().enumerate() {
+        if sums::row_form(forms, *row) != maps::target(shape, n, m, t as u64) {
             return Verdict::Wrong(t as u64);
         }
-        t += 1;
     }
     Verdict::Right
 }
@@ -45,8 +43,7 @@ fn verdict_on(shape: Shape, n: u64, m: u64, a: &[u64], b: &[u64], rows: &[u64]) 
 {
     let mut products = [0u64; kinds::PRODUCTS];
     sums::product_forms(n as usize, m as usize, a, b, &mut products);
-    let k = a.len();
-    first_wrong(shape, n, m, &products[..k], rows)
+    first_wrong(shape, n, m, &products[..a.len()], rows)
 }
 
 // What is found of an admitted formula: the verdict and the adders.
@@ -64,7 +61,7 @@ pub fn judge(shape: Shape, n: u64, m: u64, a: &[u64], b: &[u64], rows: &[u64]) -
     let adders = sides::side_adders(a) + sides::side_adders(b) + sums::adders_of(rows);
     Judgement {
         verdict: verdict_on(shape, n, m, a, b, rows),
-        adders: adders,
+        adders,
     }
 }
 
@@ -72,23 +69,14 @@ pub fn judge(shape: Shape, n: u64, m: u64, a: &[u64], b: &[u64], rows: &[u64]) -
 fn too_wide(n: u64, m: u64, a: &[u64], b: &[u64], rows: &[u64]) -> bool
     ensures { result ≡ (wide n a.now || (wide m b.now || wide (length a.now) rows.now)) }
 {
-    if words::any_wide(a, n) {
-        return true;
-    }
-    if words::any_wide(b, m) {
-        return true;
-    }
-    words::any_wide(rows, a.len() as u64)
+    words::any_wide(a, n) || words::any_wide(b, m) || words::any_wide(rows, a.len() as u64)
 }
 
 // Whether a factor is zero.
 fn zero_factor(a: &[u64], b: &[u64]) -> bool
     ensures { result ≡ (zero_in a.now || zero_in b.now) }
 {
-    if words::any_zero(a) {
-        return true;
-    }
-    words::any_zero(b)
+    words::any_zero(a) || words::any_zero(b)
 }
 
 // The refusal of a formula with k products whose lists have the right lengths, 6 to 8, or 0: whether a mask or row is too wide, whether a factor is zero.
@@ -96,25 +84,21 @@ pub fn refusal(wide: bool, zero: bool, k: usize) -> u64
     ensures { result ≡ refusal_of wide zero k }
 {
     if wide {
-        return 6;
+        6
+    } else if zero {
+        7
+    } else if k > kinds::PRODUCTS {
+        8
+    } else {
+        0
     }
-    if zero {
-        return 7;
-    }
-    if kinds::PRODUCTS < k { 8 } else { 0 }
 }
 
 // Whether a buffer of la, lb or lr words is too short for k products and u rows.
 pub fn too_short(k: usize, u: usize, la: usize, lb: usize, lr: usize) -> bool
     ensures { result ≡ (ltb la k || (ltb lb k || ltb lr u)) }
 {
-    if la < k {
-        return true;
-    }
-    if lb < k {
-        return true;
-    }
-    lr < u
+    la < k || lb < k || lr < u
 }
 
 // A formula on numbers: a refusal's number, or the kind and sizes, n and m.

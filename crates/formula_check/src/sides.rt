@@ -12,9 +12,10 @@ fn first_slot(x: u64) -> usize
     ensures { (result ≡ x % mask_slots) × (result < mask_slots) }
 {
     if x < SLOTS as u64 {
-        return x as usize;
+        x as usize
+    } else {
+        (x % SLOTS as u64) as usize
     }
-    (x % SLOTS as u64) as usize
 }
 
 // What mask i adds to the adders of those after it: of w ones w - 1, nothing where an equal one is among them. `slots` has those after it, and then this one.
@@ -29,10 +30,11 @@ fn mask_adders(masks: &[u64], i: usize, slots: &mut [u16]) -> u64
     }
     let q = words::tables::seek(slots, masks, first_slot(x), x);
     if q == SLOTS {
-        if words::lists::stands_from(x, masks, i + 1) {
-            return 0;
-        }
-        return w - 1;
+        return if words::lists::stands_from(x, masks, i + 1) {
+            0
+        } else {
+            w - 1
+        };
     }
     if slots[q] != 0 {
         return 0;
@@ -48,9 +50,7 @@ pub fn side_adders(masks: &[u64]) -> u64
 {
     let mut slots = [0u16; SLOTS];
     let mut sum: u64 = 0;
-    let mut i = masks.len();
-    while i > 0 {
-        i -= 1;
+    for i in (0..masks.len()).rev() {
         sum += mask_adders(masks, i, &mut slots);
     }
     sum

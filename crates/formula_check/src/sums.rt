@@ -10,13 +10,8 @@ pub fn adders_of(masks: &[u64]) -> u64
     ensures { (result ≡ adders_of masks.now) × (result ≤ most_products * 64) }
 {
     let mut sum: u64 = 0;
-    let mut i = 0;
-    while i < masks.len() {
-        let w = forms::ones(masks[i]) as u64;
-        if w != 0 {
-            sum += w - 1;
-        }
-        i += 1;
+    for mask in masks {
+        sum += (forms::ones(*mask) as u64).saturating_sub(1);
     }
     sum
 }
@@ -26,10 +21,8 @@ pub fn product_forms(n: usize, m: usize, a: &[u64], b: &[u64], out: &mut [u64; k
     requires { (length a.now ≡ length b.now) × (length a.now ≤ most_products) × (length out.old ≡ most_products) }
     ensures { FormsFilled (product_forms n m a.now b.now) (length a.now) out.new }
 {
-    let mut i = 0;
-    while i < a.len() {
-        out[i] = forms::products::product(n, m, a[i], b[i]);
-        i += 1;
+    for (i, x) in a.iter().enumerate() {
+        out[i] = forms::products::product(n, m, *x, b[i]);
     }
 }
 
@@ -39,12 +32,10 @@ pub fn row_form(forms: &[u64], row: u64) -> u64
     ensures { result ≡ row_form forms.now row 0 }
 {
     let mut sum: u64 = 0;
-    let mut i = 0;
-    while i < forms.len() {
+    for (i, form) in forms.iter().enumerate() {
         if (row >> i) & 1 == 1 {
-            sum = sum ^ forms[i];
+            sum ^= *form;
         }
-        i += 1;
     }
     sum
 }

@@ -11,8 +11,8 @@ ghost use Rattle.kinds.specs.Numbers.{reply_numbers};
 ghost use Rattle.formula_check.specs.Replies.{formula_values};
 
 use kinds::Shape;
-use lines::BodyRead;
-use text::heads::HeadRead;
+use lines::Body;
+use text::heads::Head;
 
 pub mod lines;
 pub mod refusals;
@@ -30,7 +30,7 @@ fn read_under(
 ) -> u64
     ensures { Under k n m t s.now a.old b.old d.old a.new b.new d.new result }
 {
-    let BodyRead::Are(wide, zero) = lines::read_body(s, k, n, m, t, a, b, d) else {
+    let Some(Body { wide, zero }) = lines::read_body(s, k, n, m, t, a, b, d) else {
         return 5;
     };
     refusals::refusal(wide, zero, k, t, a.len(), b.len(), d.len())
@@ -49,12 +49,20 @@ fn read_whole(s: &[u8], a: &mut [u64], b: &mut [u64], d: &mut [u64]) -> Read
         × Left (formula_file s.now (length a.old) (length b.old) (length d.old)) a.old
         b.old d.old a.new b.new d.new }
 {
-    let HeadRead::Is(known, p, q, r, k, used) = text::heads::head_lines(s) else {
+    let Some(head) = text::heads::head_lines(s) else {
         return Read::Refused(1);
     };
-    let Some(kind) = kinds::known_map(known) else {
+    let Some(kind) = kinds::known_map(head.kind) else {
         return Read::Refused(2);
     };
+    let Head {
+        p,
+        q,
+        r,
+        k,
+        used,
+        ..
+    } = head;
     let shape = Shape { kind, p, q, r };
     let Some((n, m, t)) = kinds::sizes_of(shape) else {
         return Read::Refused(3);
@@ -89,13 +97,10 @@ pub fn read_formula(s: &[u8], a: &mut [u64], b: &mut [u64], rows: &mut [u64]) ->
         (formula_file s.now (length a.old) (length b.old) (length rows.old))) }
 {
     let got = read_whole(s, a, b, rows);
-    match got {
-        Read::Refused(e) => {
-            words::clear(a);
-            words::clear(b);
-            words::clear(rows);
-            Read::Refused(e)
-        }
-        Read::Formula(shape, k) => Read::Formula(shape, k),
+    if let Read::Refused(_) = got {
+        words::clear(a);
+        words::clear(b);
+        words::clear(rows);
     }
+    got
 }

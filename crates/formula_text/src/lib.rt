@@ -22,7 +22,7 @@ fn put_count(n: u64, out: &mut [u8], at: usize) -> usize
     requires { at ≤ 4000000 }
     ensures { Piece out.old at (comma ∷ count_text n) 5 out.new result }
 {
-    printing::put_byte(out, at, 44);
+    printing::put_byte(out, at, b',');
     printing::put_number(n, 10, 4, out, at + 1)
 }
 
@@ -31,8 +31,7 @@ fn put_shape(shape: Shape, k: u64, out: &mut [u8], at: usize) -> usize
     requires { at ≤ 3000000 }
     ensures { Piece out.old at (shape_text shape k) 25 out.new result }
 {
-    let kind = shape.kind;
-    let a = printing::put_kind(kind, out, at);
+    let a = printing::put_kind(shape.kind, out, at);
     let b = put_count(shape.p, out, a);
     let c = put_count(shape.q, out, b);
     let d = put_count(shape.r, out, c);
@@ -55,7 +54,7 @@ fn put_product(x: u64, y: u64, out: &mut [u8], at: usize) -> usize
     ensures { Piece out.old at (products_text (x ∷ []) (y ∷ []) []) 34 out.new result }
 {
     let a = printing::put_number(x, 16, 16, out, at);
-    printing::put_byte(out, a, 44);
+    printing::put_byte(out, a, b',');
     let b = printing::put_number(y, 16, 16, out, a + 1);
     printing::put_bytes(b"\n", out, b)
 }
@@ -66,10 +65,8 @@ fn put_products(xs: &[u64], ys: &[u64], out: &mut [u8], at: usize) -> usize
     ensures { Piece out.old at (products_text xs.now ys.now []) (34 * length xs.now) out.new result }
 {
     let mut e = at;
-    let mut i = 0;
-    while i < xs.len() {
-        e = put_product(xs[i], ys[i], out, e);
-        i += 1;
+    for (x, y) in xs.iter().zip(ys) {
+        e = put_product(*x, *y, out, e);
     }
     e
 }
@@ -89,10 +86,8 @@ fn put_rows(zs: &[u64], out: &mut [u8], at: usize) -> usize
     ensures { Piece out.old at (rows_text zs.now []) (17 * length zs.now) out.new result }
 {
     let mut e = at;
-    let mut i = 0;
-    while i < zs.len() {
-        e = put_row(zs[i], out, e);
-        i += 1;
+    for z in zs {
+        e = put_row(*z, out, e);
     }
     e
 }

@@ -28,8 +28,7 @@ fn put_formulae(
     ensures { Piece out.old at (formula_lines entry k t n listing.now) (21 * (n * (k + t)) + 46 * n) out.new result }
 {
     let mut e = at;
-    let mut i = 0;
-    while i < n {
+    for i in 0..n {
         let s = i * (k + t);
         e = put_formula(
             entry,
@@ -39,7 +38,6 @@ fn put_formulae(
             out,
             e,
         );
-        i += 1;
     }
     e
 }

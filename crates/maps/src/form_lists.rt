@@ -12,11 +12,7 @@ pub fn copy_forms(xs: &[u64], out: &mut [u64])
     requires { length xs.now ≤ length out.old }
     ensures { take (length xs.now) out.new ≡ xs.now }
 {
-    let mut i = 0;
-    while i < xs.len() {
-        out[i] = xs[i];
-        i += 1;
-    }
+    out[..xs.len()].copy_from_slice(xs);
 }
 
 // The c generators in n and m variables, from the buffer's start.
@@ -24,10 +20,8 @@ pub fn fill_generators(n: u64, m: u64, c: u64, g: &mut [u64])
     requires { Made n m c g.old }
     ensures { take c g.new ≡ generator_forms n m }
 {
-    let mut j = 0u64;
-    while j < c {
+    for j in 0..c {
         g[j as usize] = super::generator_form(n, m, j);
-        j += 1;
     }
 }
 
@@ -36,10 +30,8 @@ pub fn fill_costs(n: u64, m: u64, c: u64, out: &mut [u64])
     requires { Made n m c out.old }
     ensures { take c out.new ≡ generator_costs n m }
 {
-    let mut i = 0u64;
-    while i < c {
+    for i in 0..c {
         out[i as usize] = super::generator_cost(m, i);
-        i += 1;
     }
 }
 
@@ -48,9 +40,7 @@ pub fn fill_targets(shape: Shape, n: u64, m: u64, u: u64, t: &mut [u64])
     requires { Mapping shape n m u t.old }
     ensures { take u t.new ≡ list_of (target_form shape n m) 0 u }
 {
-    let mut i = 0u64;
-    while i < u {
+    for i in 0..u {
         t[i as usize] = super::target(shape, n, m, i);
-        i += 1;
     }
 }

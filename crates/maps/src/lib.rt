@@ -21,19 +21,11 @@ fn is_pair(shape: Shape, t: u64, i: u64, j: u64) -> bool
     requires { Terms shape t i j }
     ensures { result ≡ pair shape t i j }
 {
-    let kind = shape.kind;
-    match kind {
-        Kind::Poly => i + j == t,
-        Kind::Short => i + j == t,
+    match shape.kind {
+        Kind::Poly | Kind::Short => i + j == t,
         Kind::Circ => (i + j) % shape.p == t,
         Kind::Mat => {
-            if i / shape.q != t / shape.r {
-                return false;
-            }
-            if i % shape.q != j / shape.r {
-                return false;
-            }
-            j % shape.r == t % shape.r
+            i / shape.q == t / shape.r && i % shape.q == j / shape.r && j % shape.r == t % shape.r
         }
         Kind::List => false,
         Kind::Mid => i + j == shape.p - 1 + t,
@@ -45,14 +37,11 @@ fn sum_of_pairs(shape: Shape, n: u64, m: u64, t: u64) -> u64
     requires { Accepted shape n m t }
     ensures { result ≡ target_form shape n m t }
 {
-    let end = n * m;
     let mut form = 0u64;
-    let mut s = 0u64;
-    while s < end {
+    for s in 0..n * m {
         if is_pair(shape, t, s / m, s % m) {
-            form = (1u64 << s) ^ form;
+            form ^= 1u64 << s;
         }
-        s += 1;
     }
     form
 }

@@ -7,7 +7,6 @@ ghost use Rattle.problem_files.specs.posing.Views.{Handed, Poses};
 
 use kinds::Shape;
 use problems::Posed;
-use text::heads::HeadRead;
 use words::first_words;
 
 // A refusal's number; or the kind and sizes, k, and the numbers of generators and of targets.
@@ -76,15 +75,20 @@ pub fn pose_file(
         × (most_generators ≤ length g.old) × (most_targets ≤ length t.old) }
     ensures { Poses (posed_file file.now) gs.new ts.new cs.new g.new t.new result }
 {
-    let HeadRead::Is(known, p, q, r, k, at) = text::heads::head_lines(file) else {
+    let Some(head) = text::heads::head_lines(file) else {
         return PosedRead::Refused(1);
     };
-    let Some(kind) = known else {
+    let Some(kind) = head.kind else {
         return PosedRead::Refused(2);
     };
-    let shape = Shape { kind, p, q, r };
-    let Some((n, m, o)) = kinds::sizes_of(shape) else {
+    let shape = Shape {
+        kind,
+        p: head.p,
+        q: head.q,
+        r: head.r,
+    };
+    let Some((n, m, _)) = kinds::sizes_of(shape) else {
         return PosedRead::Refused(3);
     };
-    pose_lines(shape, k, n, m, &file[at..], gs, ts, cs, g, t)
+    pose_lines(shape, head.k, n, m, &file[head.used..], gs, ts, cs, g, t)
 }

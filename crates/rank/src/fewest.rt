@@ -18,13 +18,6 @@ pub enum Ranked {
     Beyond,
 }
 
-// The least number of dimensions with an entry.
-#[derive(Clone, Copy)]
-enum Least {
-    No,
-    Is(usize),
-}
-
 // Whether there is an entry for `k`; then from the start of `held` the cost and the numbers of the cheapest formula of all of them. Below `bound` there is
 // none, and nothing is searched.
 fn meet(
@@ -46,19 +39,24 @@ fn meet(
 }
 
 // The least number of dimensions, from that of the targets' basis `b` to 6 more, that has an entry; from the start of `held` the cost and the numbers of the
-// cheapest
-// formula of all of its entries.
-fn least_formula(gens: &[u64], b: Basis, order: &[u64], prices: &[u64], held: &mut [u64]) -> Least
+// cheapest formula of all of its entries.
+fn least_formula(
+    gens: &[u64],
+    b: Basis,
+    order: &[u64],
+    prices: &[u64],
+    held: &mut [u64],
+) -> Option<usize>
     requires { Asking gens.now b order.now prices.now held.old }
     ensures { LeastFrom gens.now b prices.now result held.new }
 {
     let bound = least_products(gens, b);
     for k in b.len..b.len + 7 {
         if meet(gens, b, bound, k, order, prices, held) {
-            return Least::Is(k);
+            return Some(k);
         }
     }
-    Least::No
+    None
 }
 
 // The formula with these numbers, if there is room for it.
@@ -91,7 +89,7 @@ pub fn rank_of(gens: &[u64], targets: &[u64], prices: &[u64], b: Basis, out: &mu
     let mut by_price = [0u64; kinds::GENERATORS];
     cheapest::ordering::order(prices, &mut by_price);
     let mut held = [0u64; cheapest::FORMULA];
-    let Least::Is(k) = least_formula(gens, b, first_words(&by_price, n), prices, &mut held) else {
+    let Some(k) = least_formula(gens, b, first_words(&by_price, n), prices, &mut held) else {
         return Ranked::Above;
     };
     finish(gens, targets, first_words(&held[1..], k), out)

@@ -17,9 +17,10 @@ fn check_whole(file: &[u8], out: &mut [u8]) -> usize
     }
     let n = super::gijpsando_check(file, out);
     if 35 < n {
-        return n;
+        n
+    } else {
+        printing::fields::refused_text(n as u64, out)
     }
-    printing::fields::refused_text(n as u64, out)
 }
 
 // What the Check program prints of an input goes to a lent page, the rest of which stays as it was; a page that is too short is refused by 9. 256 bytes

@@ -23,8 +23,7 @@ pub fn gijpsando_check(file: &[u8], out: &mut [u8]) -> usize
     let mut a = [0u64; kinds::PRODUCTS];
     let mut b = [0u64; kinds::PRODUCTS];
     let mut rows = [0u64; kinds::TARGETS];
-    let got = formula_files::read_formula(file, &mut a, &mut b, &mut rows);
-    match got {
+    match formula_files::read_formula(file, &mut a, &mut b, &mut rows) {
         Read::Refused(e) => e as usize,
         Read::Formula(shape, k) => check_text::check_reply(shape, k, &a, &b, &rows, out),
     }
@@ -56,8 +55,7 @@ pub fn gijpsando_check_numbers(
     ensures { (result ≡ numbers_reply (check kind p q r k a.now b.now rows.now) reply.old)
         × (reply.new ≡ numbers_lent (check kind p q r k a.now b.now rows.now) reply.old) }
 {
-    let said = formula_check::check(kind, p, q, r, k, a, b, rows);
-    match said {
+    match formula_check::check(kind, p, q, r, k, a, b, rows) {
         Reply::Refused(e) => e,
         Reply::Judged(v, w) => {
             if reply.len() < 3 {

@@ -2,35 +2,19 @@
 // What is read and written can't be in a contract: the calls of the operating system promise nothing of it.
 #![tactic(auto)]
 
-ghost use Rattle.std.specs.Prelude.{◌+◌, ◌≤◌, length};
+ghost use Rattle.std.specs.Prelude.{◌+◌, ◌≤◌, length, IfOk};
 ghost use Rattle.io.specs.Counts.{IsPrefixLen};
 ghost use Rattle.printing.specs.pages.Printed.{PrintedWhole};
 
 use printing::pages::Printed;
 use std::io::{Eprint, Print, Read};
 
-// What one read brings: nothing and `failed`, or `count` bytes, none at the end of the input.
-#[derive(Clone, Copy)]
-struct Got {
-    failed: bool,
-    count: usize,
-}
-
-// One read of the input, into the room from place `done` on.
-fn read_from<R: Read>(reader: &mut R, room: &mut [u8], done: usize) -> Got
+// One read of the input, into the room from place `done` on: how many bytes it brings, none at the end of the input.
+fn read_from<R: Read>(reader: &mut R, room: &mut [u8], done: usize) -> std::io::Result<usize>
     requires { done ≤ length room.old }
-    ensures { done + result.count ≤ length room.new }
+    ensures { IfOk result (λ count. done + count ≤ length room.new) }
 {
-    match reader.read(&mut room[done..]) {
-        Ok(count) => Got {
-            failed: false,
-            count,
-        },
-        Err(_) => Got {
-            failed: true,
-            count: 0,
-        },
-    }
+    reader.read(&mut room[done..])
 }
 
 // An input: its bytes are the first `count` of the room, and all of them unless a read failed.
@@ -46,17 +30,16 @@ pub fn read_full<R: Read>(reader: &mut R, room: &mut [u8]) -> Input
 {
     let mut done = 0;
     while done < room.len() {
-        let got = read_from(reader, room, done);
-        if got.failed {
-            return Input {
-                whole: false,
-                count: done,
-            };
+        match read_from(reader, room, done) {
+            Ok(0) => break,
+            Ok(count) => done += count,
+            Err(_) => {
+                return Input {
+                    whole: false,
+                    count: done,
+                };
+            }
         }
-        if got.count == 0 {
-            break;
-        }
-        done += got.count;
     }
     Input {
         whole: true,

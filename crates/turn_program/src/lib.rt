@@ -16,7 +16,6 @@ ghost use Rattle.turn_program.specs.TurnProgram.{turn_program};
 use formula_files::Read;
 use kinds::Shape;
 use printing::pages::Printed;
-use text::heads::HeadRead;
 use words::first_words;
 
 // The turned formula of a full product formula that was read: refused by 12 or 9, or its shape and k, and the buffers u, v and w are filled.
@@ -63,10 +62,10 @@ fn turn_file(s: &[u8], u: &mut [u64], v: &mut [u64], w: &mut [u64]) -> Read
     ensures { (result ≡ formula_reply (turn_file s.now))
         × Left (turn_file s.now) u.old v.old w.old u.new v.new w.new }
 {
-    let HeadRead::Is(known, p, q, r, _, _) = text::heads::head_lines(s) else {
+    let Some(head) = text::heads::head_lines(s) else {
         return Read::Refused(1);
     };
-    let unfit = turning::turn_refusal(known, p, q, r);
+    let unfit = turning::turn_refusal(head.kind, head.p, head.q, head.r);
     if unfit != 0 {
         return Read::Refused(unfit);
     }

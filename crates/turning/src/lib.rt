@@ -61,12 +61,10 @@ fn reversed(n: usize, x: u64) -> u64
     ensures { result ≡ reversed n x }
 {
     let mut form = 0u64;
-    let mut i = 0;
-    while i < n {
+    for i in 0..n {
         if forms::coordinate(x, n - 1 - i) {
-            form = (1u64 << i) ^ form;
+            form ^= 1u64 << i;
         }
-        i += 1;
     }
     form
 }
@@ -77,12 +75,10 @@ fn column(masks: &[u64], l: usize) -> u64
     ensures { result ≡ column masks.now l }
 {
     let mut form = 0u64;
-    let mut t = 0;
-    while t < masks.len() {
-        if forms::coordinate(masks[t], l) {
-            form = (1u64 << t) ^ form;
+    for (t, mask) in masks.iter().enumerate() {
+        if forms::coordinate(*mask, l) {
+            form ^= 1u64 << t;
         }
-        t += 1;
     }
     form
 }
@@ -92,10 +88,8 @@ fn put_reversed(n: usize, masks: &[u64], out: &mut [u64])
     requires { (n ≤ 64) × (length masks.now ≤ length out.old) }
     ensures { out.new ≡ filled (map (reversed n) masks.now) out.old }
 {
-    let mut l = 0;
-    while l < masks.len() {
-        out[l] = reversed(n, masks[l]);
-        l += 1;
+    for (l, mask) in masks.iter().enumerate() {
+        out[l] = reversed(n, *mask);
     }
 }
 
@@ -104,10 +98,8 @@ fn put_columns(masks: &[u64], c: usize, out: &mut [u64])
     requires { (length masks.now ≤ 64) × (c ≤ length out.old) }
     ensures { out.new ≡ filled (columns masks.now c) out.old }
 {
-    let mut l = 0;
-    while l < c {
+    for l in 0..c {
         out[l] = column(masks, l);
-        l += 1;
     }
 }
 
@@ -116,14 +108,7 @@ fn any_unused(rows: &[u64], k: usize) -> bool
     requires { length rows.now ≤ 64 }
     ensures { result ≡ zero_in (columns rows.now k) }
 {
-    let mut l = 0;
-    while l < k {
-        if column(rows, l) == 0 {
-            return true;
-        }
-        l += 1;
-    }
-    false
+    (0..k).any(|l| column(rows, l) == 0)
 }
 
 // An admitted full product formula of n by n variables, turned: 12 or 9, and the buffers as they were; or 0, and the turned formula's masks and rows from the

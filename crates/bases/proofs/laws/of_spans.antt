@@ -1,4 +1,3 @@
 -- The laws behind the tests.
 pub mod Missing
 pub mod Completing
-pub mod Same

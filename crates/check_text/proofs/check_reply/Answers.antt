@@ -1,5 +1,5 @@
 -- `check_text::check_reply` meets its contract. Assumes nothing.
-use mathlib.Core.Path.{◌≡◌, ap, ◌∙◌}
+use mathlib.Core.Path.{◌≡◌, ◌∙◌}
 use Rattle.std.specs.Prelude.{None}
 use Prim.Native.Nat.{ℕ}
 use native.Mathlib.Omega.{arith}
@@ -20,11 +20,11 @@ judge-said-requires c =
     let args = c.args in
     in_fits args.shape args.k args.a.now args.b.now args.rows.now
     c.requires
-    c.in-Are.n c.in-Are.m c.in-Are.outputs (c.sizes_of.ensures ∙ c.in-Are.is) _ _ _
+    _ _ _ c.in-Some.ensures _ _ _
     c.first_words-firsts.ensures c.first_words-seconds.ensures c.first_words.ensures
 
 pub returns-then-n-eq0 : goal.returns-then-n-eq0
-returns-then-n-eq0 c = answer_short _ _ _ _ _ _ _ _ ((let args = c.args in in_text args.shape args.k args.a.now args.b.now args.rows.now c.requires c.in-Are.n c.in-Are.m c.in-Are.outputs (c.sizes_of.ensures ∙ c.in-Are.is) _ _ _ c.first_words-firsts.ensures c.first_words-seconds.ensures c.first_words.ensures _ _ c.judge-said.ensures)) c.check_text-n.ensures c.if-n-eq0.true
+returns-then-n-eq0 c = answer_short _ _ _ _ _ _ _ _ ((let args = c.args in in_text args.shape args.k args.a.now args.b.now args.rows.now c.requires _ _ _ c.in-Some.ensures _ _ _ c.first_words-firsts.ensures c.first_words-seconds.ensures c.first_words.ensures _ _ c.judge-said.ensures)) c.check_text-n.ensures c.if-n-eq0.true
 
 pub returns-else-n-eq0 : goal.returns-else-n-eq0
-returns-else-n-eq0 c = answer_whole _ _ _ _ _ _ _ _ ((let args = c.args in in_text args.shape args.k args.a.now args.b.now args.rows.now c.requires c.in-Are.n c.in-Are.m c.in-Are.outputs (c.sizes_of.ensures ∙ c.in-Are.is) _ _ _ c.first_words-firsts.ensures c.first_words-seconds.ensures c.first_words.ensures _ _ c.judge-said.ensures)) c.check_text-n.ensures c.if-n-eq0.false
+returns-else-n-eq0 c = answer_whole _ _ _ _ _ _ _ _ ((let args = c.args in in_text args.shape args.k args.a.now args.b.now args.rows.now c.requires _ _ _ c.in-Some.ensures _ _ _ c.first_words-firsts.ensures c.first_words-seconds.ensures c.first_words.ensures _ _ c.judge-said.ensures)) c.check_text-n.ensures c.if-n-eq0.false

@@ -1,8 +1,6 @@
 -- `formula_check::admit` meets its contract. Assumes nothing.
-use Rattle.std.proofs.Common.{sym, ap, ◌∙◌, ◌≡◌, ℕ, length, arith}
+use Rattle.std.proofs.Common.{ap, ◌∙◌, arith}
 use Rattle.kinds.specs.Kinds.{known_map}
-use Rattle.kinds.specs.Sizes.{shape_of}
-use Rattle.formula_check.specs.Formula.{passed}
 use Rattle.formula_check.proofs.laws.Admission.{unlike_a, unlike_b, unlike_rows, passed_not, passed_is}
 use Rattle.formula_check.proofs.laws.Admission.{admit_2, admit_3, admit_5, admit_alike}
 use Rattle.formula_check.proofs.admit.Goals as goal

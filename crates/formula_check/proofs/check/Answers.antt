@@ -1,6 +1,5 @@
 -- `formula_check::check` meets its contract. Assumes nothing.
 use mathlib.Core.Path.{ap, ◌∙◌}
-use borrow.Author.Rules.{rules}
 use Rattle.kinds.specs.Refusal.{accepted}
 use Rattle.formula_check.specs.Formula.{formula_of}
 use Rattle.formula_check.specs.Replies.{seen_admission}

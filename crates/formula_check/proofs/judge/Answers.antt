@@ -4,7 +4,6 @@ use Rattle.std.specs.Prelude.{Option}
 use Prim.Native.Nat.{ℕ}
 use native.Mathlib.Omega.{arith}
 use lib.ListN.{length}
-use borrow.Author.Rules.{rules}
 use Rattle.kinds.specs.laws.Sizes.{sizes_bounds}
 use Rattle.formula_check.proofs.judge.Goals as goal
 

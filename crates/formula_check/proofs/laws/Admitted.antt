@@ -12,7 +12,7 @@ use Rattle.std.proofs.lemmas.Bool.{not-false}
 use Rattle.kinds.specs.Kinds.{kind_numbered, is_list, known_map}
 use Rattle.kinds.specs.Limits.{most_products}
 use Rattle.kinds.specs.Sizes.{shape_of, sizes}
-use Rattle.kinds.specs.Refusal.{accepted, refuse}
+use Rattle.kinds.specs.Refusal.{accepted}
 use Rattle.kinds.specs.laws.Refusal.{accepted_inj, need_inv, refuse_inv, neither}
 use Rattle.words.specs.Masks.{wide, zero_in}
 use Rattle.kinds.specs.declared.Kind.{Kind}

@@ -6,9 +6,6 @@ use native.Mathlib.Omega.{arith}
 use lib.ListN.{length}
 use lib.Seq.{length-take-le}
 use Rattle.formula_check.specs.Formula.{first_wrong}
-use borrow.Author.Rules.{rules}
-use Rattle.formula_check.proofs.first_wrong.Reads as first-wrong-reads
-use Rattle.formula_check.proofs.sums.product_forms.Reads as product-forms-reads
 use Rattle.formula_check.proofs.verdict_on.Goals as goal
 
 pub slice_bounds-first_wrong-end : goal.slice_bounds-first_wrong-end

@@ -1,7 +1,7 @@
 -- A reading, case by case, in the terms of the code's answers.
 --   file_1, file_rest       the first two lines; rest_2 .. rest-judged: refusals 2, 3, and what is left
 --   judged_not, judged_is   refusals 6 to 9 by one number, and the formula
---   under_none, under_told  what the reading of the lines says; final_refused, final-formula: the whole call
+--   under_none, under_told  what the reading of the lines says
 -- Assumes nothing.
 use Rattle.std.specs.Prelude.{ℕ, ◌-◌, ◌≤◌, ◌≡◌, refl, List, Bool, true, false, ◌||◌, ltb, length, take, drop, Option, None, Some}
 use Rattle.std.proofs.Math.Path.{sym, ap₂}
@@ -14,18 +14,15 @@ use Rattle.kinds.specs.Limits.{most_products}
 use Rattle.kinds.specs.Refusal.{Answer, refused, accepted, refuse, follow}
 use Rattle.kinds.specs.Sizes.{shape_of, sizes}
 use Rattle.words.specs.Masks.{wide, zero_in}
-use Rattle.words.specs.Buffers.{filled, zeros}
+use Rattle.words.specs.Buffers.{filled}
 use Rattle.words.specs.laws.Buffers.{filled_sets}
 use Rattle.text.specs.heads.Head.{Head, head_lines}
-use Rattle.text.specs.heads.Views.{bytes_head}
-use Rattle.text.specs.declared.heads.HeadRead.{HeadRead}
-use Rattle.text.specs.declared.heads.HeadRead.TheVariants as hd
 use Rattle.formula_check.specs.Formula.{Admitted, formula_of, passed, admit, too_short, held_in}
 use Rattle.formula_files.specs.lines.Formula.{body}
 use Rattle.formula_files.specs.refusals.Number.{number}
 use Rattle.formula_files.specs.lines.laws.Told.{Told}
 use Rattle.formula_files.specs.FormulaFile.{under, rest, formula_file}
-use Rattle.formula_files.specs.Lent.{formula_reply, first_of, second_of, rows_lent, Left, Under}
+use Rattle.formula_files.specs.Lent.{formula_reply, Left, Under}
 use Rattle.formula_files.specs.declared.Read.{Read}
 use Rattle.formula_files.specs.declared.Read.TheVariants as read
 
@@ -152,17 +149,3 @@ under_at k n m t s u a b d a₁ b₁ d₁ e h = rw (part_to_end s u) at h
 
 pub left_under : (o o' : Answer Admitted) (x : Read) (a b d a₁ b₁ d₁ : List ℕ) → o ≡ o' → (x ≡ formula_reply o') × Left o' a b d a₁ b₁ d₁ → (x ≡ formula_reply o) × Left o a b d a₁ b₁ d₁
 left_under o o' x a b d a₁ b₁ d₁ e h = rw e h
-
--- ---- the whole call
-pub final_refused : (o : Answer Admitted) (e : ℕ) (r : Read) (a b d a₁ b₁ d₁ : List ℕ) → r ≡ formula_reply o → r ≡ read.Refused e → a₁ ≡ zeros a → b₁ ≡ zeros b → d₁ ≡ zeros d
-    → (read.Refused e ≡ formula_reply o) × (a₁ ≡ first_of o a) × (b₁ ≡ second_of o b) × (d₁ ≡ rows_lent o d)
-final_refused (refused x) e r a b d a₁ b₁ d₁ h g ha hb hd = (sym g ∙ h, ha, hb, hd)
-final_refused (accepted f) e r a b d a₁ b₁ d₁ h g ha hb hd = absurd (let q : ◌≡◌ {A = ℕ} 0 1 = cc in omega arith)
-
-pub final_formula : (o : Answer Admitted) (shape : Shape) (k : ℕ) (r : Read) (a b d a₁ b₁ d₁ : List ℕ) → r ≡ formula_reply o → r ≡ read.Formula shape k → Left o a b d a₁ b₁ d₁
-    → (read.Formula shape k ≡ formula_reply o) × (a₁ ≡ first_of o a) × (b₁ ≡ second_of o b) × (d₁ ≡ rows_lent o d)
-final_formula (refused x) shape k r a b d a₁ b₁ d₁ h g l = absurd (let q : ◌≡◌ {A = ℕ} 0 1 = cc in omega arith)
-final_formula (accepted f) shape k r a b d a₁ b₁ d₁ h g l = (sym g ∙ h, l.0, l.1, l.2)
-
-pub head_fit : (x : HeadRead) (kind : Option Kind) (p q r k u n : ℕ) → bytes_head x ≤ n → x ≡ hd.Is kind p q r k u → u ≤ n
-head_fit x kind p q r k u n e h = rw h at e

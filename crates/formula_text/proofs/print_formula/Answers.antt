@@ -1,5 +1,5 @@
 -- `formula_text::print_formula` meets its contract. Assumes nothing.
-use mathlib.Core.Path.{◌≡◌, ap, ◌∙◌}
+use mathlib.Core.Path.{◌≡◌, ◌∙◌}
 use Rattle.std.specs.Prelude.{None}
 use Prim.Native.Nat.{ℕ}
 use native.Mathlib.Omega.{arith}
@@ -16,14 +16,12 @@ returns-in_default c =
 pub put_formula-requires : goal.put_formula-requires
 put_formula-requires c =
     let args = c.args in
-    held_asked args.shape args.k args.a.now args.b.now args.rows.now c.requires.0 c.in-Are.field-0 c.in-Are.field-1 c.in-Are.outputs
-    (c.sizes_of.ensures ∙ c.in-Are.is) _ _ _ c.first_words.ensures
+    held_asked args.shape args.k args.a.now args.b.now args.rows.now c.requires.0 _ _ _ c.in-Some.ensures _ _ _ c.first_words.ensures
     c.first_words-2.ensures c.first_words-3.ensures
 
 pub returns : goal.returns
 returns c =
     let args = c.args in
-    held_whole args.shape args.k args.a.now args.b.now args.rows.now c.requires.0 c.in-Are.field-0 c.in-Are.field-1 c.in-Are.outputs
-    (c.sizes_of.ensures ∙ c.in-Are.is) _ _ _ c.first_words.ensures
+    held_whole args.shape args.k args.a.now args.b.now args.rows.now c.requires.0 _ _ _ c.in-Some.ensures _ _ _ c.first_words.ensures
     c.first_words-2.ensures c.first_words-3.ensures _ _ _ c.requires.1
     c.put_formula.ensures

@@ -9,16 +9,16 @@ pub returns-then-n-eq0 : goal.returns-then-n-eq0
 returns-then-n-eq0 c =
     let a = c.args in
     elim c.then-n-eq0.branch [
-      then-n-eq0-via-then-n-eq0 w ↦ count_is a.n a.m 0 (count_none_left a.n a.m w.if-n-eq0.true) (omega arith)
-    | then-n-eq0-via-else-n-eq0+then-m-eq0 w ↦ count_is a.n a.m 0 (count_none_right a.n a.m w.if-m-eq0.true) (omega arith)
+      | then-n-eq0-via-then-n-eq0 w ↦ count_is a.n a.m 0 (count_none_left a.n a.m w.if-n-eq0.true) (omega arith)
+      | then-n-eq0-via-else-n-eq0+then-m-eq0 w ↦ count_is a.n a.m 0 (count_none_right a.n a.m w.if-m-eq0.true) (omega arith)
     ]
 
 pub returns-then-n-gt12 : goal.returns-then-n-gt12
 returns-then-n-gt12 c =
     let a = c.args in
     elim c.then-n-gt12.branch [
-      then-n-gt12-via-then-n-gt12 w ↦ count_many a.n a.m (many_left a.n a.m w.if-n-gt12.true (omega arith))
-    | then-n-gt12-via-else-n-gt12+then-m-gt12 w ↦ count_many a.n a.m (many_right a.n a.m (omega arith) w.if-m-gt12.true)
+      | then-n-gt12-via-then-n-gt12 w ↦ count_many a.n a.m (many_left a.n a.m w.if-n-gt12.true (omega arith))
+      | then-n-gt12-via-else-n-gt12+then-m-gt12 w ↦ count_many a.n a.m (many_right a.n a.m (omega arith) w.if-m-gt12.true)
     ]
 
 pub returns-then-c : goal.returns-then-c

@@ -2,6 +2,7 @@
 use mathlib.Core.Path.{◌≡◌, refl, sym, ap, ◌∙◌}
 use Prim.Native.Nat.{ℕ, ◌*◌, ◌<◌}
 use native.Mathlib.Omega.{arith}
+use Rattle.std.proofs.lemmas.Nat.{xor_comm}
 use Rattle.forms.specs.products.Product.{form_of}
 use Rattle.maps.specs.Target.{target_form}
 use Rattle.maps.specs.Accepted.{accepted_fits, accepted_terms}
@@ -10,8 +11,8 @@ use Rattle.maps.proofs.Pairing.{tests}
 use Rattle.maps.proofs.sum_of_pairs.Goals as goal
 use Rattle.maps.proofs.sum_of_pairs.Goals.{else-is_pair, then-is_pair}
 
-pub overflow_mul-end : goal.overflow_mul-end
-overflow_mul-end c =
+pub overflow_mul-s-end : goal.overflow_mul-s-end
+overflow_mul-s-end c =
     let a = c.args in
     record { fits = omega (arith, (accepted_fits a.shape a.n a.m a.t c.requires).product) }
 
@@ -35,11 +36,6 @@ overflow_shl-form c =
     let a = c.args in
     omega (arith, (accepted_fits a.shape a.n a.m a.t c.requires).product)
 
-pub overflow_add-s : goal.overflow_add-s
-overflow_add-s c =
-    let a = c.args in
-    record { fits = omega (arith, (accepted_fits a.shape a.n a.m a.t c.requires).product) }
-
 pub loop-s-preserved : goal.loop-s-preserved
 loop-s-preserved c =
     let a = c.args in
@@ -51,7 +47,7 @@ loop-s-preserved c =
       least = omega arith;
       made =
           elim c.if-is_pair.branch [
-            | then-is_pair w ↦ w.form-is ∙ form_set (tests a.shape a.m a.t) l.s l.form l.invariant.made (sym q ∙
+            | then-is_pair w ↦ w.form-is ∙ xor_comm l.form _ ∙ form_set (tests a.shape a.m a.t) l.s l.form l.invariant.made (sym q ∙
                 w.if-is_pair.true) (omega arith)
             | else-is_pair w ↦ w.form-is ∙ form_unset (tests a.shape a.m a.t) l.s l.form l.invariant.made (sym q ∙
                 w.if-is_pair.false)

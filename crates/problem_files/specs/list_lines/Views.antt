@@ -3,19 +3,15 @@
 --   seen_roles s xs ys r       == the reading of s that the answer r stands for, with the forms xs and the costs ys
 -- Assumes nothing.
 use Rattle.std.specs.Prelude.{ℕ, List, drop, Option, None, Some}
-use Rattle.text.specs.declared.Used.{Used}
-use Rattle.text.specs.declared.Used.TheVariants as used
-use Rattle.problem_files.specs.declared.list_lines.RoleRead.{RoleRead}
-use Rattle.problem_files.specs.declared.list_lines.RoleRead.TheVariants as role
 
-abbrev pub seen_role : List ℕ → RoleRead → Option ((ℕ × ℕ) × List ℕ)
-seen_role s (role.Is x y u) = Some ((x, y), drop u s)
-seen_role s role.No = None
+abbrev pub seen_role : List ℕ → Option (ℕ × ℕ × ℕ) → Option ((ℕ × ℕ) × List ℕ)
+seen_role s (Some l) = Some ((l.0, l.1), drop l.2 s)
+seen_role s None = None
 
-abbrev pub bytes_role : RoleRead → ℕ
-bytes_role (role.Is x y u) = u
-bytes_role role.No = 0
+abbrev pub bytes_role : Option (ℕ × ℕ × ℕ) → ℕ
+bytes_role (Some l) = l.2
+bytes_role None = 0
 
-abbrev pub seen_roles : (s xs ys : List ℕ) → Used → Option ((List ℕ × List ℕ) × List ℕ)
-seen_roles s xs ys (used.Is u) = Some ((xs, ys), drop u s)
-seen_roles s xs ys used.No = None
+abbrev pub seen_roles : (s xs ys : List ℕ) → Option ℕ → Option ((List ℕ × List ℕ) × List ℕ)
+seen_roles s xs ys (Some u) = Some ((xs, ys), drop u s)
+seen_roles s xs ys None = None

@@ -8,7 +8,7 @@
 -- refusal 9: "in a
 -- Rank, too short for the very formula it would reply".
 -- What `fewest` is and that it is the rank: linear's `Theorems` (rank_formula, rank_exactly, rank_above, rank_beyond). Assumes nothing.
-use Rattle.std.specs.Prelude.{◌≡◌, false, List, [], ◌∷◌, ℕ, ◌+◌, ◌≤◌, length, take, drop, ltb, None, Some}
+use Rattle.std.specs.Prelude.{◌≡◌, false, List, [], ◌∷◌, ℕ, ◌+◌, ◌≤◌, length, take, drop, ltb, None, Some, Option}
 use Rattle.kinds.specs.Limits.{most_generators, most_products, cost_bits}
 use Rattle.kinds.specs.Refusal.{Answer, refused, accepted, refuse}
 use Rattle.kinds.specs.Numbers.{refusal_numbers, answer_numbers}
@@ -28,8 +28,6 @@ use Rattle.catalogue.specs.noting.Noting.{PricedMenu, formula_room}
 use Rattle.choices.specs.Choice.{Solves, formula_record}
 use Rattle.rank.specs.declared.fewest.Ranked.{Ranked}
 use Rattle.rank.specs.declared.fewest.Ranked.TheVariants as ranked
-use Rattle.rank.specs.declared.fewest.Least.{Least as Answered}
-use Rattle.rank.specs.declared.fewest.Least.TheVariants as answered
 
 pub data Ranking : Type 0 where
   is : (r : ℕ) (buffer : List ℕ) → Ranking
@@ -78,12 +76,12 @@ pub record Asking (gens : List ℕ) (b : Basis) (order prices buffer : List ℕ)
   pub room : formula_room ≤ length buffer
 
 -- the cheapest formula of the least number of dimensions, k, stands behind its cost
-abbrev pub LeastFound : (gens targets prices : List ℕ) → ℕ → Answered → List ℕ → Type 0
-LeastFound gens targets prices ell answered.No buffer = least_from word gens targets prices 7 ell ≡ None
-LeastFound gens targets prices ell (answered.Is k) buffer = least_from word gens targets prices 7 ell ≡ Some (take k (drop 1 buffer))
+abbrev pub LeastFound : (gens targets prices : List ℕ) → ℕ → Option ℕ → List ℕ → Type 0
+LeastFound gens targets prices ell None buffer = least_from word gens targets prices 7 ell ≡ None
+LeastFound gens targets prices ell (Some k) buffer = least_from word gens targets prices 7 ell ≡ Some (take k (drop 1 buffer))
 
 -- the entries are those of the targets' space: any targets that span it have them
-abbrev pub LeastFrom : (gens : List ℕ) → Basis → List ℕ → Answered → List ℕ → Type 0
+abbrev pub LeastFrom : (gens : List ℕ) → Basis → List ℕ → Option ℕ → List ℕ → Type 0
 LeastFrom gens b prices r buffer = (targets : List ℕ) → Holds (basis_of word targets) b → LeastFound gens targets prices b.len r buffer
 
 pub record Finishing (gens targets numbers : List ℕ) : Type 0 where

@@ -10,34 +10,22 @@ use Rattle.formula_files.proofs.laws.Held.{read_held}
 use Rattle.service.specs.laws.Reading.{read_checks, refused_checks}
 use Rattle.service.proofs.gijpsando_check.Goals as goal
 
-pub slice_bounds-read_formula-end : goal.slice_bounds-read_formula-end
-slice_bounds-read_formula-end c = refl
-
-pub slice_bounds-read_formula-end-2 : goal.slice_bounds-read_formula-end-2
-slice_bounds-read_formula-end-2 c = refl
-
-pub slice_bounds-read_formula-end-3 : goal.slice_bounds-read_formula-end-3
-slice_bounds-read_formula-end-3 c = refl
-
 pub check_reply-requires : goal.check_reply-requires
-check_reply-requires c = ((let read-formula = c.read_formula-got in read_held _ _ _ (replicate 64 0) (replicate 64 0) (replicate 64 0) _ _ _ (sym c.in-Formula.is ∙ read-formula.ensures.0) read-formula.ensures.1 read-formula.ensures.2 read-formula.ensures.3)).ready
+check_reply-requires c = ((let read-formula = c.read_formula in read_held _ _ _ (replicate 64 0) (replicate 64 0) (replicate 64 0) _ _ _ (sym c.in-Formula.is ∙ read-formula.ensures.0) read-formula.ensures.1 read-formula.ensures.2 read-formula.ensures.3)).ready
 
 pub returns-in-Refused : goal.returns-in-Refused
 returns-in-Refused c =
     let args = c.args in
-    let read-formula = c.read_formula-got in
+    let read-formula = c.read_formula in
     let e : check_file args.file.now ≡ refused c.in-Refused.e = refused_checks args.file.now (replicate 64 0) (replicate 64 0)
     (replicate 64 0) c.in-Refused.e refl refl refl (sym c.in-Refused.is ∙ read-formula.ensures.0) in
     (ap (λ (x : Answer (List ℕ)). reply_of x args.out.now) (sym e), ap (λ (x : Answer (List ℕ)). bytes_of x args.out.now) (sym e))
-
-pub shape_of-out : goal.shape_of-out
-shape_of-out c = c.check_reply.auto.out
 
 pub returns-in-Formula : goal.returns-in-Formula
 returns-in-Formula c =
     let args = c.args in
     let check-reply = c.check_reply in
-    let e = read_checks args.file.now _ _ (replicate 64 0) (replicate 64 0) (replicate 64 0) _ _ _ refl refl refl ((let read-formula = c.read_formula-got in read_held _ _ _ (replicate 64 0) (replicate 64 0) (replicate 64 0) _ _ _ (sym c.in-Formula.is ∙ read-formula.ensures.0) read-formula.ensures.1 read-formula.ensures.2 read-formula.ensures.3)) in (
+    let e = read_checks args.file.now _ _ (replicate 64 0) (replicate 64 0) (replicate 64 0) _ _ _ refl refl refl ((let read-formula = c.read_formula in read_held _ _ _ (replicate 64 0) (replicate 64 0) (replicate 64 0) _ _ _ (sym c.in-Formula.is ∙ read-formula.ensures.0) read-formula.ensures.1 read-formula.ensures.2 read-formula.ensures.3)) in (
       check-reply.ensures.0 ∙ ap (λ (x : Answer (List ℕ)). reply_of x args.out.now) (sym e),
       check-reply.ensures.1 ∙ ap
           (λ (x : Answer (List ℕ)). bytes_of x args.out.now) (sym e),

@@ -14,7 +14,7 @@ use Rattle.service.proofs.gijpsando_check_numbers.Goals as goal
 pub returns-then-reply-lt3 : goal.returns-then-reply-lt3
 returns-then-reply-lt3 c =
     let args = c.args in
-    let the-check = c.check-said in
+    let the-check = c.check in
     let e : check args.kind args.p args.q args.r args.k args.a.now args.b.now args.rows.now ≡ accepted
     ((seen_verdict c.in-Judged.v), c.in-Judged.w) = the-check.ensures.0 ∙ ap seen_reply c.in-Judged.is in
     let n = numbers_short (seen_verdict c.in-Judged.v) c.in-Judged.w args.reply.now (omega arith) in (
@@ -26,7 +26,7 @@ returns-then-reply-lt3 c =
 pub returns-in-Refused : goal.returns-in-Refused
 returns-in-Refused c =
     let args = c.args in
-    let the-check = c.check-said in
+    let the-check = c.check in
     let e : check args.kind args.p args.q args.r args.k args.a.now args.b.now args.rows.now ≡ refused
     c.in-Refused.e = the-check.ensures.0 ∙ ap seen_reply c.in-Refused.is in (
       ap (λ (x : Answer (Option ℕ × ℕ)). numbers_reply x args.reply.now) (sym e),
@@ -34,13 +34,10 @@ returns-in-Refused c =
           (λ (x : Answer (Option ℕ × ℕ)). numbers_lent x args.reply.now) (sym e),
     )
 
-pub shape_of-reply-in-Right : goal.shape_of-reply-in-Right
-shape_of-reply-in-Right c = c.put_three.auto.words
-
 pub returns-in-Right : goal.returns-in-Right
 returns-in-Right c =
     let args = c.args in
-    let the-check = c.check-said in
+    let the-check = c.check in
     let e : check args.kind args.p args.q args.r args.k args.a.now args.b.now args.rows.now ≡ accepted
     (None, c.in-Judged.w) = the-check.ensures.0 ∙ ap seen_reply c.in-Judged.is ∙ ap
     (λ (x : Option ℕ). accepted (x, c.in-Judged.w)) (ap seen_verdict c.in-Right.is) in
@@ -50,13 +47,10 @@ returns-in-Right c =
           (λ (x : Answer (Option ℕ × ℕ)). numbers_lent x args.reply.now) (sym e),
     )
 
-pub shape_of-reply-in-Wrong : goal.shape_of-reply-in-Wrong
-shape_of-reply-in-Wrong c = c.put_three-in-Wrong.auto.words
-
 pub returns-in-Wrong : goal.returns-in-Wrong
 returns-in-Wrong c =
     let args = c.args in
-    let the-check = c.check-said in
+    let the-check = c.check in
     let e : check args.kind args.p args.q args.r args.k args.a.now args.b.now args.rows.now ≡ accepted
     (Some c.in-Wrong.t, c.in-Judged.w) = the-check.ensures.0 ∙ ap seen_reply c.in-Judged.is ∙ ap
     (λ (x : Option ℕ). accepted (x, c.in-Judged.w)) (ap seen_verdict c.in-Wrong.is) in

@@ -2,10 +2,10 @@
 --   till_place, till_le                        the first c, as the library says where it stands
 --   cut_some, cut_none, cut_place              the cut goes by that number
 --   name_cut .. field_is                       the cases of a line and of a field
---   part, read_at, rest_at, field_at           a reading of the part of s from u on, and what it leaves
+--   part, read_at, fits_at, rest_at, field_at  a reading of the part of s from u on, and what it leaves
 -- Assumes nothing.
 use Rattle.std.specs.Prelude.{ℕ, suc, ◌+◌, ◌-◌, ◌<◌, ◌≤◌, ◌≡◌, refl, List, [], ◌∷◌, Bool, true, false, cond, length, take, drop, eqb, not, position, Option, None, Some}
-use Rattle.std.proofs.Common.{ap, ◌∙◌, arith, add-one, drop-drop, lt-ltb, le-ltb}
+use Rattle.std.proofs.Common.{ap, ◌∙◌, arith, add-one, length-drop, drop-drop, lt-ltb, le-ltb}
 use Rattle.std.specs.List.{position_or_len}
 use Rattle.std.proofs.Math.Decide.{dec_le}
 use borrow.Author.Rules.{part_to_end}
@@ -98,6 +98,12 @@ part s u = part_to_end s u
 
 pub read_at : {A : Type 0} (f : List ℕ → A) (s : List ℕ) (u : ℕ) (t : A) → f (take (length s - u) (drop u s)) ≡ t → f (drop u s) ≡ t
 read_at f s u t e = rw (part_to_end s u) at e
+
+-- w bytes of the part are within the whole
+pub fits_at : (s : List ℕ) (u w : ℕ) → u ≤ length s → w ≤ length (take (length s - u) (drop u s)) → u + w ≤ length s
+fits_at s u w h l =
+    let e : w ≤ length (drop u s) = rw (part_to_end s u) at l in
+    omega (arith, length-drop u s)
 
 -- what is left behind the part's first w bytes
 pub rest_at : (s : List ℕ) (u w : ℕ) → drop w (take (length s - u) (drop u s)) ≡ drop (u + w) s

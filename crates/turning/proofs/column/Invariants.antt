@@ -2,8 +2,8 @@
 use mathlib.Core.Path.{◌≡◌}
 use mathlib.Core.Bool.{Bool}
 use mathlib.Core.List.{List}
-use Prim.Native.Nat.{ℕ, ◌-◌, ◌≤◌}
-use lib.ListN.{length, get_or}
+use Prim.Native.Nat.{ℕ}
+use lib.ListN.{get_or}
 use Rattle.linear.specs.Bit.{bit}
 use Rattle.forms.specs.products.Product.{form_of}
 use Rattle.turning.proofs.column.Given as goal
@@ -12,7 +12,4 @@ abbrev pub bits : List ℕ → ℕ → ℕ → Bool
 bits masks l t = bit (get_or masks t 0) l
 
 abbrev pub invariant-loop-t : goal.invariant-loop-t
-invariant-loop-t l = (l.t ≤ length l.masks) × (l.form ≡ form_of l.t (bits l.masks l.l))
-
-abbrev pub decreases-loop-t : goal.decreases-loop-t
-decreases-loop-t l = length l.masks - l.t
+invariant-loop-t l = l.form ≡ form_of l.t (bits l.masks l.l)

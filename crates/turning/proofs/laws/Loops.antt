@@ -1,17 +1,17 @@
 -- What a turn of each loop does, over plain lists.
 --   map_list                       the values of a function at the members of a list, as a list made of a function
 --   Put, put_start, put_next, put_end   writing f 0, f 1, .. from a buffer's start
---   zero_here, zero_none           looking for a zero among them
+--   zero_any                       looking for a zero among them
 -- Assumes nothing.
-use Rattle.std.specs.Prelude.{◌≡◌, Bool, false, ◌||◌, List, [], ◌∷◌, ◌++◌, map, ℕ, zero, suc, ◌+◌, ◌-◌, ◌<◌, ◌≤◌, length, get_or, drop, set, eqb}
+use Rattle.std.specs.Prelude.{◌≡◌, Bool, ◌||◌, List, [], ◌∷◌, ◌++◌, map, ℕ, zero, suc, ◌+◌, ◌<◌, ◌≤◌, length, get_or, drop, set, eqb}
 use Rattle.std.proofs.Math.Path.{refl}
 use Rattle.std.proofs.Common.{sym, ap, ap₂, ◌∙◌, append_assoc, add-one, add-zero, add-suc, suc-add, zero-add, arith, length-set}
 use Rattle.std.proofs.lemmas.List.{set_at}
+use Rattle.std.specs.List.{list_any, range_with_len}
 use Rattle.words.specs.Masks.{zero_in}
 use Rattle.words.specs.Buffers.{filled}
 use Rattle.words.specs.laws.Scan.{next}
 use Rattle.maps.specs.Generators.{list_of, length_list_of}
-use Rattle.maps.specs.form_lists.laws.Filling.{list_of_first}
 
 -- ---- lists made of a function
 list_of_last : (f : ℕ → ℕ) (i c : ℕ) → list_of f i (suc c) ≡ list_of f i c ++ (f (i + c) ∷ [])
@@ -61,11 +61,8 @@ module _ (f : ℕ → ℕ) (c : ℕ) (before : List ℕ) where
       ∙ ap (λ (n : ℕ). list_of f 0 c ++ drop n before) (sym (length_list_of f 0 c))
 
 -- ---- a zero among them
-pub zero_here : (f : ℕ → ℕ) (i c : ℕ) (S : Bool) → i < c → zero_in (list_of f i (c - i)) ≡ S → (s : Bool) → eqb (f i) 0 ≡ s
-    → s || zero_in (list_of f (i + 1) (c - (i + 1))) ≡ S
-unfolding zero_in
-zero_here f i c S h inv s e = ap (λ (b : Bool). b || zero_in (list_of f (i + 1) (c - (i + 1)))) (sym e) ∙ ap zero_in (sym (list_of_first f i c h)) ∙ inv
-
-pub zero_none : (f : ℕ → ℕ) (i c : ℕ) (S : Bool) → c ≤ i → zero_in (list_of f i (c - i)) ≡ S → false ≡ S
+pub zero_any : (f : ℕ → ℕ) (i c : ℕ) → list_any (λ l. eqb (f l) 0) (range_with_len i c) ≡ zero_in (list_of f i c)
 unfolding zero_in list_of
-zero_none f i c S h inv = ap (λ (n : ℕ). zero_in (list_of f i n)) (let e : 0 ≡ c - i = omega arith in e) ∙ inv
+zero_any f i zero = refl
+zero_any f i (suc c) =
+    ap (λ (b : Bool). eqb (f i) 0 || b) (ap (λ (k : ℕ). list_any (λ l. eqb (f l) 0) (range_with_len k c)) (add-one i) ∙ zero_any f (suc i) c)

@@ -1,7 +1,7 @@
 -- `turning::turn_refusal` meets its contract. Assumes nothing.
-use Rattle.std.specs.Prelude.{refl, Bool, not, Option, None, Some}
+use Rattle.std.specs.Prelude.{refl, not, Option, None, Some}
 use Rattle.std.specs.Option.{option_eq}
-use Rattle.std.proofs.Common.{◌≡◌, sym, ap, ◌∙◌, arith, eq-eqb, ne_eqb}
+use Rattle.std.proofs.Common.{◌≡◌, sym, ap, ◌∙◌, eq-eqb, ne_eqb}
 use Rattle.kinds.specs.declared.Kind.{Kind}
 use Rattle.kinds.specs.declared.Kind.TheVariants as kind
 use Rattle.kinds.specs.contracts.KindPartialEq.TheImpl as equality

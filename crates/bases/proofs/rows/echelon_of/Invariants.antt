@@ -1,11 +1,6 @@
 -- `bases::rows::echelon_of` meets its contract: the rows so far track the products so far. Assumes nothing.
-use Prim.Native.Nat.{◌-◌, ◌≤◌}
-use lib.ListN.{length}
 use Rattle.bases.specs.rows.Echelon.{Tracking}
 use Rattle.bases.proofs.rows.echelon_of.Given as goal
 
 abbrev pub invariant-loop-i : goal.invariant-loop-i
-invariant-loop-i l = (l.i ≤ length l.products) × Tracking l.products l.rows l.masks l.i
-
-abbrev pub decreases-loop-i : goal.decreases-loop-i
-decreases-loop-i l = length l.products - l.i
+invariant-loop-i l = Tracking l.products l.rows l.masks l.i

@@ -5,7 +5,7 @@ use Prim.Native.Nat.{ℕ, ◌+◌}
 use native.Mathlib.Omega.{arith}
 use Rattle.bases.proofs.laws.of_rows.Rest.{Resting, resting_start, resting_added, resting_kept, resting_end}
 use Rattle.bases.proofs.rows.rest_of.Goals as goal
-use Rattle.bases.proofs.rows.rest_of.Goals.{else-w-x, then-w-x}
+use Rattle.bases.proofs.rows.rest_of.Goals.{else-w-form, then-w-form}
 
 -- the same state, by what the code holds
 at : (B M : List ℕ) (v i : ℕ) {x x' m m' : ℕ} → x' ≡ x → m' ≡ m → Resting B M v x m i → Resting B M v x' m' i
@@ -23,13 +23,13 @@ loop-i-preserved c =
     let v = a.v in
     let pre = c.requires in
     let test = c.loop-i-test.true in
-    elim c.if-w-x.branch [
-      | then-w-x w ↦ at B M v (l.i + 1) w.x-is w.m-is (resting_added B M v l.x l.m l.i l.invariant test pre w.if-w-x.true)
-      | else-w-x w ↦ at B M v (l.i + 1) w.x-is w.m-is (resting_kept B M v l.x l.m l.i l.invariant test pre w.if-w-x.false)
+    elim c.if-w-form.branch [
+      | then-w-form w ↦ at B M v (l.i + 1) w.form-is w.mask-is (resting_added B M v l.form l.mask l.i l.invariant test pre w.if-w-form.true)
+      | else-w-form w ↦ at B M v (l.i + 1) w.form-is w.mask-is (resting_kept B M v l.form l.mask l.i l.invariant test pre w.if-w-form.false)
     ]
 
 pub returns : goal.returns
 returns c =
     let a = c.args in
     let l = c.loop-i in
-    resting_end a.rows.now a.masks.now a.v l.x l.m l.i l.invariant (omega arith)
+    resting_end a.rows.now a.masks.now a.v l.form l.mask l.i l.invariant (omega arith)

@@ -1,40 +1,37 @@
 -- `bases::spans::completes` meets its contract. Assumes nothing.
-use mathlib.Core.Path.{refl}
+use Rattle.std.proofs.Common.{refl}
 use Rattle.bases.specs.Basis.{rows_of}
 use Rattle.bases.proofs.laws.of_spans.Completing.{completing_full, completing_in, completing_out, completing_end}
 use Rattle.bases.proofs.spans.completes.Goals as goal
+use Rattle.bases.proofs.spans.completes.Goals.{then-reduce_rows-eq0, else-reduce_rows-eq0}
 
 pub loop-i-init : goal.loop-i-init
 loop-i-init c = record { valid = c.requires; is = refl }
 
-pub returns-then-d-k : goal.returns-then-d-k
-returns-then-d-k c =
-    let args = c.args in
-    let loop = c.loop-i in
-    completing_full args.gens.now args.w.now (rows_of args.b) args.start loop.d loop.i loop.invariant c.if-d-k.true
-
 pub insert-d-requires : goal.insert-d-requires
 insert-d-requires c = c.loop-i.invariant.valid
 
-pub loop-i-preserved-then-reduce_rows-eq0 : goal.loop-i-preserved-then-reduce_rows-eq0
-loop-i-preserved-then-reduce_rows-eq0 c =
-    let args = c.args in
-    let loop = c.loop-i in
-    let loop-test = c.loop-i-test in
-    let reduce-rows = c.reduce_rows in
-    completing_in args.gens.now args.w.now (rows_of args.b) args.start loop.d loop.i loop.invariant loop-test.true
-    reduce-rows.result reduce-rows.ensures c.if-reduce_rows-eq0.true c.insert-d.result c.insert-d.ensures
+pub returns-then-d-w : goal.returns-then-d-w
+returns-then-d-w c =
+    let a = c.args in
+    let l = c.loop-i in
+    completing_full a.gens.now a.w.now (rows_of a.b) a.start l.d l.i l.invariant c.if-d-w.true
 
 pub loop-i-preserved : goal.loop-i-preserved
 loop-i-preserved c =
-    let args = c.args in
-    let loop = c.loop-i in
-    let loop-test = c.loop-i-test in
-    completing_out args.gens.now args.w.now (rows_of args.b) args.start loop.d loop.i loop.invariant loop-test.true
-    c.reduce_rows.result c.reduce_rows.ensures c.if-reduce_rows-eq0.false
+    let a = c.args in
+    let l = c.loop-i in
+    let more = c.loop-i-test.true in
+    let r = c.reduce_rows in
+    elim c.if-reduce_rows-eq0.branch [
+      | then-reduce_rows-eq0 w ↦ rw w.d-is
+          (completing_in a.gens.now a.w.now (rows_of a.b) a.start l.d l.i l.invariant more r.result r.ensures w.if-reduce_rows-eq0.true _ w.insert-d.ensures)
+      | else-reduce_rows-eq0 w ↦ rw w.d-is
+          (completing_out a.gens.now a.w.now (rows_of a.b) a.start l.d l.i l.invariant more r.result r.ensures w.if-reduce_rows-eq0.false)
+    ]
 
 pub returns : goal.returns
 returns c =
-    let args = c.args in
-    let loop = c.loop-i in
-    completing_end args.gens.now args.w.now (rows_of args.b) args.start loop.d loop.i loop.invariant c.loop-i-test.false
+    let a = c.args in
+    let l = c.loop-i in
+    completing_end a.gens.now a.w.now (rows_of a.b) a.start l.d l.i l.invariant c.loop-i-test.false

@@ -6,6 +6,3 @@ use Rattle.catalogue_text.proofs.report.put_entries.Given as goal
 
 abbrev pub invariant-loop-i : goal.invariant-loop-i
 invariant-loop-i l = Listing entry_text 25 l.listing (l.k - l.ell) l.k l.shown l.initial.out l.at l.out l.e l.i
-
-abbrev pub decreases-loop-i : goal.decreases-loop-i
-decreases-loop-i l = l.shown - l.i

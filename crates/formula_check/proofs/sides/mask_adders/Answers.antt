@@ -3,9 +3,8 @@ use mathlib.Core.Path.{◌≡◌, sym, ap, ◌∙◌, subst}
 use mathlib.Core.Logic.{◌≢◌}
 use Prim.Native.Nat.{ℕ, ◌+◌, ◌-◌, ◌<◌}
 use native.Mathlib.Omega.{arith}
-use borrow.Author.Rules.{rules}
 use lib.ListN.{get_or, set}
-use Rattle.formula_check.specs.sides.Sides.{mask_slots, mask_slot, MaskAdded}
+use Rattle.formula_check.specs.sides.Sides.{mask_slots, MaskAdded}
 use Rattle.formula_check.proofs.laws.of_sides.Sides.{numbered, mask_sought, added_light, added_known, added_again, added_lone, added_new}
 use Rattle.formula_check.proofs.sides.mask_adders.Goals as goal
 
@@ -31,8 +30,8 @@ returns-then-stands_from c =
     mask_sought a.slots.now a.masks.now (get_or a.masks.now a.i 0) f.result c.seek-q.result whole f.ensures.0 c.seek-q.ensures.0)) ∙
     c.if-q-eq-SLOTS.true) again
 
-pub returns-then-q-eq-SLOTS : goal.returns-then-q-eq-SLOTS
-returns-then-q-eq-SLOTS c =
+pub returns-else-stands_from : goal.returns-else-stands_from
+returns-else-stands_from c =
     let a = c.args in
     let w = c.ones-w in
     let lone = sym c.stands_from.ensures ∙ c.if-stands_from.false in

@@ -1,29 +1,20 @@
 -- `formula_files::lines::product_line` meets its contract. Assumes nothing.
-use native.Mathlib.Nat.{le_refl}
-use native.Mathlib.Omega.{arith}
-use Rattle.text.specs.Line.{mask_field, mask_line}
-use Rattle.text.specs.laws.Line.{field_first, field_none, field_next, field_no}
+use Rattle.std.proofs.Common.{arith}
+use Rattle.text.specs.Line.{mask_line}
+use Rattle.text.specs.laws.Line.{read_at, fits_at, field_at}
 use Rattle.formula_files.specs.lines.laws.Loops.{product_first, product_second, product_is}
 use Rattle.formula_files.proofs.lines.product_line.Goals as goal
 
-pub returns-in_default : goal.returns-in_default
-returns-in_default c = (product_first _ (field_none mask_field _ _ c.field_at.ensures.0 c.in_default.is), omega arith)
+pub returns-in_err-x : goal.returns-in_err-x
+returns-in_err-x c = rw c.from_residual.ensures (product_first _ c.in_err-x.ensures.0, omega arith)
 
-pub slice_bounds-field_at-count : goal.slice_bounds-field_at-count
-slice_bounds-field_at-count c = ((field_first mask_field _ _ _ _ c.field_at.ensures c.in-Is.is)).fits
-
-pub slice_bounds-field_at-start : goal.slice_bounds-field_at-start
-slice_bounds-field_at-start c = ((field_first mask_field _ _ _ _ c.field_at.ensures c.in-Is.is)).fits
-
-pub slice_bounds-field_at-end : goal.slice_bounds-field_at-end
-slice_bounds-field_at-end c = le_refl _
-
-pub returns-in_default-field_at : goal.returns-in_default-field_at
-returns-in_default-field_at c =
-    (product_second _ _ _ ((field_first mask_field _ _ _ _ c.field_at.ensures c.in-Is.is)).is (field_no mask_line ((c.args.s.now)) _ _ c.field_at-2.ensures.0 c.in_default-field_at.is), omega arith)
-
-pub overflow_add-result : goal.overflow_add-result
-overflow_add-result c = omega (arith, ((field_next mask_line ((c.args.s.now)) _ _ _ _ c.field_at-2.ensures c.in-Is-field_at.is ((field_first mask_field _ _ _ _ c.field_at.ensures c.in-Is.is)).fits)).fits, c.well_formed)
+pub returns-in_err-y : goal.returns-in_err-y
+returns-in_err-y c =
+    rw c.from_residual-in_err-y.ensures
+    (product_second _ _ _ c.in_ok-x.ensures.0 (read_at mask_line c.args.s.now c.in_ok-x.used _ c.in_err-y.ensures.0), omega arith)
 
 pub returns : goal.returns
-returns c = (product_is _ _ _ _ _ ((field_first mask_field _ _ _ _ c.field_at.ensures c.in-Is.is)).is ((field_next mask_line ((c.args.s.now)) _ _ _ _ c.field_at-2.ensures c.in-Is-field_at.is ((field_first mask_field _ _ _ _ c.field_at.ensures c.in-Is.is)).fits)).is, ((field_next mask_line ((c.args.s.now)) _ _ _ _ c.field_at-2.ensures c.in-Is-field_at.is ((field_first mask_field _ _ _ _ c.field_at.ensures c.in-Is.is)).fits)).fits)
+returns c = (
+  product_is _ _ _ _ _ c.in_ok-x.ensures.0 (field_at mask_line c.args.s.now c.in_ok-x.used _ c.in_ok-y.v c.in_ok-y.ensures.0),
+  fits_at c.args.s.now c.in_ok-x.used c.in_ok-y.v c.in_ok-x.ensures.1 c.in_ok-y.ensures.1,
+)

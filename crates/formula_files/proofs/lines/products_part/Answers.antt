@@ -1,33 +1,25 @@
 -- `formula_files::lines::products_part` meets its contract. Assumes nothing.
-use mathlib.Core.Path.{◌∙◌}
-use native.Mathlib.Omega.{arith}
-use Rattle.text.specs.laws.Line.{named, unnamed, fits_at}
-use Rattle.formula_files.specs.lines.Views.{bytes_products}
-use Rattle.formula_files.specs.lines.laws.Body.{products_unnamed, products_named, products_at, products_not}
+use Rattle.std.specs.Prelude.{false}
+use Rattle.std.proofs.Common.{◌∙◌, arith}
+use Rattle.text.specs.laws.Line.{read_at, fits_at}
+use Rattle.formula_files.specs.lines.Buffered.{products_from}
+use Rattle.formula_files.specs.lines.laws.Body.{products_unnamed, products_named, products_at}
 use Rattle.formula_files.proofs.lines.products_part.Goals as goal
 
-pub returns-in_default : goal.returns-in_default
-returns-in_default c = (products_unnamed _ _ _ _ _ _ (unnamed _ _ _ c.name_line.ensures.0 c.in_default.is), omega arith)
+pub returns-in_err-used : goal.returns-in_err-used
+returns-in_err-used c = rw c.from_residual.ensures (products_unnamed _ _ _ _ _ _ c.in_err-used.ensures.0, omega arith)
 
-pub returns-in_default-read_products : goal.returns-in_default-read_products
-returns-in_default-read_products c =
-    let read = c.read_products in
-    (products_named _ _ _ _ _ _ _ ((named _ _ _ _ c.name_line.ensures c.in-Is.is)).is ∙ products_not ((c.args.s.now)) _ _ _ _ _ _ _ _ _ read.ensures.0 c.in_default-read_products.is, omega arith)
-
-pub overflow_add-result : goal.overflow_add-result
-overflow_add-result c = omega (
-  arith,
-  (fits_at ((c.args.s.now)) _ _ _ bytes_products c.read_products.ensures.1 c.in-Are.is ((named _ _ _ _ c.name_line.ensures c.in-Is.is)).fits),
-  c.well_formed,
-)
-
-pub shape_of-a : goal.shape_of-a
-shape_of-a c = c.read_products.auto.a
-
-pub shape_of-b : goal.shape_of-b
-shape_of-b c = c.read_products.auto.b
+pub returns-in_err-products : goal.returns-in_err-products
+returns-in_err-products c =
+    let args = c.args in
+    let no = read_at (λ t. products_from args.n args.m args.k t 0 args.a.now args.b.now false false) args.s.now c.in_ok-used.used _ c.in_err-products.ensures.0 in
+    rw c.from_residual-in_err-products.ensures (products_named _ _ _ _ _ _ _ c.in_ok-used.ensures.0 ∙ no, omega arith)
 
 pub returns : goal.returns
 returns c =
-    let read = c.read_products in
-    (products_named _ _ _ _ _ _ _ ((named _ _ _ _ c.name_line.ensures c.in-Is.is)).is ∙ products_at ((c.args.s.now)) _ _ _ _ _ _ _ _ _ _ _ _ read.ensures.0 c.in-Are.is, (fits_at ((c.args.s.now)) _ _ _ bytes_products c.read_products.ensures.1 c.in-Are.is ((named _ _ _ _ c.name_line.ensures c.in-Is.is)).fits))
+    let s = c.args.s.now in
+    let u = c.in_ok-used.used in
+    let p = c.in_ok-products.products in (
+      products_named _ _ _ _ _ _ _ c.in_ok-used.ensures.0 ∙ products_at s u _ _ _ _ _ _ _ p.used _ _ c.in_ok-products.ensures.0,
+      fits_at s u p.used c.in_ok-used.ensures.1 c.in_ok-products.ensures.1,
+    )

@@ -1,34 +1,25 @@
 -- `formula_files::lines::rows_part` meets its contract. Assumes nothing.
-use native.Mathlib.Omega.{arith}
-use Rattle.text.specs.laws.Line.{named, unnamed, fits_at}
-use Rattle.formula_files.specs.lines.Views.{bytes_rows}
-use Rattle.formula_files.specs.lines.laws.Body.{rows_unnamed, rows_short, rows_more, rows_are, rows_at, rows_not, ended_not, ended_yes}
+use Rattle.std.specs.Prelude.{false}
+use Rattle.text.specs.laws.Line.{read_at}
+use Rattle.formula_files.specs.lines.Buffered.{rows_from}
+use Rattle.formula_files.specs.lines.laws.Body.{rows_unnamed, rows_short, rows_more, rows_are, rows_at, ended_not, ended_yes}
 use Rattle.formula_files.proofs.lines.rows_part.Goals as goal
 
-pub returns-in_default : goal.returns-in_default
-returns-in_default c = rows_unnamed _ _ _ _ (unnamed _ _ _ c.name_line.ensures.0 c.in_default.is)
+pub returns-in_err-used : goal.returns-in_err-used
+returns-in_err-used c = rw c.from_residual.ensures (rows_unnamed _ _ _ _ c.in_err-used.ensures.0)
 
-pub returns-in_default-read_rows : goal.returns-in_default-read_rows
-returns-in_default-read_rows c =
-    rows_short _ _ _ _ _ ((named _ _ _ _ c.name_line.ensures c.in-Is.is)).is (rows_not ((c.args.s.now)) _ _ _ _ _ _ c.read_rows.ensures.0 c.in_default-read_rows.is)
-
-pub overflow_add-e : goal.overflow_add-e
-overflow_add-e c =
-    let h = fits_at ((c.args.s.now)) _ _ _ bytes_rows c.read_rows.ensures.1 c.in-Are.is ((named _ _ _ _ c.name_line.ensures c.in-Is.is)).fits in
-    omega (arith, h, c.well_formed)
-
-pub shape_of-d-then-e-s : goal.shape_of-d-then-e-s
-shape_of-d-then-e-s c = c.read_rows.auto.d
+pub returns-in_err-rows : goal.returns-in_err-rows
+returns-in_err-rows c =
+    let args = c.args in
+    let no = read_at (λ x. rows_from args.k args.t x 0 args.d.now false) args.s.now c.in_ok-used.used _ c.in_err-rows.ensures.0 in
+    rw c.from_residual-in_err-rows.ensures (rows_short _ _ _ _ _ c.in_ok-used.ensures.0 no)
 
 pub returns-then-e-s : goal.returns-then-e-s
 returns-then-e-s c =
-    rows_more _ _ _ _ _ _ _ _ ((named _ _ _ _ c.name_line.ensures c.in-Is.is)).is
-    (rows_at ((c.args.s.now)) _ _ _ _ _ _ _ _ c.read_rows.ensures.0 c.in-Are.is) (ended_not _ _ c.if-e-s.true)
-
-pub shape_of-d : goal.shape_of-d
-shape_of-d c = c.read_rows.auto.d
+    rows_more _ _ _ _ _ _ _ _ c.in_ok-used.ensures.0
+    (rows_at c.args.s.now c.in_ok-used.used _ _ _ _ c.in_ok-rows.rows.used _ c.in_ok-rows.ensures.0) (ended_not _ _ c.if-e-s.true)
 
 pub returns : goal.returns
 returns c =
-    rows_are _ _ _ _ _ _ _ _ ((named _ _ _ _ c.name_line.ensures c.in-Is.is)).is
-    (rows_at ((c.args.s.now)) _ _ _ _ _ _ _ _ c.read_rows.ensures.0 c.in-Are.is) (ended_yes _ _ c.if-e-s.false)
+    rows_are _ _ _ _ _ _ _ _ c.in_ok-used.ensures.0
+    (rows_at c.args.s.now c.in_ok-used.used _ _ _ _ c.in_ok-rows.rows.used _ c.in_ok-rows.ensures.0) (ended_yes _ _ c.if-e-s.false)

@@ -2,27 +2,19 @@
 --   products_part, rows_part, run_of_body  the two parts and the whole, with the buffers and the flags that the loops keep
 --   products_unnamed .. run_is       their cases
 --   body_run                         the whole gives the body, the buffers written, and the flags
---   products_fit                     the bytes of the products are within the text
---   products_at .. last_not          parts read at a part of the text
+--   products_at, rows_at             products and rows read at a part of the text
 -- Assumes nothing.
 use Rattle.std.specs.Prelude.{ℕ, zero, suc, ◌+◌, ◌-◌, ◌<◌, ◌≤◌, ◌≡◌, refl, List, [], ◌∷◌, Bool, true, false, ◌||◌, length, take, drop, Option, None, Some}
-use Rattle.std.proofs.Common.{ap, ◌∙◌, arith, drop-drop}
+use Rattle.std.proofs.Common.{ap, ◌∙◌, arith}
 use Rattle.std.proofs.lemmas.List.Edits.{sets}
 use Rattle.kinds.specs.Sizes.{given}
 use Rattle.words.specs.Masks.{wide, zero_in}
 use Rattle.text.specs.Reading.{◌>>=◌}
 use Rattle.text.specs.Line.{name_line}
-use Rattle.text.specs.laws.Line.{read_at}
+use Rattle.text.specs.laws.Line.{read_at, rest_at}
 use Rattle.formula_files.specs.lines.Formula.{products, rows, body, ended, product_names, row_name}
-use Rattle.formula_files.specs.lines.Views.{seen_products, bytes_products, seen_rows, seen_last}
 use Rattle.formula_files.specs.lines.Buffered.{products_from, rows_from, products_part, rows_part, run_of_body}
 use Rattle.formula_files.specs.lines.laws.Loops.{products_from_law, rows_from_law}
-use Rattle.formula_files.specs.declared.lines.Products.{Products}
-use Rattle.formula_files.specs.declared.lines.Products.TheVariants as pds
-use Rattle.formula_files.specs.declared.lines.Rows.{Rows}
-use Rattle.formula_files.specs.declared.lines.Rows.TheVariants as rws
-use Rattle.formula_files.specs.declared.lines.LastRows.{LastRows}
-use Rattle.formula_files.specs.declared.lines.LastRows.TheVariants as last
 
 -- ---- the body, as the code reads it
 module _ (n m k : ℕ) (s a b : List ℕ) where
@@ -131,37 +123,15 @@ body_run n m k t s a b d = first (name_line product_names s)
     first None = refl
     first (Some u) = rw (products_from_law n m k u 0 a b false false) (second (products k u))
 
-pub products_fit : (r : Products) (v len : ℕ) (w z : Bool) → bytes_products r ≤ len → r ≡ pds.Are v w z → v ≤ len
-products_fit r v len w z e h = rw h at e
-
 -- ---- the parts of the body, read at the part of s from u on
 module _ (s : List ℕ) (u : ℕ) where
-  pub products_at : (n m k : ℕ) (a b a₁ b₁ : List ℕ) (r : Products) (v : ℕ) (w z : Bool)
-      → products_from n m k (take (length s - u) (drop u s)) 0 a b false false ≡ seen_products (take (length s - u) (drop u s)) a₁ b₁ r
-      → r ≡ pds.Are v w z → products_from n m k (drop u s) 0 a b false false ≡ Some (drop (u + v) s, a₁, b₁, w, z)
-  products_at n m k a b a₁ b₁ r v w z e h =
-      read_at s u r (pds.Are v w z) (λ t. products_from n m k t 0 a b false false) (λ t. seen_products t a₁ b₁) e h
-      ∙ ap (λ (x : List ℕ). Some (x, a₁, b₁, w, z)) (drop-drop v u s)
+  pub products_at : (n m k : ℕ) (a b a₁ b₁ : List ℕ) (v : ℕ) (w z : Bool)
+      → products_from n m k (take (length s - u) (drop u s)) 0 a b false false ≡ Some (drop v (take (length s - u) (drop u s)), a₁, b₁, w, z)
+      → products_from n m k (drop u s) 0 a b false false ≡ Some (drop (u + v) s, a₁, b₁, w, z)
+  products_at n m k a b a₁ b₁ v w z e =
+      read_at (λ t. products_from n m k t 0 a b false false) s u _ e ∙ ap (λ (x : List ℕ). Some (x, a₁, b₁, w, z)) (rest_at s u v)
 
-  pub products_not : (n m k : ℕ) (a b a₁ b₁ : List ℕ) (r : Products)
-      → products_from n m k (take (length s - u) (drop u s)) 0 a b false false ≡ seen_products (take (length s - u) (drop u s)) a₁ b₁ r → r ≡ pds.No
-      → products_from n m k (drop u s) 0 a b false false ≡ None
-  products_not n m k a b a₁ b₁ r e h = read_at s u r pds.No (λ t. products_from n m k t 0 a b false false) (λ t. seen_products t a₁ b₁) e h
-
-  pub rows_at : (k t : ℕ) (d d₁ : List ℕ) (r : Rows) (v : ℕ) (w : Bool)
-      → rows_from k t (take (length s - u) (drop u s)) 0 d false ≡ seen_rows (take (length s - u) (drop u s)) d₁ r → r ≡ rws.Are v w
+  pub rows_at : (k t : ℕ) (d d₁ : List ℕ) (v : ℕ) (w : Bool)
+      → rows_from k t (take (length s - u) (drop u s)) 0 d false ≡ Some (drop v (take (length s - u) (drop u s)), d₁, w)
       → rows_from k t (drop u s) 0 d false ≡ Some (drop (u + v) s, d₁, w)
-  rows_at k t d d₁ r v w e h =
-      read_at s u r (rws.Are v w) (λ x. rows_from k t x 0 d false) (λ x. seen_rows x d₁) e h
-      ∙ ap (λ (x : List ℕ). Some (x, d₁, w)) (drop-drop v u s)
-
-  pub rows_not : (k t : ℕ) (d d₁ : List ℕ) (r : Rows)
-      → rows_from k t (take (length s - u) (drop u s)) 0 d false ≡ seen_rows (take (length s - u) (drop u s)) d₁ r → r ≡ rws.No
-      → rows_from k t (drop u s) 0 d false ≡ None
-  rows_not k t d d₁ r e h = read_at s u r rws.No (λ x. rows_from k t x 0 d false) (λ x. seen_rows x d₁) e h
-
-  pub last_at : (k t : ℕ) (d d₁ : List ℕ) (r : LastRows) (w : Bool) → rows_part k t (take (length s - u) (drop u s)) d ≡ seen_last d₁ r → r ≡ last.Are w → rows_part k t (drop u s) d ≡ Some (d₁, w)
-  last_at k t d d₁ r w e h = read_at s u r (last.Are w) (λ x. rows_part k t x d) (λ x. seen_last d₁) e h
-
-  pub last_not : (k t : ℕ) (d d₁ : List ℕ) (r : LastRows) → rows_part k t (take (length s - u) (drop u s)) d ≡ seen_last d₁ r → r ≡ last.No → rows_part k t (drop u s) d ≡ None
-  last_not k t d d₁ r e h = read_at s u r last.No (λ x. rows_part k t x d) (λ x. seen_last d₁) e h
+  rows_at k t d d₁ v w e = read_at (λ x. rows_from k t x 0 d false) s u _ e ∙ ap (λ (x : List ℕ). Some (x, d₁, w)) (rest_at s u v)

@@ -5,16 +5,13 @@
 --   product_first .. product_at  the cases of a product line, and one read at a part of the text
 -- Assumes nothing.
 use Rattle.std.specs.Prelude.{ℕ, zero, suc, ◌+◌, ◌-◌, ◌<◌, ◌≡◌, refl, List, ◌∷◌, Bool, true, false, ◌||◌, length, take, drop, set, eqb, Option, None, Some}
-use Rattle.std.proofs.Common.{ap, ◌∙◌, arith, add-one, drop-drop}
+use Rattle.std.proofs.Common.{ap, ◌∙◌, arith, add-one}
 use Rattle.std.proofs.lemmas.List.Edits.{sets}
 use Rattle.words.specs.Masks.{outside, wide, zero_in}
 use Rattle.text.specs.Reading.{◌>>=◌}
 use Rattle.text.specs.Line.{mask_field, mask_line}
-use Rattle.text.specs.laws.Line.{read_at}
+use Rattle.text.specs.laws.Line.{read_at, rest_at}
 use Rattle.formula_files.specs.lines.Formula.{product_line, products, rows}
-use Rattle.formula_files.specs.lines.Views.{seen_product}
-use Rattle.formula_files.specs.declared.lines.Product.{Product}
-use Rattle.formula_files.specs.declared.lines.Product.TheVariants as product
 use Rattle.formula_files.specs.lines.Buffered.{products_from, rows_from}
 
 -- ---- one turn
@@ -168,7 +165,6 @@ pub product_is : (s t u : List ℕ) (x y : ℕ) → mask_field s ≡ Some (x, t)
 unfolding product_line
 product_is s t u x y e f = rw (e, f)
 
-pub product_at : (s : List ℕ) (u : ℕ) (r : Product) (x y w : ℕ)
-    → product_line (take (length s - u) (drop u s)) ≡ seen_product (take (length s - u) (drop u s)) r → r ≡ product.Is x y w
+pub product_at : (s : List ℕ) (u x y w : ℕ) → product_line (take (length s - u) (drop u s)) ≡ Some (x, y, drop w (take (length s - u) (drop u s)))
     → product_line (drop u s) ≡ Some (x, y, drop (u + w) s)
-product_at s u r x y w e h = read_at s u r (product.Is x y w) product_line seen_product e h ∙ ap (λ (t : List ℕ). Some (x, y, t)) (drop-drop w u s)
+product_at s u x y w e = read_at product_line s u _ e ∙ ap (λ (t : List ℕ). Some (x, y, t)) (rest_at s u w)

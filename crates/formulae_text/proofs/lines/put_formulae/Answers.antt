@@ -65,9 +65,6 @@ loop-i-preserved c =
     listing_next (formula_text args.entry) 46 args.listing.now args.k args.t args.n args.out.now args.at loop.out _ loop.e
     _ loop.i loop.invariant loop-test.true pre put-formula.ensures put-formula.auto.out
 
-pub shape_of-out : goal.shape_of-out
-shape_of-out c = c.loop-i.invariant.same
-
 pub returns : goal.returns
 returns c =
     let args = c.args in

@@ -9,7 +9,7 @@ use Rattle.maps.proofs.Counting.{numbered_mask}
 use Rattle.maps.proofs.form_lists.fill_costs.Goals as goal
 
 pub loop-i-init : goal.loop-i-init
-loop-i-init c = let a = c.args in (omega arith, refl, listed_none (generator_cost a.m) a.c a.out.now)
+loop-i-init c = let a = c.args in (refl, listed_none (generator_cost a.m) a.c a.out.now)
 
 pub generator_cost-requires : goal.generator_cost-requires
 generator_cost-requires c =
@@ -24,9 +24,6 @@ offset_bounds-out-i c = let f = c.requires.few in omega arith
 pub bounds-out-i : goal.bounds-out-i
 bounds-out-i c = let f = c.requires.room in omega arith
 
-pub overflow_add-i : goal.overflow_add-i
-overflow_add-i c = let f = c.requires.few in omega arith
-
 pub loop-i-preserved : goal.loop-i-preserved
 loop-i-preserved c =
     let args = c.args in
@@ -34,19 +31,18 @@ loop-i-preserved c =
     let a = args in
     let l = c.loop-i in
     let f = pre.room in (
-      omega arith,
-      length-set l.out l.i c.generator_cost.result ∙ l.invariant.1,
+      length-set l.out l.i c.generator_cost.result ∙ l.invariant.0,
       listed_next (generator_cost a.m) l.i a.c c.generator_cost.result l.out (list_of (generator_cost a.m) 0 a.c)
-          (omega arith) (omega arith) c.generator_cost.ensures l.invariant.2,
+          (omega arith) (omega arith) c.generator_cost.ensures l.invariant.1,
     )
 
 pub shape_of-out : goal.shape_of-out
-shape_of-out c = c.loop-i.invariant.1
+shape_of-out c = c.loop-i.invariant.0
 
 pub returns : goal.returns
 unfolding generator_costs
 returns c =
     let a = c.args in
     let l = c.loop-i in
-    listed_end (generator_cost a.m) l.i a.c l.out (list_of (generator_cost a.m) 0 a.c) (omega arith) (omega arith) l.invariant.2
+    listed_end (generator_cost a.m) l.i a.c l.out (list_of (generator_cost a.m) 0 a.c) (omega arith) (omega arith) l.invariant.1
     ∙ ap (list_of (generator_cost a.m) 0) (sym c.requires.count)

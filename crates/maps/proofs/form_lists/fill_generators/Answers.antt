@@ -7,7 +7,7 @@ use Rattle.maps.specs.form_lists.laws.Filling.{listed_none, listed_next, listed_
 use Rattle.maps.proofs.form_lists.fill_generators.Goals as goal
 
 pub loop-j-init : goal.loop-j-init
-loop-j-init c = let a = c.args in (omega arith, refl, listed_none (generator_form a.n a.m) a.c a.g.now)
+loop-j-init c = let a = c.args in (refl, listed_none (generator_form a.n a.m) a.c a.g.now)
 
 pub generator_form-requires : goal.generator_form-requires
 generator_form-requires c =
@@ -20,9 +20,6 @@ offset_bounds-g-j c = let f = c.requires.few in omega arith
 pub bounds-g-j : goal.bounds-g-j
 bounds-g-j c = let f = c.requires.room in omega arith
 
-pub overflow_add-j : goal.overflow_add-j
-overflow_add-j c = let f = c.requires.few in omega arith
-
 pub loop-j-preserved : goal.loop-j-preserved
 loop-j-preserved c =
     let args = c.args in
@@ -30,19 +27,18 @@ loop-j-preserved c =
     let a = args in
     let l = c.loop-j in
     let f = pre.room in (
-      omega arith,
-      length-set l.g l.j c.generator_form.result ∙ l.invariant.1,
+      length-set l.g l.j c.generator_form.result ∙ l.invariant.0,
       listed_next (generator_form a.n a.m) l.j a.c c.generator_form.result l.g (list_of (generator_form a.n a.m) 0 a.c)
-          (omega arith) (omega arith) c.generator_form.ensures l.invariant.2,
+          (omega arith) (omega arith) c.generator_form.ensures l.invariant.1,
     )
 
 pub shape_of-g : goal.shape_of-g
-shape_of-g c = c.loop-j.invariant.1
+shape_of-g c = c.loop-j.invariant.0
 
 pub returns : goal.returns
 unfolding generator_forms
 returns c =
     let a = c.args in
     let l = c.loop-j in
-    listed_end (generator_form a.n a.m) l.j a.c l.g (list_of (generator_form a.n a.m) 0 a.c) (omega arith) (omega arith) l.invariant.2
+    listed_end (generator_form a.n a.m) l.j a.c l.g (list_of (generator_form a.n a.m) 0 a.c) (omega arith) (omega arith) l.invariant.1
     ∙ ap (list_of (generator_form a.n a.m) 0) (sym c.requires.count)

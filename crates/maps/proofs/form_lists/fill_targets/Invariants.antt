@@ -1,7 +1,7 @@
 -- `maps::form_lists::fill_targets` meets its contract. Assumes nothing.
 use mathlib.Core.Path.{◌≡◌}
 use mathlib.Core.List.{◌++◌}
-use Prim.Native.Nat.{◌-◌, ◌≤◌}
+use Prim.Native.Nat.{◌-◌}
 use lib.ListN.{length, take}
 use Rattle.maps.specs.Generators.{list_of}
 use Rattle.maps.specs.Target.{target_form}
@@ -9,8 +9,5 @@ use Rattle.maps.proofs.form_lists.fill_targets.Given as goal
 
 abbrev pub invariant-loop-i : goal.invariant-loop-i
 invariant-loop-i l =
-    (l.i ≤ l.u) × (length l.t ≡ length l.initial.t) × (take l.i l.t ++ list_of (target_form l.shape l.n l.m) l.i (l.u - l.i) ≡ list_of (target_form
-    l.shape l.n l.m) 0 l.u)
-
-abbrev pub decreases-loop-i : goal.decreases-loop-i
-decreases-loop-i l = l.u - l.i
+    (length l.t ≡ length l.initial.t)
+    × (take l.i l.t ++ list_of (target_form l.shape l.n l.m) l.i (l.u - l.i) ≡ list_of (target_form l.shape l.n l.m) 0 l.u)

@@ -1,11 +1,9 @@
 -- What a turn of each loop does, over plain lists.
 --   list_of_first                               a list that is made is its first and the rest
 --   listed_none, listed_next, listed_end       writing f 0, f 1, .. from a buffer's start
---   copied_next, copied_end                    writing a list from a buffer's start
 -- Assumes nothing.
-use Rattle.std.specs.Prelude.{◌≡◌, List, [], ◌∷◌, ◌++◌, ℕ, suc, ◌+◌, ◌-◌, ◌<◌, ◌≤◌, length, get_or, take, drop, set}
-use Rattle.std.proofs.Common.{sym, ap, ◌∙◌, append_assoc, append-nil, add-one, arith, drop_of_length-le, take-suc-set}
-use Rattle.words.specs.laws.Scan.{next}
+use Rattle.std.specs.Prelude.{◌≡◌, List, [], ◌∷◌, ◌++◌, ℕ, suc, ◌+◌, ◌-◌, ◌<◌, ◌≤◌, length, take, set}
+use Rattle.std.proofs.Common.{sym, ap, ◌∙◌, append_assoc, append-nil, add-one, arith, take-suc-set}
 use Rattle.maps.specs.Generators.{list_of}
 
 -- ---- a word written behind those that stand
@@ -35,13 +33,3 @@ listed_end f i c out F h k inv =
     let e : c - i ≡ 0 = omega arith in
     let s : c ≡ i = omega arith in
     ap (λ (k : ℕ). take k out) s ∙ sym (append-nil (take i out)) ∙ sym (ap (λ (k : ℕ). take i out ++ list_of f i k) e) ∙ inv
-
-pub copied_next : (xs : List ℕ) (i : ℕ) (out F : List ℕ) → i < length xs → i < length out → take i out ++ drop i xs ≡ F
-    → take (i + 1) (set out i (get_or xs i 0)) ++ drop (i + 1) xs ≡ F
-copied_next xs i out F h k inv =
-    written out i (get_or xs i 0) (drop (i + 1) xs) F k (ap (λ (l : List ℕ). take i out ++ l) (sym (next xs i h)) ∙ inv)
-
-pub copied_end : (xs : List ℕ) (i : ℕ) (out F : List ℕ) → i ≤ length xs → length xs ≤ i → take i out ++ drop i xs ≡ F → take (length xs) out ≡ F
-copied_end xs i out F h k inv =
-    let s : length xs ≡ i = omega arith in
-    ap (λ (k : ℕ). take k out) s ∙ sym (append-nil (take i out)) ∙ sym (ap (λ (l : List ℕ). take i out ++ l) (drop_of_length-le xs k)) ∙ inv

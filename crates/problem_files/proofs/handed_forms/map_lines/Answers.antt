@@ -11,10 +11,10 @@ pub returns-then-s-gt0 : goal.returns-then-s-gt0
 returns-then-s-gt0 c =
     let args = c.args in
     let generator-count = c.generator_count in
-    map_more _ _ args.s.now _ (generator-count.ensures ∙ c.in-Is.is) c.if-s-gt0.true
+    map_more _ _ args.s.now _ (generator-count.ensures ∙ c.in-Some.is) c.if-s-gt0.true
 
 pub returns : goal.returns
 returns c =
     let args = c.args in
     let generator-count = c.generator_count in
-    map_none _ _ args.s.now _ (generator-count.ensures ∙ c.in-Is.is) (omega (arith, c.if-s-gt0))
+    map_none _ _ args.s.now _ (generator-count.ensures ∙ c.in-Some.is) (omega (arith, c.if-s-gt0))

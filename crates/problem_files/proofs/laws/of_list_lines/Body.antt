@@ -1,6 +1,5 @@
--- The cases of a list's lines, and parts of them read at a part of the text.
+-- The cases of a list's lines.
 --   list_1 .. list_is     its cases
---   roles_at, roles_not   the lines of a role
 --   ended_is              a text is used up exactly if as many bytes are used as it has
 -- Assumes nothing.
 use Rattle.std.specs.Prelude.{ℕ, ◌+◌, ◌-◌, ◌≤◌, ◌≡◌, refl, List, Bool, true, false, length, take, drop, eqb, None, Some}
@@ -9,13 +8,9 @@ use Rattle.std.proofs.lemmas.Bool.{eqb-false}
 use Rattle.kinds.specs.Limits.{most_cost}
 use Rattle.kinds.specs.Sizes.{given}
 use Rattle.text.specs.Line.{name_line}
-use Rattle.text.specs.laws.Line.{read_at}
-use Rattle.text.specs.declared.Used.{Used}
-use Rattle.text.specs.declared.Used.TheVariants as used
 use Rattle.formula_files.specs.lines.Formula.{ended}
 use Rattle.formula_files.specs.lines.laws.Body.{ended_not, ended_yes}
 use Rattle.problem_files.specs.list_lines.Roles.{role_names, generator_role, target_role, target_cost, role_lines, list_body}
-use Rattle.problem_files.specs.list_lines.Views.{seen_roles}
 
 module _ (q r : ℕ) (s : List ℕ) where
   pub list_1 : name_line role_names s ≡ None → list_body q r s ≡ None
@@ -35,14 +30,6 @@ module _ (q r : ℕ) (s : List ℕ) where
       → role_lines target_role target_cost r v ≡ Some ((t, d), w) → ended w ≡ b → list_body q r s ≡ given b (g, t, c)
   unfolding list_body
   list_is u g c v t d w b e f h i = rw (e, f, h, i)
-
-module _ (s : List ℕ) (u c most n : ℕ) (xs ys : List ℕ) (x : Used)
-    (e : role_lines c most n (take (length s - u) (drop u s)) ≡ seen_roles (take (length s - u) (drop u s)) xs ys x) where
-  pub roles_at : (v : ℕ) → x ≡ used.Is v → role_lines c most n (drop u s) ≡ Some ((xs, ys), drop (u + v) s)
-  roles_at v h = read_at s u x (used.Is v) (role_lines c most n) (λ t. seen_roles t xs ys) e h ∙ ap (λ (t : List ℕ). Some ((xs, ys), t)) (drop-drop v u s)
-
-  pub roles_not : x ≡ used.No → role_lines c most n (drop u s) ≡ None
-  roles_not h = read_at s u x used.No (role_lines c most n) (λ t. seen_roles t xs ys) e h
 
 pub ended_is : (s : List ℕ) (i : ℕ) → i ≤ length s → ended (drop i s) ≡ eqb i (length s)
 ended_is s i h = go (eqb i (length s)) refl

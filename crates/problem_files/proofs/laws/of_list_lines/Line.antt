@@ -2,7 +2,6 @@
 --   form_not, cost_not, cost_above, form_is   no form; no cost; too large a cost; both
 --   role_short, role_other, role_comma        it has not two bytes; its first byte is another; its second is no comma
 --   role_is                                   else it is the form and the cost behind them
---   RoleAt, role_next, role_no                a line of the part of s from u on, from the code's answer
 -- Assumes nothing.
 use Rattle.std.specs.Prelude.{ℕ, ◌+◌, ◌-◌, ◌<◌, ◌≤◌, ◌≡◌, Bool, ◌&&◌, length, get_or, take, drop, Option, None, Some}
 use Rattle.std.proofs.Math.Path.{refl, ap}
@@ -12,11 +11,7 @@ use Rattle.std.proofs.Math.Bool.{cond}
 use Rattle.std.proofs.Math.Dec.{eqb}
 use borrow.Author.Tests.{eq-eqb, ne_eqb, lt-ltb, le-ltb}
 use Rattle.text.specs.Line.{comma, mask_field}
-use Rattle.text.specs.laws.Line.{read_at, fits_at}
 use Rattle.problem_files.specs.list_lines.Roles.{cost_line, form_and_cost, role_line}
-use Rattle.problem_files.specs.list_lines.Views.{seen_role, bytes_role}
-use Rattle.problem_files.specs.declared.list_lines.RoleRead.{RoleRead}
-use Rattle.problem_files.specs.declared.list_lines.RoleRead.TheVariants as role
 
 -- ---- a form and its cost
 module _ (most : ℕ) (s : List ℕ) where
@@ -62,21 +57,3 @@ module _ (c most : ℕ) where
   role_is [] l e h = absurd (omega arith)
   role_is (a ∷ []) l e h = absurd (omega arith)
   role_is (a ∷ b ∷ s) l e h = rw (eq-eqb a c e, eq-eqb b comma h)
-
--- ---- a form x and a cost y read by f from the part of s from u on, and what is left, from place w on
-pub record RoleAt (f : List ℕ → Option ((ℕ × ℕ) × List ℕ)) (s : List ℕ) (u x y w : ℕ) : Type 0 where
-  pub is : f (drop u s) ≡ Some ((x, y), drop w s)
-  pub fits : w ≤ length s
-
-module _ (f : List ℕ → Option ((ℕ × ℕ) × List ℕ)) (s : List ℕ) (u : ℕ) (r : RoleRead) where
-  pub role_next : (x y w : ℕ)
-      → (f (take (length s - u) (drop u s)) ≡ seen_role (take (length s - u) (drop u s)) r) × (bytes_role r ≤ length (take (length s - u) (drop u s)))
-      → r ≡ role.Is x y w → u ≤ length s → RoleAt f s u x y (u + w)
-  role_next x y w p h l =
-      record {
-        is = read_at s u r (role.Is x y w) f seen_role p.0 h ∙ ap (λ (t : List ℕ). Some ((x, y), t)) (drop-drop w u s);
-        fits = fits_at s u r (role.Is x y w) bytes_role p.1 h l;
-      }
-
-  pub role_no : f (take (length s - u) (drop u s)) ≡ seen_role (take (length s - u) (drop u s)) r → r ≡ role.No → f (drop u s) ≡ None
-  role_no e h = read_at s u r role.No f seen_role e h

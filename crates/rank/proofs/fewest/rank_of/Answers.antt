@@ -1,10 +1,10 @@
 -- `rank::fewest::rank_of` meets its contract. Assumes nothing.
+use Rattle.std.specs.Prelude.{Some, None}
 use native.Mathlib.Omega.{arith}
 use borrow.Author.Rules.{rules}
 use mathlib.Core.Path.{sym, ap, ◌∙◌}
 use Rattle.kinds.specs.Refusal.{Answer}
 use Rattle.rank.specs.fewest.Fewest.{Ranking, lent_ranking}
-use Rattle.rank.specs.declared.fewest.Least.TheVariants as answered
 use Rattle.problems.proofs.laws.Handed.{replied_as}
 use Rattle.rank.proofs.laws.of_fewest.Least.{says_beyond, says_above, says_formula, missed_is, found_as, asking, finishing, few_held, numbers_held}
 use Rattle.rank.proofs.fewest.rank_of.Goals as goal
@@ -39,7 +39,7 @@ returns-in_default c =
     let M = missed_is a.gens.now a.targets.now misses.result basis-of.result basis-of.ensures misses.ensures in
     let l = c.least_formula in
     let e = says_above a.gens.now a.targets.now a.prices.now (M ∙ if1.false) a.out.now
-    (found_as a.gens.now a.targets.now a.prices.now a.b l.result answered.No _ pre.basis l.ensures c.in_default.is) in
+    (found_as a.gens.now a.targets.now a.prices.now a.b l.result None _ pre.basis l.ensures c.in_default.is) in
     (e, sym (ap (λ (r : Answer Ranking). lent_ranking r a.out.now) e))
 
 pub finish-requires : goal.finish-requires
@@ -51,11 +51,11 @@ finish-requires c =
     let a = c.args in
     let M = missed_is a.gens.now a.targets.now misses.result basis-of.result basis-of.ensures misses.ensures in
     let l = c.least_formula in
-    let F = found_as a.gens.now a.targets.now a.prices.now a.b l.result (answered.Is c.in-Is.k) _ pre.basis l.ensures
-    c.in-Is.is in
+    let F = found_as a.gens.now a.targets.now a.prices.now a.b l.result (Some c.in-Some.k) _ pre.basis l.ensures
+    c.in-Some.is in
     finishing a.gens.now a.targets.now a.prices.now (M ∙ if1.false) c.first_words-2.result.now pre.few
-    (few_held c.in-Is.k l.new.held _ l.auto.held c.first_words-2.ensures)
-    (numbers_held c.in-Is.k l.new.held _ l.auto.held c.first_words-2.ensures F)
+    (few_held c.in-Some.k l.new.held _ l.auto.held c.first_words-2.ensures)
+    (numbers_held c.in-Some.k l.new.held _ l.auto.held c.first_words-2.ensures F)
 
 pub returns : goal.returns
 returns c =
@@ -68,9 +68,9 @@ returns c =
     let a = c.args in
     let M = missed_is a.gens.now a.targets.now misses.result basis-of.result basis-of.ensures misses.ensures in
     let l = c.least_formula in
-    let F = found_as a.gens.now a.targets.now a.prices.now a.b l.result (answered.Is c.in-Is.k) _ pre.basis l.ensures
-    c.in-Is.is in
+    let F = found_as a.gens.now a.targets.now a.prices.now a.b l.result (Some c.in-Some.k) _ pre.basis l.ensures
+    c.in-Some.is in
     replied_as (λ r. lent_ranking r a.out.now)
     (says_formula a.gens.now a.targets.now a.prices.now (M ∙ if1.false) a.out.now first-words2.result.now
-    (numbers_held c.in-Is.k l.new.held _ l.auto.held first-words2.ensures F))
+    (numbers_held c.in-Some.k l.new.held _ l.auto.held first-words2.ensures F))
     finish.ensures

@@ -39,8 +39,6 @@ use Rattle.catalogue.specs.meeting.Cheapest.{held, CheapestFrom}
 use Rattle.choices.specs.declared.Choice.{Choice}
 use Rattle.choices.specs.Choice.{numbers_of, forms_of, Chose, Solves, record_of, chose_record, formula_record}
 use Rattle.choices.specs.laws.Writing.{numbers_length, written_first}
-use Rattle.rank.specs.declared.fewest.Least.{Least as Answered}
-use Rattle.rank.specs.declared.fewest.Least.TheVariants as answered
 use Rattle.rank.specs.matrix_rank.Matrix.{Bound}
 use Rattle.rank.specs.fewest.Fewest.{is, above, beyond, written, ranking, RankAsked, Asking, LeastFound, LeastFrom, Finishing}
 
@@ -95,11 +93,11 @@ module _ (gens : List ℕ) (b : Basis) (order prices : List ℕ) where
           is = λ targets B. told targets B ∙ ap (λ (t : Bool). or_else (held k t last) (least_from word gens targets prices (b.len + 7 - (k + 1)) (k + 1))) z;
         }
 
-    pub looking_found : r ≡ true → LeastFrom gens b prices (answered.Is k) last
+    pub looking_found : r ≡ true → LeastFrom gens b prices (Some k) last
     looking_found o targets B =
         told targets B ∙ ap (λ (t : Bool). or_else (held k t last) (least_from word gens targets prices (b.len + 7 - (k + 1)) (k + 1))) o
 
-  pub looking_none : (k : ℕ) (last : List ℕ) → Looking k → b.len + 7 ≤ k → LeastFrom gens b prices answered.No last
+  pub looking_none : (k : ℕ) (last : List ℕ) → Looking k → b.len + 7 ≤ k → LeastFrom gens b prices None last
   looking_none k last L h targets B =
       L.is targets B ∙ ap (λ (n : ℕ). least_from word gens targets prices n k) (let e : b.len + 7 - k ≡ 0 = omega arith in e) ∙ (unfold least_from in refl)
 
@@ -201,9 +199,9 @@ module _ (k : ℕ) (buffer numbers : List ℕ) (l : length buffer ≡ formula_ro
   numbers_held f = f ∙ ap (λ (x : List ℕ). Some x) (sym is_held)
 
 -- what `least_formula` said, by its answer
-pub found_as : (gens targets prices : List ℕ) (b : Basis) (r s : Answered) (buffer : List ℕ) → Holds (basis_of word targets) b
+pub found_as : (gens targets prices : List ℕ) (b : Basis) (r s : Option ℕ) (buffer : List ℕ) → Holds (basis_of word targets) b
     → LeastFrom gens b prices r buffer → r ≡ s
     → LeastFound gens targets prices (dim word targets) s buffer
 found_as gens targets prices b r s buffer B F e =
-    subst (λ (x : Answered). LeastFound gens targets prices (dim word targets) x buffer) e
+    subst (λ (x : Option ℕ). LeastFound gens targets prices (dim word targets) x buffer) e
     (subst (λ (l : ℕ). LeastFound gens targets prices l r buffer) (based_dim targets b B) (F targets B))

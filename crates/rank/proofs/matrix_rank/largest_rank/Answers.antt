@@ -40,9 +40,9 @@ loop-t-preserved c =
     let s = w.ensures l.invariant.0 in (
       s,
       ⊎_elim
-      (λ e. subst (Summed a.b a.width) (sym (c.max-best.ensures ∙ e)) l.invariant.1)
-      (λ e. subst (Summed a.b a.width) (sym (c.max-best.ensures ∙ e)) (record { form = w.result; sum = s; rank = r.ensures }))
-      (either l.best r.result),
+          (λ e. subst (Summed a.b a.width) (sym (c.max-best.ensures ∙ e)) l.invariant.1)
+          (λ e. subst (Summed a.b a.width) (sym (c.max-best.ensures ∙ e)) (record { form = w.result; sum = s; rank = r.ensures }))
+          (either l.best r.result),
     )
 
 pub returns : goal.returns

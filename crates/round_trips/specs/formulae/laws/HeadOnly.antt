@@ -6,7 +6,8 @@ use Rattle.std.specs.Prelude.{ℕ, ◌<◌, ◌≤◌, ◌≡◌, refl, List, []
 use Rattle.std.proofs.Common.{sym, ap, ap₂, ◌∙◌, arith, lt-ltb, eq-eqb, eqb-true, ltb-false}
 use Rattle.std.proofs.lemmas.Bool.{eqb-false}
 use Rattle.kinds.specs.declared.Kind.{Kind}
-use Rattle.kinds.specs.Kinds.{name_of, same, kind_named, kinds, first_kind}
+use Rattle.std.specs.List.{find}
+use Rattle.kinds.specs.Kinds.{name_of, same, kind_named, kinds}
 use Rattle.kinds.specs.Sizes.{shape_of, given}
 use Rattle.kinds.specs.names.laws.Same.{same_only}
 use Rattle.kinds.specs.laws.Sizes.{given_some}
@@ -101,12 +102,12 @@ fields_only s n e =
 pub kind_only : (s : List ℕ) (k : Kind) → kind_named s ≡ Some k → s ≡ name_of k
 kind_only s k e = go kinds e
   where
-    step : (x : Kind) (l : List Kind) (b : Bool) → same (name_of x) s ≡ b → (first_kind (λ k. same (name_of k) s) l ≡ Some k → s ≡ name_of k)
-        → cond b (Some x) (first_kind (λ k. same (name_of k) s) l) ≡ Some k → s ≡ name_of k
+    step : (x : Kind) (l : List Kind) (b : Bool) → same (name_of x) s ≡ b → (find (λ k. same (name_of k) s) l ≡ Some k → s ≡ name_of k)
+        → cond b (Some x) (find (λ k. same (name_of k) s) l) ≡ Some k → s ≡ name_of k
     step x l true h ih f = sym (same_only (name_of x) s h) ∙ ap name_of (inj x k f)
     step x l false h ih f = ih f
 
-    go : (l : List Kind) → first_kind (λ k. same (name_of k) s) l ≡ Some k → s ≡ name_of k
+    go : (l : List Kind) → find (λ k. same (name_of k) s) l ≡ Some k → s ≡ name_of k
     go [] f = absurd (let q : ◌≡◌ {A = ℕ} 0 1 = cc in omega arith)
     go (x ∷ l) f = step x l (same (name_of x) s) refl (go l) f
 

@@ -1,7 +1,7 @@
 -- `text::heads::head_lines` meets its contract. Assumes nothing.
-use Rattle.std.proofs.Common.{◌∙◌, arith, length-take, length-drop}
+use Rattle.std.proofs.Common.{◌∙◌, arith}
 use Rattle.text.specs.heads.Head.{head_line}
-use Rattle.text.specs.laws.Line.{read_at, field_at}
+use Rattle.text.specs.laws.Line.{read_at, fits_at, field_at}
 use Rattle.text.specs.heads.laws.Head.{heads_name, heads_is}
 use Rattle.text.proofs.heads.head_lines.Goals as goal
 
@@ -19,5 +19,5 @@ returns c =
     let u = c.in_ok-used.used in
     let h = c.in_ok-head.head in (
       heads_is _ _ c.in_ok-used.ensures.0 ∙ field_at head_line s u _ h.used c.in_ok-head.ensures.0,
-      omega (arith, c.in_ok-used.ensures.1, simp (length-take, length-drop) at c.in_ok-head.ensures.1),
+      fits_at s u h.used c.in_ok-used.ensures.1 c.in_ok-head.ensures.1,
     )
