@@ -79,6 +79,7 @@ fn in_block(
     let n = gens.len();
     let base = u.base;
     let mut p = u;
+    // A place, no index: the first row goes on from the place u, a later one begins before its first number.
     while p.g < n {
         let r = in_row(gens, s, v, p, heads, links);
         if r.e != 0 {
@@ -126,6 +127,7 @@ fn seek(
 {
     let n = gens.len();
     let mut p = u;
+    // A place, no index: the first block goes on from the place u, each later one has a table of its own.
     while p.base < n {
         let r = in_block(gens, s, v, lines, p, heads, links);
         if r.e != 0 {

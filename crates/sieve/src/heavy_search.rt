@@ -298,6 +298,7 @@ pub fn find(
     let mut mine = [0u64; residues::SEARCH_ROOM];
     let mut r = top;
     let mut j = super::marked_numbers::next_with(&w, r, start, n);
+    // No index is counted: j goes to the next number of the weight r, and r falls where none is left.
     while low < r {
         if j == n {
             r -= 1;
