@@ -7,11 +7,9 @@ use mathlib.Core.List.{List}
 use Prim.Native.Nat.{ℕ, ◌+◌, ◌-◌, ◌*◌, ◌^◌, ◌<◌, ◌≤◌}
 use mir.Syntax.{w64}
 use mir.Val.{Fits}
-use lib.ListN.{length, get_or}
+use lib.ListN.{length}
 use borrow.Author.Tests.{not-true}
-use Rattle.linear.specs.Basis.{insert}
-use Rattle.linear.specs.Word.{word}
-use Rattle.bases.specs.Basis.{rows_of, Holds}
+use Rattle.bases.specs.Basis.{rows_of}
 use Rattle.bases.specs.declared.Basis.{Basis}
 use Rattle.choices.specs.Choice.{numbers_of}
 use Rattle.choices.specs.declared.Choice.{Choice}
