@@ -1,5 +1,5 @@
--- `space_formulae::enumeration::spread` meets its contract, by recursion on the number of missing generators: the records so far are written, and those to come, written, give the
--- final state. Assumes nothing.
+-- `space_formulae::enumeration::spread` meets its contract, by recursion on the number of missing generators: the records so far
+-- are written, and those to come, written, give the final state. Assumes nothing.
 use Prim.Native.Nat.{◌-◌}
 use lib.ListN.{length}
 use Rattle.bases.specs.Basis.{rows_of}
