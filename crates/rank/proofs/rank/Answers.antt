@@ -1,5 +1,4 @@
 -- `rank::rank` meets its contract. Assumes nothing.
-use borrow.Author.Rules.{rules}
 use native.Mathlib.Omega.{arith}
 use mathlib.Core.Path.{refl}
 use Rattle.problems.proofs.laws.Handed.{replied_as, few_handed}

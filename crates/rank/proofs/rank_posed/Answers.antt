@@ -1,5 +1,4 @@
 -- `rank::rank_posed` meets its contract. Assumes nothing.
-use borrow.Author.Rules.{rules}
 use mathlib.Core.Path.{refl}
 use Rattle.problems.specs.Problem.{problem}
 use Rattle.problems.proofs.laws.Handed.{replied_as}

@@ -1,4 +1,5 @@
--- `residues::take` meets its contract: no number so far with the residue is flagged, and the generators to come, put into the basis so far, make the basis of all.
+-- `residues::take` meets its contract: no number so far with the residue is flagged, and the generators to come, put into the basis so far, make the
+-- basis of all.
 -- Assumes nothing.
 use Rattle.bases.specs.Basis.{rows_of}
 use Rattle.residues.proofs.Loops.{Putting}

@@ -1,14 +1,10 @@
 -- `space_formulae::formulae` meets its contract. Assumes nothing.
 use mathlib.Core.Path.{refl}
-use borrow.Author.Rules.{rules}
 use Rattle.problems.proofs.laws.Handed.{follow_refused, follow_made, replied_as}
 use Rattle.space_formulae.specs.spaces.Spaces.{formulae_of, lent_formulae}
 use Rattle.space_formulae.proofs.laws.Replies.{made_some}
 use Rattle.space_formulae.proofs.laws.Numbers.{formulae_told}
 use Rattle.space_formulae.specs.declared.spaces.Listed.TheVariants as reply
-use Rattle.problems.proofs.pose.Reads as pose-reads
-use Rattle.words.proofs.first_words.Reads as first-words-reads
-use Rattle.space_formulae.proofs.formulae_for.Reads as formulae-for-reads
 use Rattle.space_formulae.proofs.formulae.Goals as goal
 
 pub formulae_for-requires : goal.formulae_for-requires

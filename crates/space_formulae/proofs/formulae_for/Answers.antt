@@ -2,10 +2,6 @@
 use native.Mathlib.Omega.{arith}
 use Rattle.bases.specs.Basis.{based_dim}
 use Rattle.space_formulae.proofs.laws.Replies.{given_far, given_no, is_accepted, given_yes}
-use borrow.Author.Rules.{rules}
-use Rattle.bases.proofs.basis_of.Reads as basis-of-reads
-use Rattle.space_formulae.proofs.spaces.is_entry.Reads as is-entry-reads
-use Rattle.space_formulae.proofs.spaces.list_space.Reads as list-space-reads
 use Rattle.space_formulae.proofs.formulae_for.Goals as goal
 
 pub returns-then-rows-ell : goal.returns-then-rows-ell

@@ -8,7 +8,8 @@ use Rattle.std.proofs.Common.{rules}
 use native.Mathlib.Omega.{arith}
 use Rattle.weights.specs.laws.Fill.{blank_slots, blank_all, filling_start, filling_entering, filling_skip, filling_next, filling_end}
 use Rattle.weights.proofs.fill.Goals as goal
-use Rattle.weights.proofs.fill.Goals.{then-dead-i-eq0+then-d-i-ne0, else-dead-i-eq0-via-then-dead-i-eq0+else-d-i-ne0, else-dead-i-eq0, else-dead-i-eq0-via-else-dead-i-eq0}
+use Rattle.weights.proofs.fill.Goals.{then-dead-i-eq0+then-d-i-ne0, else-dead-i-eq0}
+use Rattle.weights.proofs.fill.Goals.{else-dead-i-eq0-via-then-dead-i-eq0+else-d-i-ne0, else-dead-i-eq0-via-else-dead-i-eq0}
 
 pub loop-i-init : goal.loop-i-init
 loop-i-init c =

@@ -1,9 +1,8 @@
 -- `rank::fewest::least_formula` meets its contract: no number of dimensions below k has an entry. Assumes nothing.
 use native.Mathlib.Omega.{arith}
-use mathlib.Core.Path.{◌≡◌, refl, ◌∙◌}
-use Prim.Native.Nat.{◌+◌, ◌-◌, ◌<◌}
-use lib.ListN.{length}
-use Rattle.rank.proofs.laws.of_fewest.Least.{Looking, looking_start, looking_next, looking_found, looking_none}
+use mathlib.Core.Path.{refl, ◌∙◌}
+use Prim.Native.Nat.{◌+◌, ◌<◌}
+use Rattle.rank.proofs.laws.of_fewest.Least.{looking_start, looking_next, looking_found, looking_none}
 use Rattle.rank.proofs.fewest.least_formula.Goals as goal
 
 pub least_products-bound-requires : goal.least_products-bound-requires

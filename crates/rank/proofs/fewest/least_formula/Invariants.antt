@@ -1,9 +1,7 @@
 -- `rank::fewest::least_formula` meets its contract: no number of dimensions below k has an entry. Assumes nothing.
-use native.Mathlib.Omega.{arith}
-use mathlib.Core.Path.{◌≡◌, refl, ◌∙◌}
-use Prim.Native.Nat.{◌+◌, ◌-◌, ◌<◌}
+use mathlib.Core.Path.{◌≡◌}
 use lib.ListN.{length}
-use Rattle.rank.proofs.laws.of_fewest.Least.{Looking, looking_start, looking_next, looking_found, looking_none}
+use Rattle.rank.proofs.laws.of_fewest.Least.{Looking}
 use Rattle.rank.proofs.fewest.least_formula.Given as goal
 
 abbrev pub invariant-loop-k : goal.invariant-loop-k

@@ -1,5 +1,4 @@
 -- `rank::fewest::meet` meets its contract. Assumes nothing.
-use borrow.Author.Rules.{rules}
 use Rattle.rank.proofs.laws.of_fewest.Least.{skipped}
 use Rattle.rank.proofs.fewest.meet.Goals as goal
 

@@ -1,7 +1,6 @@
 -- `rank::fewest::rank_of` meets its contract. Assumes nothing.
 use Rattle.std.specs.Prelude.{Some, None}
 use native.Mathlib.Omega.{arith}
-use borrow.Author.Rules.{rules}
 use mathlib.Core.Path.{sym, ap, ◌∙◌}
 use Rattle.kinds.specs.Refusal.{Answer}
 use Rattle.rank.specs.fewest.Fewest.{Ranking, lent_ranking}

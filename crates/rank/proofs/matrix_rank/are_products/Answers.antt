@@ -1,10 +1,8 @@
 -- `rank::matrix_rank::are_products` meets its contract. Assumes nothing.
 use native.Mathlib.Omega.{arith}
 use mathlib.Core.Bool.{false≢true}
-use Prim.Native.Nat.{◌-◌}
 use borrow.Author.Tests.{not-false}
-use lib.ListN.{length}
-use Rattle.rank.proofs.laws.of_matrix_rank.Loops.{Passed, passed_start, passed_next, passed_end}
+use Rattle.rank.proofs.laws.of_matrix_rank.Loops.{passed_start, passed_next, passed_end}
 use Rattle.rank.proofs.matrix_rank.are_products.Goals as goal
 
 pub loop-g-init : goal.loop-g-init

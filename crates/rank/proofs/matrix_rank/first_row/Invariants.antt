@@ -1,5 +1,4 @@
 -- `rank::matrix_rank::first_row` ends. Assumes nothing.
-use Rattle.rank.proofs.laws.of_matrix_rank.Loops.{shorter}
 use Rattle.rank.proofs.matrix_rank.first_row.Given as goal
 
 abbrev pub invariant-loop-rest : goal.invariant-loop-rest

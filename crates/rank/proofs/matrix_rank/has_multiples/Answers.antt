@@ -6,7 +6,7 @@ use native.Mathlib.Omega.{arith}
 use borrow.Author.Tests.{not-false}
 use Rattle.linear.specs.Span.{Span}
 use Rattle.linear.specs.Word.{word}
-use Rattle.rank.proofs.laws.of_matrix_rank.Loops.{shorter, Checking, checking_start, checking_next, checking_end}
+use Rattle.rank.proofs.laws.of_matrix_rank.Loops.{shorter, checking_start, checking_next, checking_end}
 use Rattle.rank.proofs.matrix_rank.has_multiples.Goals as goal
 
 pub loop-rest-init : goal.loop-rest-init

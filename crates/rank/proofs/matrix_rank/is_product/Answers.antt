@@ -1,5 +1,4 @@
 -- `rank::matrix_rank::is_product` meets its contract. Assumes nothing.
-use borrow.Author.Rules.{rules}
 use Rattle.rank.proofs.matrix_rank.is_product.Goals as goal
 
 pub returns : goal.returns

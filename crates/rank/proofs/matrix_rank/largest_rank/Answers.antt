@@ -2,9 +2,7 @@
 use native.Mathlib.Omega.{arith}
 use Rattle.std.specs.Ordering.{ord_max, nat_cmp}
 use Rattle.std.proofs.Common.{◌≡◌, ◌⊎◌, ⊎_elim, ℕ, sym, subst, ◌∙◌, rules}
-use Prim.Native.Nat.{◌-◌}
 use lib.Count.{trailing_le}
-use Rattle.linear.specs.Span.{Span}
 use Rattle.linear.specs.Word.{word}
 use Rattle.linear.specs.laws.Span.{span_nul}
 use Rattle.bases.specs.Basis.{rows_of}

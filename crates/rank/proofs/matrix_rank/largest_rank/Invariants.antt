@@ -1,13 +1,8 @@
 -- `rank::matrix_rank::largest_rank` meets its contract. Assumes nothing.
-use native.Mathlib.Omega.{arith}
-use Prim.Native.Nat.{◌-◌}
-use lib.Count.{trailing_le}
 use Rattle.linear.specs.Span.{Span}
 use Rattle.linear.specs.Word.{word}
-use Rattle.linear.specs.laws.Span.{span_nul}
 use Rattle.bases.specs.Basis.{rows_of}
 use Rattle.rank.specs.matrix_rank.Matrix.{Summed}
-use Rattle.rank.proofs.laws.of_matrix_rank.Loops.{summed_start}
 use Rattle.rank.proofs.matrix_rank.largest_rank.Given as goal
 
 abbrev pub invariant-loop-t : goal.invariant-loop-t

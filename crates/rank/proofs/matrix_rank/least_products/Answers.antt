@@ -1,5 +1,4 @@
 -- `rank::matrix_rank::least_products` meets its contract. Assumes nothing.
-use borrow.Author.Rules.{rules}
 use Rattle.rank.proofs.laws.of_matrix_rank.Matrix.{bounded, bound_none}
 use Rattle.rank.proofs.matrix_rank.least_products.Goals as goal
 

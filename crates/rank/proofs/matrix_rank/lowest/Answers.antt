@@ -1,6 +1,5 @@
 -- `rank::matrix_rank::lowest` meets its contract. Assumes nothing.
 use native.Mathlib.Omega.{arith}
-use borrow.Author.Rules.{rules}
 use Prim.Native.Nat.{ℕ}
 use lib.Pow.{pow_pos}
 use Rattle.linear.proofs.laws.Shift.{one_shift}

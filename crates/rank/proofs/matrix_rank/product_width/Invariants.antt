@@ -1,7 +1,5 @@
 -- `rank::matrix_rank::product_width` meets its contract. Assumes nothing.
-use native.Mathlib.Omega.{arith}
-use Prim.Native.Nat.{◌-◌, ◌≤◌}
-use Rattle.rank.proofs.laws.of_matrix_rank.Loops.{single}
+use Prim.Native.Nat.{◌≤◌}
 use Rattle.rank.proofs.matrix_rank.product_width.Given as goal
 
 abbrev pub invariant-loop-w : goal.invariant-loop-w

@@ -4,7 +4,7 @@ use Prim.Native.Nat.{ℕ}
 use Rattle.linear.specs.Basis.{insert}
 use Rattle.linear.specs.Word.{word}
 use Rattle.bases.specs.Basis.{rows_of, Holds}
-use Rattle.rank.proofs.laws.of_matrix_rank.Loops.{shorter, Cutting, cutting_start, cutting_next, cutting_end}
+use Rattle.rank.proofs.laws.of_matrix_rank.Loops.{shorter, cutting_start, cutting_next, cutting_end}
 use Rattle.rank.proofs.matrix_rank.rank_at.Goals as goal
 
 pub loop-rest-init : goal.loop-rest-init

@@ -1,10 +1,5 @@
 -- `rank::matrix_rank::rank_at` meets its contract. Assumes nothing.
-use mathlib.Core.Path.{subst}
-use Prim.Native.Nat.{ℕ}
-use Rattle.linear.specs.Basis.{insert}
-use Rattle.linear.specs.Word.{word}
-use Rattle.bases.specs.Basis.{rows_of, Holds}
-use Rattle.rank.proofs.laws.of_matrix_rank.Loops.{shorter, Cutting, cutting_start, cutting_next, cutting_end}
+use Rattle.rank.proofs.laws.of_matrix_rank.Loops.{Cutting}
 use Rattle.rank.proofs.matrix_rank.rank_at.Given as goal
 
 abbrev pub invariant-loop-rest : goal.invariant-loop-rest

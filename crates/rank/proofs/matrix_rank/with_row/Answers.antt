@@ -1,5 +1,4 @@
 -- `rank::matrix_rank::with_row` meets its contract. Assumes nothing.
-use borrow.Author.Rules.{rules}
 use Rattle.rank.proofs.laws.of_matrix_rank.Loops.{joined}
 use Rattle.rank.proofs.matrix_rank.with_row.Goals as goal
 

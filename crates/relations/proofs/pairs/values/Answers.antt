@@ -6,7 +6,8 @@ use native.Mathlib.Omega.{arith}
 use lib.ListN.{length, get_or}
 use Rattle.relations.specs.pairs.laws.Values.{valuing_start, valuing_skip, valuing_put, valuing_end}
 use Rattle.relations.proofs.pairs.values.Goals as goal
-use Rattle.relations.proofs.pairs.values.Goals.{then-w-i-eq1+then-gone-i-eq0, else-w-i-eq1, else-w-i-eq1-via-then-w-i-eq1+else-gone-i-eq0, else-w-i-eq1-via-else-w-i-eq1}
+use Rattle.relations.proofs.pairs.values.Goals.{then-w-i-eq1+then-gone-i-eq0, else-w-i-eq1}
+use Rattle.relations.proofs.pairs.values.Goals.{else-w-i-eq1-via-then-w-i-eq1+else-gone-i-eq0, else-w-i-eq1-via-else-w-i-eq1}
 
 pub loop-i-init : goal.loop-i-init
 loop-i-init c =

@@ -1,5 +1,5 @@
--- `space_formulae::enumeration::spread` meets its contract, by recursion on the number of missing generators: the records so far are written, and those to come, written, give the
--- final state. Assumes nothing.
+-- `space_formulae::enumeration::spread` meets its contract, by recursion on the number of missing generators: the records so far
+-- are written, and those to come, written, give the final state. Assumes nothing.
 use native.Mathlib.Omega.{arith}
 use mathlib.Core.Path.{◌≡◌, refl, sym, ◌∙◌}
 use mathlib.Core.Logic.{◌≢◌}
@@ -7,11 +7,9 @@ use mathlib.Core.List.{List}
 use Prim.Native.Nat.{ℕ, ◌+◌, ◌-◌, ◌*◌, ◌^◌, ◌<◌, ◌≤◌}
 use mir.Syntax.{w64}
 use mir.Val.{Fits}
-use lib.ListN.{length, get_or}
+use lib.ListN.{length}
 use borrow.Author.Tests.{not-true}
-use Rattle.linear.specs.Basis.{insert}
-use Rattle.linear.specs.Word.{word}
-use Rattle.bases.specs.Basis.{rows_of, Holds}
+use Rattle.bases.specs.Basis.{rows_of}
 use Rattle.bases.specs.declared.Basis.{Basis}
 use Rattle.choices.specs.Choice.{numbers_of}
 use Rattle.choices.specs.declared.Choice.{Choice}

@@ -1,25 +1,13 @@
--- `space_formulae::enumeration::spread` meets its contract, by recursion on the number of missing generators: the records so far are written, and those to come, written, give the
--- final state. Assumes nothing.
-use native.Mathlib.Omega.{arith}
-use mathlib.Core.Path.{◌≡◌, refl, sym, ◌∙◌}
-use mathlib.Core.Logic.{◌≢◌}
-use mathlib.Core.List.{List}
-use Prim.Native.Nat.{ℕ, ◌+◌, ◌-◌, ◌*◌, ◌^◌, ◌<◌, ◌≤◌}
-use mir.Syntax.{w64}
-use mir.Val.{Fits}
-use lib.ListN.{length, get_or}
-use borrow.Author.Tests.{not-true}
-use Rattle.linear.specs.Basis.{insert}
-use Rattle.linear.specs.Word.{word}
-use Rattle.bases.specs.Basis.{rows_of, Holds}
-use Rattle.bases.specs.declared.Basis.{Basis}
+-- `space_formulae::enumeration::spread` meets its contract, by recursion on the number of missing generators: the records so far
+-- are written, and those to come, written, give the final state. Assumes nothing.
+use Prim.Native.Nat.{◌-◌}
+use lib.ListN.{length}
+use Rattle.bases.specs.Basis.{rows_of}
 use Rattle.choices.specs.Choice.{numbers_of}
-use Rattle.choices.specs.declared.Choice.{Choice}
 use Rattle.records.specs.Records.{run}
 use Rattle.records.specs.Keep.{state_of}
-use Rattle.records.specs.declared.Tally.{Tally}
-use Rattle.space_formulae.specs.enumeration.Spread.{formulae_from, Branch}
-use Rattle.space_formulae.proofs.Going.{Going, node_leaf, going_leaf, going_full, going_stop, going_end, going_skip, node_down, going_down}
+use Rattle.space_formulae.specs.enumeration.Spread.{formulae_from}
+use Rattle.space_formulae.proofs.Going.{Going}
 use Rattle.space_formulae.proofs.enumeration.+spread.Given as goal
 
 abbrev pub invariant-loop-j : goal.invariant-loop-j

@@ -1,5 +1,4 @@
 -- `space_formulae::formula_records::keep` meets its contract. Assumes nothing.
-use borrow.Author.Rules.{rules}
 use Rattle.choices.specs.Choice.{record_of}
 use Rattle.records.specs.laws.Counted.{sane_counting, kept_unshown, kept_room, kept_shown}
 use Rattle.space_formulae.proofs.Keeping.{record_length_law}

@@ -1,11 +1,5 @@
 -- `space_formulae::spaces::is_entry` meets its contract. Assumes nothing.
 use Rattle.space_formulae.proofs.laws.of_spaces.Entry.{rows_other, rows_short, rows_judged}
-use borrow.Author.Rules.{rules}
-use Rattle.bases.proofs.Basis.empty.Reads as empty-reads
-use Rattle.bases.proofs.basis_of.Reads as basis-of-reads
-use Rattle.bases.proofs.spans.misses.Reads as misses-reads
-use Rattle.bases.proofs.spans.has_rows.Reads as has-rows-reads
-use Rattle.bases.proofs.spans.completes.Reads as completes-reads
 use Rattle.space_formulae.proofs.spaces.is_entry.Goals as goal
 
 pub has_rows-requires : goal.has_rows-requires

@@ -6,9 +6,6 @@ use native.Mathlib.Nat.{div-le_self}
 use lib.ListN.{length}
 use Rattle.space_formulae.proofs.laws.of_spaces.Listing.{first_node, told_all, told_more}
 use native.Mathlib.Omega.{arith}
-use borrow.Author.Rules.{rules}
-use Rattle.bases.proofs.Basis.empty.Reads as empty-reads
-use Rattle.space_formulae.proofs.enumeration.spread.Reads as spread-reads
 use Rattle.space_formulae.proofs.spaces.list_space.Goals as goal
 
 pub overflow_add-limit-2 : goal.overflow_add-limit-2
