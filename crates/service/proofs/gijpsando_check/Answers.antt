@@ -26,14 +26,14 @@ pub returns-in-Refused : goal.returns-in-Refused
 returns-in-Refused c =
     let args = c.args in
     let e : check_file args.file.now ≡ refused c.in-Refused.e =
-        refused_checks args.file.now (replicate 64 0) (replicate 64 0) (replicate 64 0) c.in-Refused.e refl refl refl (sym c.in-Refused.is ∙ c.read_formula.ensures.0) in
+    refused_checks args.file.now (replicate 64 0) (replicate 64 0) (replicate 64 0) c.in-Refused.e refl refl refl (sym c.in-Refused.is ∙ c.read_formula.ensures.0) in
     (ap (λ (x : Answer (List ℕ)). reply_of x args.out.now) (sym e), ap (λ (x : Answer (List ℕ)). bytes_of x args.out.now) (sym e))
 
 pub returns-in-Formula : goal.returns-in-Formula
 returns-in-Formula c =
     let args = c.args in
     let e = read_checks args.file.now _ _ (replicate 64 0) (replicate 64 0) (replicate 64 0) _ _ _ refl refl refl
-        (formula_held (goal.at.returns-in-Formula c).In-Formula) in (
+    (formula_held (goal.at.returns-in-Formula c).In-Formula) in (
       c.check_reply.ensures.0 ∙ ap (λ (x : Answer (List ℕ)). reply_of x args.out.now) (sym e),
       c.check_reply.ensures.1 ∙ ap (λ (x : Answer (List ℕ)). bytes_of x args.out.now) (sym e),
     )

@@ -11,9 +11,9 @@ pub returns-then-s-lt2 : goal.returns-then-s-lt2
 returns-then-s-lt2 c =
     let s = c.args.s.now in
     elim c.then-s-lt2.branch [
-      then-s-lt2-via-then-s-lt2 w ↦ (role_short _ _ s w.if-s-lt2.true, omega arith)
-    | then-s-lt2-via-else-s-lt2+then-s-role w ↦ (role_other _ _ s w.if-s-role.true, omega arith)
-    | then-s-lt2-via-else-s-lt2+else-s-role+then-s-ne44 w ↦ (role_comma _ _ s w.if-s-role.false w.if-s-ne44.true, omega arith)
+      | then-s-lt2-via-then-s-lt2 w ↦ (role_short _ _ s w.if-s-lt2.true, omega arith)
+      | then-s-lt2-via-else-s-lt2+then-s-role w ↦ (role_other _ _ s w.if-s-role.true, omega arith)
+      | then-s-lt2-via-else-s-lt2+else-s-role+then-s-ne44 w ↦ (role_comma _ _ s w.if-s-role.false w.if-s-ne44.true, omega arith)
     ]
 
 pub returns-in_err-form : goal.returns-in_err-form
