@@ -57,7 +57,8 @@ impl Basis {
         requires { Valid self }
         ensures { Holds (insert word (rows_of self) v) result }
     {
-        let r = self.reduce(v);
+        // Not `self.reduce(v)`: that would copy the basis once more.
+        let r = forms::reduce_rows(&self.rows[..self.len], v);
         if r != 0 {
             let n = self.len;
             insertion::place(&mut self.rows, n, r);

@@ -24,7 +24,15 @@ judge-said-requires c =
     c.first_words-firsts.ensures c.first_words-seconds.ensures c.first_words.ensures
 
 pub returns-then-n-eq0 : goal.returns-then-n-eq0
-returns-then-n-eq0 c = answer_short _ _ _ _ _ _ _ _ ((let args = c.args in in_text args.shape args.k args.a.now args.b.now args.rows.now c.requires _ _ _ c.in-Some.ensures _ _ _ c.first_words-firsts.ensures c.first_words-seconds.ensures c.first_words.ensures _ _ c.judge-said.ensures)) c.check_text-n.ensures c.if-n-eq0.true
+returns-then-n-eq0 c =
+    let args = c.args in
+    let judged = in_text args.shape args.k args.a.now args.b.now args.rows.now c.requires _ _ _ c.in-Some.ensures
+        _ _ _ c.first_words-firsts.ensures c.first_words-seconds.ensures c.first_words.ensures _ _ c.judge-said.ensures in
+    answer_short _ _ _ _ _ _ _ _ judged c.check_text-n.ensures c.if-n-eq0.true
 
 pub returns-else-n-eq0 : goal.returns-else-n-eq0
-returns-else-n-eq0 c = answer_whole _ _ _ _ _ _ _ _ ((let args = c.args in in_text args.shape args.k args.a.now args.b.now args.rows.now c.requires _ _ _ c.in-Some.ensures _ _ _ c.first_words-firsts.ensures c.first_words-seconds.ensures c.first_words.ensures _ _ c.judge-said.ensures)) c.check_text-n.ensures c.if-n-eq0.false
+returns-else-n-eq0 c =
+    let args = c.args in
+    let judged = in_text args.shape args.k args.a.now args.b.now args.rows.now c.requires _ _ _ c.in-Some.ensures
+        _ _ _ c.first_words-firsts.ensures c.first_words-seconds.ensures c.first_words.ensures _ _ c.judge-said.ensures in
+    answer_whole _ _ _ _ _ _ _ _ judged c.check_text-n.ensures c.if-n-eq0.false

@@ -19,7 +19,10 @@ pub loop-b-init : goal.loop-b-init
 loop-b-init c = (
   c.if-most-n.false,
   rw pow-zero (omega arith),
-  elim c.else-n-gt1.branch [ else-n-gt1-via-then-n-gt1+else-s-eq48 w ↦ numeral_more _ _ _ w.if-n-gt1.true c.if-most-n.false (ne_eqb _ _ w.if-s-eq48.false) | else-n-gt1-via-else-n-gt1 w ↦ numeral_one _ _ _ c.if-n-eq0.false w.if-n-gt1.false c.if-most-n.false ],
+  elim c.else-n-gt1.branch [
+    else-n-gt1-via-then-n-gt1+else-s-eq48 w ↦ numeral_more _ _ _ w.if-n-gt1.true c.if-most-n.false (ne_eqb _ _ w.if-s-eq48.false)
+  | else-n-gt1-via-else-n-gt1 w ↦ numeral_one _ _ _ c.if-n-eq0.false w.if-n-gt1.false c.if-most-n.false
+  ],
 )
 
 pub returns-then-d-base : goal.returns-then-d-base

@@ -12,7 +12,8 @@ returns-in_err-used c = rw c.from_residual.ensures (products_unnamed _ _ _ _ _ _
 pub returns-in_err-products : goal.returns-in_err-products
 returns-in_err-products c =
     let args = c.args in
-    let no = read_at (λ t. products_from args.n args.m args.k t 0 args.a.now args.b.now false false) args.s.now c.in_ok-used.used _ c.in_err-products.ensures.0 in
+    let no = read_at (λ t. products_from args.n args.m args.k t 0 args.a.now args.b.now false false) args.s.now c.in_ok-used.used _
+        c.in_err-products.ensures.0 in
     rw c.from_residual-in_err-products.ensures (products_named _ _ _ _ _ _ _ c.in_ok-used.ensures.0 ∙ no, omega arith)
 
 pub returns : goal.returns

@@ -28,7 +28,15 @@ returns-then-e-ne0 c =
     c.refusal-e.result c.refusal-e.ensures c.if-e-ne0.true
 
 pub returns-then-too_short : goal.returns-then-too_short
-returns-then-too_short c = (let args = c.args in ap (λ (t : Bool). let n : ℕ = cond t 9 0 in n) (sym c.if-too_short.true ∙ c.too_short.ensures) ∙ goes args.wide args.zero (ltb most_products args.k) (ltb args.la args.k || (ltb args.lb args.k || ltb args.lr args.t)) (sym c.refusal-e.ensures ∙ omega (arith, c.if-e-ne0.false)))
+returns-then-too_short c =
+    let args = c.args in
+    ap (λ (t : Bool). let n : ℕ = cond t 9 0 in n) (sym c.if-too_short.true ∙ c.too_short.ensures)
+    ∙ goes args.wide args.zero (ltb most_products args.k) (ltb args.la args.k || (ltb args.lb args.k || ltb args.lr args.t))
+    (sym c.refusal-e.ensures ∙ omega (arith, c.if-e-ne0.false))
 
 pub returns-else-too_short : goal.returns-else-too_short
-returns-else-too_short c = (let args = c.args in ap (λ (t : Bool). let n : ℕ = cond t 9 0 in n) (sym c.if-too_short.false ∙ c.too_short.ensures) ∙ goes args.wide args.zero (ltb most_products args.k) (ltb args.la args.k || (ltb args.lb args.k || ltb args.lr args.t)) (sym c.refusal-e.ensures ∙ omega (arith, c.if-e-ne0.false)))
+returns-else-too_short c =
+    let args = c.args in
+    ap (λ (t : Bool). let n : ℕ = cond t 9 0 in n) (sym c.if-too_short.false ∙ c.too_short.ensures)
+    ∙ goes args.wide args.zero (ltb most_products args.k) (ltb args.la args.k || (ltb args.lb args.k || ltb args.lr args.t))
+    (sym c.refusal-e.ensures ∙ omega (arith, c.if-e-ne0.false))

@@ -11,7 +11,9 @@ pub returns-in_err-p : goal.returns-in_err-p
 returns-in_err-p c = c.from_residual.ensures ∙ sym (fields_1 _ c.in_err-p.ensures.0)
 
 pub returns-in_err-q : goal.returns-in_err-q
-returns-in_err-q c = c.from_residual-in_err-q.ensures ∙ sym (fields_2 _ _ _ c.in_ok-p.ensures.0 (read_at count_field c.args.s.now c.in_ok-p.used _ c.in_err-q.ensures.0))
+returns-in_err-q c =
+    c.from_residual-in_err-q.ensures
+    ∙ sym (fields_2 _ _ _ c.in_ok-p.ensures.0 (read_at count_field c.args.s.now c.in_ok-p.used _ c.in_err-q.ensures.0))
 
 pub returns-in_err-r : goal.returns-in_err-r
 returns-in_err-r c =
