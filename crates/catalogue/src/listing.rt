@@ -20,7 +20,7 @@ pub fn list_entries(gens: &[u64], b: Basis, k: usize, limit: u64, out: &mut [u64
     let ell = b.len;
     if k < ell {
         return Listing {
-            ell: ell,
+            ell,
             found: 0,
             shown: 0,
         };
@@ -35,7 +35,7 @@ pub fn list_entries(gens: &[u64], b: Basis, k: usize, limit: u64, out: &mut [u64
         out,
     );
     Listing {
-        ell: ell,
+        ell,
         found: counts.found,
         shown: counts.shown,
     }

@@ -44,11 +44,7 @@ pub fn note(
         Aim::Records(limit) => records::keep(b, c, t, limit, out),
         Aim::Cheapest => {
             cheapest::keep(gens, h, order, prices, t.found == 0, out);
-            Tally {
-                found: 1,
-                shown: t.shown,
-                at: t.at,
-            }
+            Tally { found: 1, ..t }
         }
     }
 }
