@@ -26,6 +26,7 @@ pub fn write_formulae(rt: &(impl Print + Eprint), input: &[u8]) {
     let mut page = printing::pages::part_page();
     let started = formulae_program::first_part::start(input, &mut gs, &mut ts, &mut listing);
     let mut i = 0;
+    // By hand: over `take_while` the proof does not close (the check can't state the loop's invariant there).
     while formulae_program::parts::is_part(started, i) {
         let said = formulae_program::parts::part_page(started, i, &gs, &ts, &listing, &mut page);
         if !write_printed(rt, said, &page) {
